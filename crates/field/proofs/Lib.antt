@@ -1,0 +1,3 @@
+pub mod Verdicts
+pub mod Ranges
+pub mod Same

@@ -1,0 +1,16 @@
+-- Numbers in a list of bytes, least byte first. Past the end of the list a byte counts as 0.
+use Prim.Native.Nat.{ℕ, _+_, _*_}
+use mathlib.Core.List.{List}
+use lib.ListN.{getD}
+
+-- the byte at a place
+abbrev pub byteAt : List ℕ → ℕ → ℕ
+byteAt b at = getD b at 0
+
+-- the number of two bytes at a place
+unfoldable pub readU16 : List ℕ → ℕ → ℕ
+readU16 b at = byteAt b at + 256 * byteAt b (at + 1)
+
+-- the number of four bytes at a place
+unfoldable pub readU32 : List ℕ → ℕ → ℕ
+readU32 b at = readU16 b at + 65536 * readU16 b (at + 2)
