@@ -1,0 +1,35 @@
+-- Laws of n. Assumes nothing.
+use mathlib.Core.Path.{_≡_, refl}
+use mathlib.Core.List.{List}
+use mathlib.Core.Bool.{Bool, true, false}
+use Prim.Native.Nat.{ℕ, zero, suc, _<_, _≤_}
+use native.Mathlib.Omega.{arith}
+use borrow.Author.Tests.{ne-eqb}
+use lib.Dec.{eqb}
+use Rattle.field.specs.Verdicts.{pick}
+use Rattle.book.specs.Layout.{fieldOf, countOffset}
+use Rattle.book.specs.Cells.{holds, cellsFrom, sumOf, cellsOfGroup, cells}
+
+pub holds-some : (b : List ℕ) (i : ℕ) → 0 < i → holds b i ≡ pick (eqb (fieldOf b i countOffset) 0) 0 1
+unfolding holds
+holds-some b i h = rw (ne-eqb i 0 (λ z. absurd (omega arith)))
+
+pick-one : (t u : Bool) → pick t 0 (pick u 0 1) ≤ 1
+pick-one true u = omega arith
+pick-one false true = omega arith
+pick-one false false = omega arith
+
+pub holds-one : (b : List ℕ) (i : ℕ) → holds b i ≤ 1
+unfolding holds
+holds-one b i = pick-one (eqb i 0) (eqb (fieldOf b i countOffset) 0)
+
+-- past the end of a chain nothing is counted
+pub cells-none : (b : List ℕ) (m : ℕ) → cellsFrom b 0 m ≡ 0
+unfolding cellsFrom holds
+cells-none b zero = refl
+cells-none b (suc m) = rw (cells-none b m)
+
+-- the five groups' n together are n over all groups
+pub groups-cells : (b : List ℕ) (last : ℕ) → sumOf (cellsOfGroup b last) 1 5 ≡ cells b last
+unfolding sumOf cellsOfGroup cells
+groups-cells b last = omega arith

@@ -1,0 +1,32 @@
+-- Laws of the whole check and of the header's. Assumes nothing.
+use mathlib.Core.Path.{_≡_}
+use mathlib.Core.List.{List}
+use Prim.Native.Nat.{ℕ, _<_, _≤_}
+use borrow.Author.Tests.{leb-true, eqb-true, le-leb, lt-leb}
+use lib.ListN.{length}
+use Rattle.field.specs.Verdicts.{_andThen_, need}
+use Rattle.field.specs.declared.Verdict.the-variants.{Accepted, Refused}
+use Rattle.field.proofs.Verdicts.{need-true, then-left, then-right}
+use Rattle.book.specs.Layout.{headerSize, lastClass}
+use Rattle.book.specs.Check.{checkHeader, checkTables, checkChains, checkBook}
+use Rattle.book.specs.Reading.{Sized}
+
+module _ (basis : ℕ) (b : List ℕ) where
+  pub book-short : length b < headerSize → checkBook basis b ≡ Refused 1 (length b)
+  unfolding checkBook need _andThen_
+  book-short h = rw (lt-leb _ _ h)
+
+  pub book-bad : headerSize ≤ length b → (q p : ℕ) → (checkHeader basis b andThen checkTables b) ≡ Refused q p → checkBook basis b ≡ Refused q p
+  unfolding checkBook need _andThen_
+  book-bad h q p e = rw (le-leb _ _ h, e)
+
+  pub book-good : headerSize ≤ length b → (m : ℕ) → (checkHeader basis b andThen checkTables b) ≡ Accepted m → checkBook basis b ≡ checkChains b (lastClass basis)
+  unfolding checkBook need _andThen_
+  book-good h m e = rw (le-leb _ _ h, e)
+
+  pub header-sized : (m : ℕ) → checkHeader basis b ≡ Accepted m → Sized b
+  unfolding checkHeader
+  header-sized m e = record {
+    size = eqb-true _ _ (need-true _ _ _ _ (then-right _ _ _ e));
+    few = leb-true _ _ (need-true _ _ _ _ (then-right _ _ _ (then-left _ _ _ (then-left _ _ _ e))));
+  }

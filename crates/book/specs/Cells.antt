@@ -1,0 +1,39 @@
+-- n: how many linked records hold contracts, that is, have a count that is not 0.
+use Prim.Native.Nat.{ℕ, zero, suc, _+_, _*_}
+use mathlib.Core.List.{List}
+use lib.Dec.{eqb}
+use Rattle.field.specs.Verdicts.{pick}
+use Rattle.book.specs.Layout.{chains, headOf, fieldOf, countOffset, after}
+
+-- 1 where record i holds contracts; 0 where its count is 0, and for no record
+unfoldable pub holds : List ℕ → ℕ → ℕ
+holds b i = pick (eqb i 0) 0 (pick (eqb (fieldOf b i countOffset) 0) 0 1)
+
+-- of the first m records along the chain from record i
+unfoldable pub cellsFrom : List ℕ → ℕ → ℕ → ℕ
+cellsFrom b i zero = 0
+cellsFrom b i (suc m) = holds b i + cellsFrom b (after b i) m
+
+-- n of chain k, which has at most one record for each class from 0 to last
+unfoldable pub cellsIn : List ℕ → ℕ → ℕ → ℕ
+cellsIn b last k = cellsFrom b (headOf b k) (last + 1)
+
+-- what f gives for k, k + 1 and so on, left of them, added
+unfoldable pub sumOf : (ℕ → ℕ) → ℕ → ℕ → ℕ
+sumOf f k zero = 0
+sumOf f k (suc left) = f k + sumOf f (k + 1) left
+
+-- Product group g, 1 to 5: PG1 has the chains of codes 1, 2 and 3, each later group those of one code.
+abbrev pub firstChain : ℕ → ℕ
+firstChain g = pick (eqb g 1) 0 (2 * g + 2)
+
+abbrev pub chainsOf : ℕ → ℕ
+chainsOf g = pick (eqb g 1) 6 2
+
+-- n of product group g
+unfoldable pub cellsOfGroup : List ℕ → ℕ → ℕ → ℕ
+cellsOfGroup b last g = sumOf (cellsIn b last) (firstChain g) (chainsOf g)
+
+-- n over all groups
+unfoldable pub cells : List ℕ → ℕ → ℕ
+cells b last = sumOf (cellsIn b last) 0 chains

@@ -1,0 +1,5 @@
+pub mod Layout
+pub mod Check
+pub mod Cells
+pub mod Rules
+pub mod Reading

@@ -1,0 +1,105 @@
+// Where everything stands in a book, and readers of its records. The readers ask that the record lies in the bytes:
+// they are for the crates above, which have shown it.
+ghost use mathlib.Core.Path.{_≡_};
+ghost use Prim.Native.Nat.{_*_, _≤_, _<_};
+ghost use lib.ListN.{length};
+ghost use Rattle.book.specs.Layout.{headerSize, lastClass, records, headOf, recordAt, classOf, nextOf, fieldOf};
+ghost use Rattle.book.specs.Cells.{holds};
+ghost use Rattle.book.specs.Reading.{Inside};
+
+pub const HEADER_SIZE: usize = 1220;
+
+pub const RECORD_SIZE: usize = 24;
+
+pub const MOST_RECORDS: usize = 1694;
+
+pub const CHAINS: usize = 14;
+
+pub const COST_PLACE: usize = 36;
+
+pub const CURVE_PLACE: usize = 56;
+
+pub const MORTALITY_PLACE: usize = 252;
+
+pub const MOST_RATE: u64 = 1_000_000;
+
+pub const CURVE_LIFT: u64 = 10_000;
+
+pub const CURVE_SPAN: u64 = 210_000;
+
+pub const MOST_COUNT: u64 = 100_000;
+
+pub const MOST_AMOUNT: u64 = 10_000_000;
+
+pub const COUNT_OFFSET: usize = 8;
+
+pub const LAPSE_OFFSET: usize = 12;
+
+pub const PREMIUM_OFFSET: usize = 16;
+
+pub const CLAIMS_OFFSET: usize = 20;
+
+// The last class of an age basis.
+pub fn last_class(basis: usize) -> usize
+    requires { ⌜ basis ≤ 2 ⌝ }
+    ensures { λ r. ⌜ r ≡ lastClass basis ⌝ }
+{
+    119 + basis
+}
+
+// N, the number of records.
+pub fn records(b: &[u8]) -> usize
+    requires { ⌜ headerSize ≤ length (now b) ⌝ }
+    ensures { λ r. ⌜ (r ≡ records (now (b .entry))) × (r < 65536) ⌝ }
+{
+    field::read_u16(b, 4)
+}
+
+// The first record of chain k, 0 where it is empty.
+pub fn head_of(b: &[u8], k: usize) -> usize
+    requires { ⌜ (k < 14) × (headerSize ≤ length (now b)) ⌝ }
+    ensures { λ r. ⌜ (r ≡ headOf (now (b .entry)) k) × (r < 65536) ⌝ }
+{
+    field::read_u16(b, 8 + 2 * k)
+}
+
+// Where record i starts.
+pub fn record_at(i: usize) -> usize
+    requires { ⌜ (0 < i) × (24 * i < 9223372036854775808) ⌝ }
+    ensures { λ r. ⌜ r ≡ recordAt i ⌝ }
+{
+    HEADER_SIZE + RECORD_SIZE * (i - 1)
+}
+
+// The class of record i.
+pub fn class_of(b: &[u8], i: usize) -> usize
+    requires { ⌜ Inside (now b) i ⌝ }
+    ensures { λ r. ⌜ (r ≡ classOf (now (b .entry)) i) × (r < 256) ⌝ }
+{
+    field::read_u8(b, record_at(i) + 2)
+}
+
+// The record that follows record i in its chain, 0 where the chain ends.
+pub fn next_of(b: &[u8], i: usize) -> usize
+    requires { ⌜ Inside (now b) i ⌝ }
+    ensures { λ r. ⌜ (r ≡ nextOf (now (b .entry)) i) × (r < 65536) ⌝ }
+{
+    field::read_u16(b, record_at(i) + 4)
+}
+
+// Record i's four-byte field at an offset.
+pub fn field_of(b: &[u8], i: usize, offset: usize) -> u64
+    requires { ⌜ Inside (now b) i × (offset ≤ 20) ⌝ }
+    ensures { λ r. ⌜ (r ≡ fieldOf (now (b .entry)) i offset) × (r < 4294967296) ⌝ }
+{
+    field::read_u32(b, record_at(i) + offset)
+}
+
+// 1 where record i holds contracts, else 0.
+pub fn holds(b: &[u8], i: usize) -> u64
+    requires { ⌜ Inside (now b) i ⌝ }
+    ensures { λ r. ⌜ (r ≡ holds (now (b .entry)) i) × (r ≤ 1) ⌝ }
+{
+    let count = field_of(b, i, COUNT_OFFSET);
+    if count == 0 { 0 } else { 1 }
+}
