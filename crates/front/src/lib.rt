@@ -1,0 +1,53 @@
+// What stands before a book's records: refusals 2 to 8, of the header and of the tables.
+// The functions ask for the bytes that they read: they are for the check, which has shown that they are there.
+ghost use mathlib.Core.Path.{_≡_};
+ghost use Prim.Native.Nat.{_≤_};
+ghost use lib.ListN.{length};
+ghost use Rattle.book.specs.Layout.{headerSize};
+ghost use Rattle.book.specs.Check.{checkSpare, checkHeader, checkTables};
+use book::COST_PLACE;
+use book::CURVE_LIFT;
+use book::CURVE_PLACE;
+use book::CURVE_SPAN;
+use book::HEADER_SIZE;
+use book::MORTALITY_PLACE;
+use book::MOST_RATE;
+use book::MOST_RECORDS;
+use book::RECORD_SIZE;
+use field::Verdict;
+
+// Refusal 4, of bytes 6 and 7.
+fn check_spare(b: &[u8]) -> Verdict
+    requires { ⌜ headerSize ≤ length (now b) ⌝ }
+    ensures { λ r. ⌜ r ≡ checkSpare (now (b .entry)) ⌝ }
+{
+    field::need(field::read_u16(b, 6) == 0, 4, 6)
+}
+
+// Refusals 2 to 5.
+pub fn check_header(b: &[u8], basis: usize) -> Verdict
+    requires { ⌜ headerSize ≤ length (now b) ⌝ }
+    ensures { λ r. ⌜ r ≡ checkHeader basis (now (b .entry)) ⌝ }
+{
+    let edition = field::read_u8(b, 0);
+    let age_basis = field::read_u8(b, 1);
+    let year = field::read_u16(b, 2);
+    let count = book::records(b);
+    field::need(edition == 1, 2, 0)
+        .require(age_basis == basis, 3, 1)
+        .require(field::within(2017, 2100, year), 4, 2)
+        .require(count <= MOST_RECORDS, 4, 4)
+        .and_then(check_spare(b))
+        .require(b.len() == HEADER_SIZE + RECORD_SIZE * count, 5, b.len())
+}
+
+// Refusals 6 to 8.
+pub fn check_tables(b: &[u8]) -> Verdict
+    requires { ⌜ headerSize ≤ length (now b) ⌝ }
+    ensures { λ r. ⌜ r ≡ checkTables (now (b .entry)) ⌝ }
+{
+    let cost = field::check_fields(b, 6, 0, MOST_RATE, COST_PLACE, 5);
+    let curve = field::check_fields(b, 7, CURVE_LIFT, CURVE_SPAN, CURVE_PLACE, 49);
+    let mortality = field::check_fields(b, 8, 0, MOST_RATE, MORTALITY_PLACE, 242);
+    cost.and_then(curve).and_then(mortality)
+}

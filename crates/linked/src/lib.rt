@@ -1,0 +1,75 @@
+// One linked record: refusals 10 to 13, then 9 for its next.
+// The functions ask for the record's bytes: they are for the check, which has shown that they are there.
+ghost use mathlib.Core.Path.{_≡_};
+ghost use Prim.Native.Nat.{_+_, _≤_, _<_};
+ghost use lib.ListN.{length};
+ghost use Rattle.book.specs.Check.{checkOwner, checkClass, checkAmounts, endsRight, checkLink};
+ghost use Rattle.book.specs.Reading.{Inside};
+use book::CLAIMS_OFFSET;
+use book::COUNT_OFFSET;
+use book::LAPSE_OFFSET;
+use book::MOST_AMOUNT;
+use book::MOST_COUNT;
+use book::MOST_RATE;
+use book::PREMIUM_OFFSET;
+use field::Verdict;
+
+// Refusal 10 of the record that starts at a place, in chain k.
+fn check_owner(b: &[u8], k: usize, at: usize) -> Verdict
+    requires { ⌜ (k < 14) × (at + 24 ≤ length (now b)) ⌝ }
+    ensures { λ r. ⌜ r ≡ checkOwner (now (b .entry)) k at ⌝ }
+{
+    let code = field::read_u8(b, at);
+    let sex = field::read_u8(b, at + 1);
+    let spare = field::read_u8(b, at + 3);
+    let spare_two = field::read_u16(b, at + 6);
+    field::need(code == k / 2 + 1, 10, at)
+        .require(sex == k % 2, 10, at)
+        .require(spare == 0, 10, at)
+        .require(spare_two == 0, 10, at)
+}
+
+// Refusal 11.
+fn check_class(b: &[u8], class: usize, at: usize) -> Verdict
+    requires { ⌜ at + 24 ≤ length (now b) ⌝ }
+    ensures { λ r. ⌜ r ≡ checkClass (now (b .entry)) class at ⌝ }
+{
+    field::need(field::read_u8(b, at + 2) == class, 11, at + 2)
+}
+
+// Refusal 12.
+fn check_amounts(b: &[u8], at: usize) -> Verdict
+    requires { ⌜ at + 24 ≤ length (now b) ⌝ }
+    ensures { λ r. ⌜ r ≡ checkAmounts (now (b .entry)) at ⌝ }
+{
+    let count = field::check_field(b, 12, 0, MOST_COUNT, at + COUNT_OFFSET);
+    let lapse = field::check_field(b, 12, 0, MOST_RATE, at + LAPSE_OFFSET);
+    let premium = field::check_field(b, 12, 0, MOST_AMOUNT, at + PREMIUM_OFFSET);
+    let claims = field::check_field(b, 12, 0, MOST_AMOUNT, at + CLAIMS_OFFSET);
+    count.and_then(lapse).and_then(premium).and_then(claims)
+}
+
+// A chain ends where no class is left, and nowhere else.
+fn ends_right(left: usize, next: usize) -> bool
+    ensures { λ r. ⌜ r ≡ endsRight left next ⌝ }
+{
+    if left == 0 { next == 0 } else { next != 0 }
+}
+
+// Refusals 10 to 13 of record i in chain k, with left classes above its own, then 9 of its next.
+pub fn check_link(b: &[u8], last: usize, k: usize, left: usize, i: usize) -> Verdict
+    requires { ⌜ (k < 14) × (left ≤ last) × Inside (now b) i ⌝ }
+    ensures { λ r. ⌜ r ≡ checkLink (now (b .entry)) last k left i ⌝ }
+{
+    let count = book::records(b);
+    let next = book::next_of(b, i);
+    let at = book::record_at(i);
+    let owner = check_owner(b, k, at);
+    let class = check_class(b, last - left, at);
+    let amounts = check_amounts(b, at);
+    owner
+        .and_then(class)
+        .and_then(amounts)
+        .require(ends_right(left, next), 13, at + 4)
+        .require(next <= count, 9, at + 4)
+}
