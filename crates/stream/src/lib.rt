@@ -1,0 +1,36 @@
+// What the test programs read from standard input: numbers, least byte first, and bytes.
+ghost use Rattle.io.specs.Counts.{Counts};
+use libc::STDIN_FILENO;
+
+// The next number, or none where the input has ended.
+pub enum Next {
+    Number(u64),
+    Ended,
+}
+
+pub fn next_u32() -> Next {
+    let mut bytes = [0u8; 4];
+    if io::read_full(STDIN_FILENO, &mut bytes) < 4 {
+        return Next::Ended;
+    }
+    Next::Number(field::read_u32(&bytes, 0))
+}
+
+pub fn next_u64() -> Next {
+    let mut bytes = [0u8; 8];
+    if io::read_full(STDIN_FILENO, &mut bytes) < 8 {
+        return Next::Ended;
+    }
+    Next::Number(field::read_u32(&bytes, 0) + 4_294_967_296 * field::read_u32(&bytes, 4))
+}
+
+// Reads so many bytes to the start of a buffer, and answers how many came: none where the buffer is too short.
+pub fn next_bytes(buffer: &mut [u8], size: u64) -> usize
+    ensures { λ r. ⌜ Counts r (now (buffer .exit)) ⌝ }
+{
+    if (buffer.len() as u64) < size {
+        return 0;
+    }
+    let end = size as usize;
+    io::read_full(STDIN_FILENO, &mut buffer[..end])
+}

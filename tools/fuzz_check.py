@@ -1,0 +1,85 @@
+"""Random books, the built program's verdicts on them held against the independent check."""
+
+import argparse
+import random
+import sys
+from collections import Counter
+from itertools import zip_longest
+
+from book import random_book
+from check import check
+from damage import damaged
+from program import ProgramFailed, run_program
+from stream import ROOT, Report, verdict_line
+
+DEFAULT_BOOKS = 1_000
+DEFAULT_SEED = 41_876
+# Below so many books a verdict may be missed by chance.
+BOOKS_FOR_COVERAGE = 1_000
+LEAST_TIMES = 3
+
+
+def one_book(chooser):
+    """A random book, mostly small and mostly damaged."""
+    least_class = chooser.choices((0, 100, 112, 117), weights=(1, 3, 6, 10))[0]
+    most_chains, most_junk = chooser.choice((1, 3, 6, 14)), chooser.choice((0, 2, 9))
+    book = random_book(chooser, least_class, most_chains, most_junk)
+    return book if chooser.random() < 0.15 else damaged(book, chooser)
+
+
+def keep_book(book, seed, number):
+    """Keep a book on which the two verdicts differ; its path."""
+    path = ROOT / "target" / f"differing-book-{seed}-{number}"
+    path.parent.mkdir(exist_ok=True)
+    path.write_bytes(book)
+    return path.relative_to(ROOT)
+
+
+def test_books(report, books, seed):
+    """Compare every line; the verdicts that the check gives, counted."""
+    due = [check(book) for book in books]
+    lines, code = run_program(books)
+    pairs = zip_longest(map(verdict_line, due), lines)
+    differing = [(number, verdict, line)
+                 for number, (verdict, line) in enumerate(pairs) if verdict != line]
+    for number, verdict, line in differing[:5]:
+        path = keep_book(books[number], seed, number) if number < len(books) else "no book"
+        print(f"difference: {path}: the program says {line!r}, the check {verdict!r}")
+    report.test(f"the verdicts on {len(books)} books agree", not differing,
+                f"{len(differing)} differ")
+    report.test("the program ends with code 0", code == 0, f"it ended with {code}")
+    return Counter(verdict[1] if verdict[0] == "refused" else 0 for verdict in due)
+
+
+def test_coverage(report, times):
+    """Every verdict often enough."""
+    for number in range(14):
+        words = f"refusal {number}" if number else "accepted"
+        report.test(f"{words} seen {times[number]} times", times[number] >= LEAST_TIMES,
+                    f"at least {LEAST_TIMES} are due")
+
+
+def main():
+    """Run and report."""
+    parser = argparse.ArgumentParser(description=__doc__)
+    parser.add_argument("--books", type=int, default=DEFAULT_BOOKS)
+    parser.add_argument("--seed", type=int, default=DEFAULT_SEED)
+    wanted = parser.parse_args()
+    print(f"seed {wanted.seed}")
+    chooser = random.Random(wanted.seed)
+    books = [one_book(chooser) for _ in range(wanted.books)]
+    report = Report()
+    try:
+        times = test_books(report, books, wanted.seed)
+    except ProgramFailed as trouble:
+        report.test("the program gives its verdicts", False, trouble)
+        return report.finish()
+    if wanted.books >= BOOKS_FOR_COVERAGE:
+        test_coverage(report, times)
+    else:
+        print("seen:", ", ".join(f"{number or 'accepted'} {times[number]}" for number in range(14)))
+    return report.finish()
+
+
+if __name__ == "__main__":
+    sys.exit(main())

@@ -1,0 +1,51 @@
+"""The sample books of samples/: written, or tested to be as built and to have the verdict that is told of them."""
+
+import sys
+
+from book import one_record_book
+from layout import changed, record
+from program import run_program
+from stream import ROOT, Report
+
+FOLDER = ROOT / "samples"
+
+
+def refused_book():
+    """The one-record book with a lapse one millionth too large."""
+    return changed(one_record_book(), (record(1).amounts[1], 1_000_001))
+
+
+# Each sample's file, its bytes and the verdict that README or docs/BOOK tells of it.
+SAMPLES = [
+    ("one_record.book", one_record_book(), "accepted 1"),
+    ("lapse_too_large.book", refused_book(), "refused 12 1232"),
+]
+
+
+def write():
+    """Write every sample."""
+    FOLDER.mkdir(exist_ok=True)
+    for name, book, _ in SAMPLES:
+        (FOLDER / name).write_bytes(book)
+        print(f"samples/{name}: {len(book)} bytes")
+    return 0
+
+
+def test():
+    """The files are as built, nothing else lies beside them, and the built check says what is told."""
+    report = Report()
+    lines, _ = run_program([book for _, book, _ in SAMPLES])
+    for (name, book, verdict), line in zip(SAMPLES, lines + [""] * len(SAMPLES)):
+        path = FOLDER / name
+        report.test(f"samples/{name} is as built", path.is_file() and path.read_bytes() == book)
+        report.test(f"samples/{name} is {verdict}", line == verdict, line)
+    held = sorted(path.name for path in FOLDER.iterdir())
+    report.test("samples/ holds nothing else", held == sorted(name for name, _, _ in SAMPLES), held)
+    return report.finish()
+
+
+if __name__ == "__main__":
+    VERBS = {"write": write, "test": test}
+    if len(sys.argv) != 2 or sys.argv[1] not in VERBS:
+        sys.exit("usage: sample_books.py write | test")
+    sys.exit(VERBS[sys.argv[1]]())
