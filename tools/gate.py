@@ -1,0 +1,63 @@
+"""The gate: proves every crate from nothing, then runs the outside tests. Its last line is the tally of both."""
+
+import re
+import subprocess
+import sys
+import time
+
+from stream import ROOT
+
+TALLY = re.compile(r"^(\d+) passed, (\d+) failed$")
+PYTHON = [sys.executable]
+
+# What runs after the proofs, in this order: a name for the line, and the command.
+OUTSIDE = [
+    ("must-fail edits fail by a fact", PYTHON + ["tools/must_fail_reasons.py"]),
+    ("the second check, by hand-worked examples", PYTHON + ["tools/test_check.py"]),
+    ("the stream of verdicts", PYTHON + ["tools/verdict_stream.py", "test"]),
+    ("the stream of records", PYTHON + ["tools/record_stream.py", "test"]),
+    ("the sample books", PYTHON + ["tools/sample_books.py", "test"]),
+    ("random books against the second check", PYTHON + ["tools/fuzz_check.py"]),
+]
+
+
+def run(command):
+    """The exit code of a command and what it wrote, errors included."""
+    done = subprocess.run(command, cwd=ROOT, stdin=subprocess.DEVNULL, stdout=subprocess.PIPE,
+                          stderr=subprocess.STDOUT, check=False)
+    return done.returncode, done.stdout.decode("utf-8", "replace")
+
+
+def part(name, command):
+    """Run one part, print its line and what it wrote where it failed; how many tests passed and failed."""
+    began = time.monotonic()
+    try:
+        code, text = run(command)
+    except OSError as trouble:
+        code, text = 127, str(trouble)
+    lines = text.rstrip().splitlines()
+    tally = TALLY.match(lines[-1]) if lines else None
+    passed, failed = (int(tally[1]), int(tally[2])) if tally else (0, 0)
+    # A part that ends badly, or without a tally, or with no test, has failed whatever it counted.
+    if failed == 0 and (code != 0 or passed == 0):
+        failed = 1
+    if failed:
+        print(text.rstrip())
+    print(f"{'ok' if not failed else 'FAILED'} {name}: {passed} passed, {failed} failed"
+          f" ({time.monotonic() - began:.0f} s)", flush=True)
+    return passed, failed
+
+
+def main():
+    """All parts; the outside tests run on what was proved, so not where the proofs fail."""
+    passed, failed = part("proofs, must-fail edits and programs", ["rt", "ci"])
+    if not failed:
+        for name, command in OUTSIDE:
+            more, bad = part(name, command)
+            passed, failed = passed + more, failed + bad
+    print(f"{passed} passed, {failed} failed")
+    return 1 if failed else 0
+
+
+if __name__ == "__main__":
+    sys.exit(main())

@@ -1,0 +1,36 @@
+"""Whether each must-fail edit was refused because a fact fails, and not because the proof no longer fits the code."""
+
+import sys
+
+from stream import ROOT, Report
+
+# What the prover says where names or places of a proof file do not exist in the edited code.
+UNFIT = ("that can be named from here", "has no field", "is not in scope", "expected type `tie.Need-")
+
+
+def first_error(log):
+    """The first refusal in a log, without its place; empty where there is none."""
+    for line in log.splitlines():
+        if ": error" in line:
+            return line.split(": error", 1)[1]
+    return ""
+
+
+def main():
+    """Every edit was tried, and none was refused for its form alone."""
+    report = Report()
+    logs = sorted((ROOT / "target" / "must-fail").glob("*/*/.log"))
+    edits = sorted((ROOT / "crates").glob("*/must-fail/*.edit"))
+    tried = {(log.parent.parent.name, log.parent.name) for log in logs}
+    due = {(edit.parent.parent.name, edit.stem) for edit in edits}
+    report.test("every must-fail edit was tried", bool(due) and tried == due, sorted(tried ^ due))
+    for log in logs:
+        error = first_error(log.read_text(encoding="utf-8", errors="replace"))
+        if not error or any(words in error for words in UNFIT):
+            report.test(f"{log.parent.parent.name}/{log.parent.name} fails by a fact", False, error[:120])
+    report.test("each was refused because a fact fails", report.failed == 0)
+    return report.finish()
+
+
+if __name__ == "__main__":
+    sys.exit(main())
