@@ -1,11 +1,13 @@
 // Where everything stands in a book, and readers of its records. The readers ask that the record lies in the bytes:
 // they are for the crates above, which have shown it.
 ghost use mathlib.Core.Path.{_≡_};
-ghost use Prim.Native.Nat.{_*_, _≤_, _<_};
+ghost use Prim.Native.Nat.{_+_, _*_, _≤_, _<_};
 ghost use lib.ListN.{length};
 ghost use Rattle.book.specs.Layout.{headerSize, lastClass, records, headOf, recordAt, classOf, nextOf, fieldOf};
 ghost use Rattle.book.specs.Cells.{holds};
+ghost use Rattle.book.specs.Check.{checkAmounts};
 ghost use Rattle.book.specs.Reading.{Inside};
+use field::Verdict;
 
 pub const HEADER_SIZE: usize = 1220;
 
@@ -102,4 +104,16 @@ pub fn holds(b: &[u8], i: usize) -> u64
 {
     let count = field_of(b, i, COUNT_OFFSET);
     if count == 0 { 0 } else { 1 }
+}
+
+// Refusal 12 of the record that starts at a place.
+pub fn check_amounts(b: &[u8], at: usize) -> Verdict
+    requires { ⌜ at + 24 ≤ length (now b) ⌝ }
+    ensures { λ r. ⌜ r ≡ checkAmounts (now (b .entry)) at ⌝ }
+{
+    let count = field::check_field(b, 12, 0, MOST_COUNT, at + COUNT_OFFSET);
+    let lapse = field::check_field(b, 12, 0, MOST_RATE, at + LAPSE_OFFSET);
+    let premium = field::check_field(b, 12, 0, MOST_AMOUNT, at + PREMIUM_OFFSET);
+    let claims = field::check_field(b, 12, 0, MOST_AMOUNT, at + CLAIMS_OFFSET);
+    count.and_then(lapse).and_then(premium).and_then(claims)
 }

@@ -3,15 +3,8 @@
 ghost use mathlib.Core.Path.{_≡_};
 ghost use Prim.Native.Nat.{_+_, _≤_, _<_};
 ghost use lib.ListN.{length};
-ghost use Rattle.book.specs.Check.{checkOwner, checkClass, checkAmounts, endsRight, checkLink};
+ghost use Rattle.book.specs.Check.{checkOwner, checkClass, endsRight, checkLink};
 ghost use Rattle.book.specs.Reading.{Inside};
-use book::CLAIMS_OFFSET;
-use book::COUNT_OFFSET;
-use book::LAPSE_OFFSET;
-use book::MOST_AMOUNT;
-use book::MOST_COUNT;
-use book::MOST_RATE;
-use book::PREMIUM_OFFSET;
 use field::Verdict;
 
 // Refusal 10 of the record that starts at a place, in chain k.
@@ -37,18 +30,6 @@ fn check_class(b: &[u8], class: usize, at: usize) -> Verdict
     field::need(field::read_u8(b, at + 2) == class, 11, at + 2)
 }
 
-// Refusal 12.
-fn check_amounts(b: &[u8], at: usize) -> Verdict
-    requires { ⌜ at + 24 ≤ length (now b) ⌝ }
-    ensures { λ r. ⌜ r ≡ checkAmounts (now (b .entry)) at ⌝ }
-{
-    let count = field::check_field(b, 12, 0, MOST_COUNT, at + COUNT_OFFSET);
-    let lapse = field::check_field(b, 12, 0, MOST_RATE, at + LAPSE_OFFSET);
-    let premium = field::check_field(b, 12, 0, MOST_AMOUNT, at + PREMIUM_OFFSET);
-    let claims = field::check_field(b, 12, 0, MOST_AMOUNT, at + CLAIMS_OFFSET);
-    count.and_then(lapse).and_then(premium).and_then(claims)
-}
-
 // A chain ends where no class is left, and nowhere else.
 fn ends_right(left: usize, next: usize) -> bool
     ensures { λ r. ⌜ r ≡ endsRight left next ⌝ }
@@ -66,7 +47,7 @@ pub fn check_link(b: &[u8], last: usize, k: usize, left: usize, i: usize) -> Ver
     let at = book::record_at(i);
     let owner = check_owner(b, k, at);
     let class = check_class(b, last - left, at);
-    let amounts = check_amounts(b, at);
+    let amounts = book::check_amounts(b, at);
     owner
         .and_then(class)
         .and_then(amounts)

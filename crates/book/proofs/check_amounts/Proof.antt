@@ -1,8 +1,8 @@
--- `linked::check_amounts` meets its contract: the tests joined are those of `checkAmounts`, each at the number that was read. Assumes nothing.
+-- `book::check_amounts` meets its contract: the tests joined are those of `checkAmounts`, each at the number that was read. Assumes nothing.
 use Rattle.book.specs.Check.{checkAmounts}
 use borrow.Author.Needs.{needs}
-use Rattle.linked.proofs.check_amounts.Statement.{statement}
-use Rattle.linked.proofs.check_amounts.Tie as tie
+use Rattle.book.proofs.check_amounts.Statement.{statement}
+use Rattle.book.proofs.check_amounts.Tie as tie
 
 returns : tie.Need-returns
 unfolding checkAmounts
