@@ -4,5 +4,6 @@ pub mod Chains
 pub mod Whole
 pub mod Valid
 pub mod Exact
+pub mod Same
 pub mod Unlinked
 pub mod Trials

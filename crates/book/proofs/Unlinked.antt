@@ -11,16 +11,13 @@ use Rattle.field.specs.Verdicts.{pick, _andThen_, need, plus, refusalOf, placeO
 use Rattle.field.specs.declared.Verdict.{Verdict}
 use Rattle.field.specs.declared.Verdict.the-variants.{Accepted, Refused}
 use Rattle.field.proofs.Verdicts.{all-same}
-use Rattle.field.proofs.Same.{Same, u16-same, u32-same, field-same, fields-same}
-use Rattle.book.specs.Layout.{headerSize, recordSize, lastClass, chains, records, headPlace, headOf, costPlace, curvePlace, mortalityPlace, mostRate, curveLift, curveSpan, recordAt, classOf, nextOf, fieldOf, linkFrom, linkAt}
+use Rattle.field.proofs.Same.{u16-same, field-same, fields-same}
+use Rattle.book.specs.Layout.{lastClass, chains, records, headPlace, headOf, costPlace, curvePlace, mortalityPlace, mostRate, curveLift, curveSpan, recordAt, classOf, nextOf, linkFrom, linkAt}
 use Rattle.book.specs.Check.{checkSpare, checkHeader, checkTables, checkOwner, checkClass, checkAmounts, endsRight, checkLink, checkFrom, checkChain, checkChains, checkBook}
 use Rattle.book.specs.Cells.{holds}
 use Rattle.book.specs.Rules.{SameButUnlinked}
 use Rattle.book.proofs.Links.{link-next}
-
--- record i has the same bytes in both
-abbrev SameRecord : List ℕ → List ℕ → ℕ → Type 0
-SameRecord b b′ i = Same b b′ (recordAt i) (recordAt i + recordSize)
+use Rattle.book.proofs.Same.{SameRecord, class-same, next-same, field-of-same, front-same, count-same, head-same, record-same}
 
 -- a verdict that refuses, and what comes after it
 abbrev Refuses : Verdict → Type 0
@@ -43,17 +40,9 @@ hidden (Refused q p) w w′ e = refl
 
 module _ (b b′ : List ℕ) (last k : ℕ) (count : records b ≡ records b′) where
   module _ (i : ℕ) (same : SameRecord b b′ i) where
-    next-same : nextOf b i ≡ nextOf b′ i
-    unfolding nextOf
-    next-same = u16-same b b′ _ _ same (recordAt i + 4) (omega arith) (omega arith)
-
-    class-same : classOf b i ≡ classOf b′ i
-    unfolding classOf
-    class-same = same (recordAt i + 2) (omega arith) (omega arith)
-
     holds-same : holds b i ≡ holds b′ i
-    unfolding holds fieldOf
-    holds-same = rw (u32-same b b′ _ _ same (recordAt i + 8) (omega arith) (omega arith))
+    unfolding holds
+    holds-same = rw (field-of-same b b′ i same 8 (omega arith))
 
     owner-same : checkOwner b k (recordAt i) ≡ checkOwner b′ k (recordAt i)
     unfolding checkOwner
@@ -77,7 +66,7 @@ module _ (b b′ : List ℕ) (last k : ℕ) (count : records b ≡ records b′)
 
     link-same : (left : ℕ) → checkLink b last k left i ≡ checkLink b′ last k left i
     unfolding checkLink checkClass
-    link-same left = rw (owner-same, same (recordAt i + 2) (omega arith) (omega arith), amounts-same, next-same, count)
+    link-same left = rw (owner-same, same (recordAt i + 2) (omega arith) (omega arith), amounts-same, next-same b b′ i same, count)
 
   -- a record that ends its chain too early is refused
   link-early : (left i : ℕ) → nextOf b i ≡ 0 → Refuses (checkLink b last k (suc left) i)
@@ -94,7 +83,7 @@ module _ (b b′ : List ℕ) (last k : ℕ) (count : records b ≡ records b′)
       hidden (checkLink b last k (suc left) i) _ (plus (holds b′ i) (checkFrom b′ last k left (nextOf b′ i))) (link-early left i (eqb-true _ _ e))
       ∙ rw (link-same i here (suc left))
   step-same left i false e here rest =
-      rw (link-same i here (suc left), holds-same i here, rest (pos-of-ne-zero (eqb-false _ _ e)), next-same i here)
+      rw (link-same i here (suc left), holds-same i here, rest (pos-of-ne-zero (eqb-false _ _ e)), next-same b b′ i here)
 
   from-same : (left i : ℕ) → 0 < i → ((j : ℕ) → 0 < linkFrom b i j → SameRecord b b′ (linkFrom b i j)) → checkFrom b last k left i ≡ checkFrom b′ last k left i
   unfolding checkFrom linkFrom
@@ -114,25 +103,18 @@ module _ (b b′ : List ℕ) (last k : ℕ) (count : records b ≡ records b′)
       by-head true e = refl
       by-head false e =
           let some : 0 < headOf b k = pos-of-ne-zero (eqb-false _ _ e) in
-          rw (count, class-same (headOf b k) (same 0 some), from-same (last - classOf b′ (headOf b k)) (headOf b k) some same)
+          rw (count, class-same b b′ (headOf b k) (same 0 some), from-same (last - classOf b′ (headOf b k)) (headOf b k) some same)
 
 module _ (b b′ : List ℕ) (s : SameButUnlinked b b′) where
-  front : Same b b′ 0 headerSize
-  front p lo hi = s .front p hi
-
-  count-same : records b ≡ records b′
-  unfolding records
-  count-same = u16-same b b′ _ _ front 4 (omega arith) (omega arith)
-
   header-same : (basis : ℕ) → checkHeader basis b ≡ checkHeader basis b′
   unfolding checkHeader checkSpare
   header-same basis =
       rw (
-        front 0 (omega arith) (omega arith),
-        front 1 (omega arith) (omega arith),
-        u16-same b b′ _ _ front 2 (omega arith) (omega arith),
-        u16-same b b′ _ _ front 6 (omega arith) (omega arith),
-        count-same,
+        front-same b b′ s 0 (omega arith) (omega arith),
+        front-same b b′ s 1 (omega arith) (omega arith),
+        u16-same b b′ _ _ (front-same b b′ s) 2 (omega arith) (omega arith),
+        u16-same b b′ _ _ (front-same b b′ s) 6 (omega arith) (omega arith),
+        count-same b b′ s,
         s .size,
       )
 
@@ -140,20 +122,10 @@ module _ (b b′ : List ℕ) (s : SameButUnlinked b b′) where
   unfolding checkTables
   tables-same =
       rw (
-        fields-same b b′ _ _ front 6 0 mostRate costPlace 5 (omega arith) (omega arith),
-        fields-same b b′ _ _ front 7 curveLift curveSpan curvePlace 49 (omega arith) (omega arith),
-        fields-same b b′ _ _ front 8 0 mostRate mortalityPlace 242 (omega arith) (omega arith),
+        fields-same b b′ _ _ (front-same b b′ s) 6 0 mostRate costPlace 5 (omega arith) (omega arith),
+        fields-same b b′ _ _ (front-same b b′ s) 7 curveLift curveSpan curvePlace 49 (omega arith) (omega arith),
+        fields-same b b′ _ _ (front-same b b′ s) 8 0 mostRate mortalityPlace 242 (omega arith) (omega arith),
       )
-
-  head-same : (k : ℕ) → k < chains → headOf b k ≡ headOf b′ k
-  unfolding headOf
-  head-same k few = u16-same b b′ _ _ front (headPlace k) (omega arith) (omega arith)
-
-  record-same : (k j : ℕ) → k < chains → 0 < linkAt b k j → SameRecord b b′ (linkAt b k j)
-  record-same k j few l p lo hi =
-      let at = recordAt (linkAt b k j) in
-      let q : at + (p - at) ≡ p = omega arith in
-      rw q at (s .linked k j (p - at) few l (omega arith))
 
   pub unlinked-same : (basis : ℕ) → checkBook basis b ≡ checkBook basis b′
   unfolding checkBook checkChains
@@ -163,5 +135,5 @@ module _ (b b′ : List ℕ) (s : SameButUnlinked b b′) where
         header-same basis,
         tables-same,
         all-same (checkChain b (lastClass basis)) (checkChain b′ (lastClass basis)) chains 0
-            (λ k lo hi. chain-same b b′ (lastClass basis) k count-same (head-same k (omega arith)) (λ j l. record-same k j (omega arith) l)),
+            (λ k lo hi. chain-same b b′ (lastClass basis) k (count-same b b′ s) (head-same b b′ s k (omega arith)) (λ j l. record-same b b′ s k j (omega arith) l)),
       )

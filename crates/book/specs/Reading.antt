@@ -20,6 +20,10 @@ unfoldable pub ChainFrom : List ℕ → ℕ → ℕ → ℕ → ℕ → Type 0
 ChainFrom b last k zero i = RecordRules b last k i × (classOf b i ≡ last)
 ChainFrom b last k (suc left) i = RecordRules b last k i × (classOf b i ≡ last - suc left) × ChainFrom b last k left (nextOf b i)
 
+-- linked record i of chain k, with the rest of its chain behind it
+abbrev pub Standing : List ℕ → ℕ → ℕ → ℕ → Type 0
+Standing b last k i = RecordRules b last k i × ChainFrom b last k (last - classOf b i) i
+
 -- an accepted book, as a reader that walks its chains takes it
 pub record ValidBook (basis : ℕ) (b : List ℕ) : Type 0 where
   pub header : HeaderRules basis b
