@@ -1,0 +1,16 @@
+-- `settings::DecrementWeights::new` meets its contract: each weight is the one read. Assumes nothing.
+use borrow.Author.Needs.{needs}
+use Rattle.settings.proofs.DecrementWeights.new.Statement.{statement}
+use Rattle.settings.proofs.DecrementWeights.new.Tie as tie
+
+returns : tie.Need-returns
+returns c =
+    let men = c .before .before .mortality-weight .ensures in
+    let women = c .before .mortality-weight2 .ensures in
+    let lapse = c .weight .ensures in
+    (simp (men .0, women .0, lapse .0), men .1, women .1, lapse .1)
+
+pub new-spec : {M : Type 1} → statement M
+new-spec =
+    tie.close
+    (tie.spec (search needs) (search needs) (search needs) returns)

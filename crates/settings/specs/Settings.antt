@@ -1,0 +1,92 @@
+-- The weights of the eight settings, in thousandths (paper, section Settings). Assumes nothing.
+-- Kinds: 0 mortality of men, 1 mortality of women, 2 lapse, 3 costs, 4 claims.
+use mathlib.Core.Bool.{Bool}
+use mathlib.Core.List.{List}
+use Prim.Native.Nat.{ℕ, _*_, _/_, _≤_}
+use lib.Dec.{ltb, eqb}
+use Rattle.field.specs.Verdicts.{pick}
+use Rattle.settings.specs.declared.DecrementWeights.{DecrementWeights}
+use Rattle.settings.specs.declared.Decrements.{Decrements}
+use Rattle.settings.specs.declared.OutgoWeights.{OutgoWeights}
+use Rattle.settings.specs.declared.Outgoings.{Outgoings}
+
+-- the base, setting 0
+abbrev pub baseWeight : ℕ → ℕ
+baseWeight kind = pick (eqb kind 0) 870 (pick (eqb kind 1) 860 1000)
+
+-- what a setting makes of the base weight of a kind, in percent
+abbrev pub shift : ℕ → ℕ → ℕ
+shift setting kind =
+    pick (ltb kind 2) (pick (eqb setting 1) 120 (pick (eqb setting 2) 80 100))
+    (pick (eqb kind 2) (pick (eqb setting 3) 130 (pick (eqb setting 4) 70 100))
+    (pick (eqb kind 3) (pick (eqb setting 5) 120 (pick (eqb setting 6) 80 100))
+    (pick (eqb setting 7) 105 100)))
+
+-- a shift of the lapse holds in all years, any other in the first five
+abbrev pub shiftIn : Bool → ℕ → ℕ → ℕ
+shiftIn early setting kind = pick early (shift setting kind) (pick (eqb kind 2) (shift setting kind) 100)
+
+-- the weight of a kind, in the first five years or later
+abbrev pub weightIn : Bool → ℕ → ℕ → ℕ
+weightIn early setting kind = baseWeight kind * shiftIn early setting kind / 100
+
+-- the weight of a kind in the year k
+unfoldable pub weightOf : ℕ → ℕ → ℕ → ℕ
+weightOf setting kind k = weightIn (ltb k 5) setting kind
+
+-- the weight of the mortality of a sex, 0 men, 1 women, in the year k; the same for every book
+unfoldable pub mortalityWeight : List ℕ → ℕ → ℕ → ℕ → ℕ
+mortalityWeight b setting sex k = weightOf setting sex k
+
+-- the weights of mortality and lapse in the year k
+abbrev pub decrementsAt : List ℕ → ℕ → ℕ → DecrementWeights
+decrementsAt b setting k =
+    record { men = mortalityWeight b setting 0 k; women = mortalityWeight b setting 1 k; lapse = weightOf setting 2 k }
+
+-- the same for the first five years, which are as year 0, and for the later ones, which are as year 5
+unfoldable pub decrementsOf : List ℕ → ℕ → Decrements
+decrementsOf b setting = record { first = decrementsAt b setting 0; later = decrementsAt b setting 5 }
+
+-- the weights of costs and claims in the year k
+abbrev pub outgoAt : ℕ → ℕ → OutgoWeights
+outgoAt setting k = record { costs = weightOf setting 3 k; claims = weightOf setting 4 k }
+
+-- the same for the first five years and for the later ones
+unfoldable pub outgoingsOf : ℕ → Outgoings
+outgoingsOf setting = record { first = outgoAt setting 0; later = outgoAt setting 5 }
+
+-- of the weights of a year, that of the mortality of a sex
+abbrev pub ofSex : ℕ → DecrementWeights → ℕ
+ofSex sex w = pick (eqb sex 0) (w .men) (w .women)
+
+-- the weight of the mortality of a sex in the year k
+abbrev pub mortalityIn : Decrements → ℕ → ℕ → ℕ
+mortalityIn w sex k = pick (ltb k 5) (ofSex sex (w .first)) (ofSex sex (w .later))
+
+-- the weight of the lapse in the year k
+abbrev pub lapseIn : Decrements → ℕ → ℕ
+lapseIn w k = pick (ltb k 5) (w .first .lapse) (w .later .lapse)
+
+-- the weight of the costs in the year k
+abbrev pub costsIn : Outgoings → ℕ → ℕ
+costsIn w k = pick (ltb k 5) (w .first .costs) (w .later .costs)
+
+-- the weight of the claims in the year k
+abbrev pub claimsIn : Outgoings → ℕ → ℕ
+claimsIn w k = pick (ltb k 5) (w .first .claims) (w .later .claims)
+
+-- no weight of mortality or lapse is above 1,300 thousandths
+pub record Weighed (w : Decrements) : Type 0 where
+  pub first-men : w .first .men ≤ 1300
+  pub first-women : w .first .women ≤ 1300
+  pub first-lapse : w .first .lapse ≤ 1300
+  pub later-men : w .later .men ≤ 1300
+  pub later-women : w .later .women ≤ 1300
+  pub later-lapse : w .later .lapse ≤ 1300
+
+-- no weight of costs is above 1,200 thousandths, none of claims above 1,050
+pub record OutgoWeighed (w : Outgoings) : Type 0 where
+  pub first-costs : w .first .costs ≤ 1200
+  pub first-claims : w .first .claims ≤ 1050
+  pub later-costs : w .later .costs ≤ 1200
+  pub later-claims : w .later .claims ≤ 1050

@@ -1,0 +1,259 @@
+// The weights of the eight settings, in thousandths: one table, read once for a projection.
+ghost use mathlib.Core.Path.{_≡_};
+ghost use Prim.Native.Nat.{_<_, _≤_};
+ghost use Rattle.settings.specs.Settings.{weightOf, mortalityWeight, decrementsAt, decrementsOf, outgoAt, outgoingsOf};
+ghost use Rattle.settings.specs.Settings.{ofSex, mortalityIn, lapseIn, costsIn, claimsIn, Weighed, OutgoWeighed};
+
+// The kinds of weight. Mortality has the number of its sex: 0 men, 1 women.
+const LAPSE: usize = 2;
+
+const COSTS: usize = 3;
+
+const CLAIMS: usize = 4;
+
+// For each setting the five kinds for the years k = 0 to 4, then the five for the later years.
+const WEIGHTS: [u64; 80] = [
+    // 0: base
+    870,
+    860,
+    1000,
+    1000,
+    1000,
+    // 0, later years
+    870,
+    860,
+    1000,
+    1000,
+    1000,
+    // 1: mortality up
+    1044,
+    1032,
+    1000,
+    1000,
+    1000,
+    // 1, later years
+    870,
+    860,
+    1000,
+    1000,
+    1000,
+    // 2: mortality down
+    696,
+    688,
+    1000,
+    1000,
+    1000,
+    // 2, later years
+    870,
+    860,
+    1000,
+    1000,
+    1000,
+    // 3: lapse up
+    870,
+    860,
+    1300,
+    1000,
+    1000,
+    // 3, later years
+    870,
+    860,
+    1300, // a shift of the lapse stays
+    1000,
+    1000,
+    // 4: lapse down
+    870,
+    860,
+    700,
+    1000,
+    1000,
+    // 4, later years
+    870,
+    860,
+    700, // here too
+    1000,
+    1000,
+    // 5: costs up
+    870,
+    860,
+    1000,
+    1200,
+    1000,
+    // 5, later years
+    870,
+    860,
+    1000,
+    1000,
+    1000,
+    // 6: costs down
+    870,
+    860,
+    1000,
+    800,
+    1000,
+    // 6, later years
+    870,
+    860,
+    1000,
+    1000,
+    1000,
+    // 7: claims up
+    870,
+    860,
+    1000,
+    1000,
+    1050,
+    // 7, later years
+    870,
+    860,
+    1000,
+    1000,
+    1000,
+];
+
+// The weight of a kind in the year k.
+fn weight(setting: usize, kind: usize, k: usize) -> u64
+    requires { ⌜ (setting < 8) × (kind < 5) ⌝ }
+    ensures { λ r. ⌜ (r ≡ weightOf setting kind k) × (r ≤ 1300) ⌝ }
+{
+    if k < 5 {
+        WEIGHTS[10 * setting + kind]
+    } else {
+        WEIGHTS[10 * setting + 5 + kind]
+    }
+}
+
+// The weight of the mortality of a sex: 0 men, 1 women. Edition 1 of the book carries none of its own.
+fn mortality_weight(book: &[u8], setting: usize, sex: usize, k: usize) -> u64
+    requires { ⌜ (setting < 8) × (sex ≤ 1) ⌝ }
+    ensures { λ r. ⌜ (r ≡ mortalityWeight (now (book .entry)) setting sex k) × (r ≤ 1300) ⌝ }
+{
+    weight(setting, sex, k)
+}
+
+// The weights of mortality and lapse in one year.
+pub struct DecrementWeights {
+    pub men: u64,
+    pub women: u64,
+    pub lapse: u64,
+}
+
+impl DecrementWeights {
+    fn new(book: &[u8], setting: usize, k: usize) -> DecrementWeights
+        requires { ⌜ setting < 8 ⌝ }
+        ensures { λ r. ⌜ (r ≡ decrementsAt (now (book .entry)) setting k) × (r .men ≤ 1300) × (r .women ≤ 1300) × (r .lapse ≤ 1300) ⌝ }
+    {
+        DecrementWeights {
+            men: mortality_weight(book, setting, 0, k),
+            women: mortality_weight(book, setting, 1, k),
+            lapse: weight(setting, LAPSE, k),
+        }
+    }
+
+    // The mortality of a sex: 0 men, else women.
+    fn of_sex(self, sex: usize) -> u64
+        ensures { λ r. ⌜ r ≡ ofSex sex self ⌝ }
+    {
+        if sex == 0 { self.men } else { self.women }
+    }
+}
+
+// The weights of mortality and lapse of a setting: in the years k = 0 to 4, and in the later ones.
+pub struct Decrements {
+    pub first: DecrementWeights,
+    pub later: DecrementWeights,
+}
+
+impl Decrements {
+    pub fn new(book: &[u8], setting: usize) -> Decrements
+        requires { ⌜ setting < 8 ⌝ }
+        ensures { λ r. ⌜ (r ≡ decrementsOf (now (book .entry)) setting) × Weighed r ⌝ }
+    {
+        let first = DecrementWeights::new(book, setting, 0);
+        let later = DecrementWeights::new(book, setting, 5);
+        Decrements { first, later }
+    }
+
+    // The weight of the mortality of a sex in the year k: 0 men, else women.
+    pub fn mortality(self, sex: usize, k: usize) -> u64
+        requires { ⌜ Weighed self ⌝ }
+        ensures { λ r. ⌜ (r ≡ mortalityIn self sex k) × (r ≤ 1300) ⌝ }
+    {
+        if k < 5 {
+            self.first.of_sex(sex)
+        } else {
+            self.later.of_sex(sex)
+        }
+    }
+
+    // The weight of the lapse in the year k.
+    pub fn lapses(self, k: usize) -> u64
+        requires { ⌜ Weighed self ⌝ }
+        ensures { λ r. ⌜ (r ≡ lapseIn self k) × (r ≤ 1300) ⌝ }
+    {
+        if k < 5 {
+            self.first.lapse
+        } else {
+            self.later.lapse
+        }
+    }
+}
+
+// The weights of costs and claims in one year.
+pub struct OutgoWeights {
+    pub costs: u64,
+    pub claims: u64,
+}
+
+impl OutgoWeights {
+    fn new(setting: usize, k: usize) -> OutgoWeights
+        requires { ⌜ setting < 8 ⌝ }
+        ensures { λ r. ⌜ (r ≡ outgoAt setting k) × (r .costs ≤ 1200) × (r .claims ≤ 1050) ⌝ }
+    {
+        OutgoWeights {
+            costs: weight(setting, COSTS, k),
+            claims: weight(setting, CLAIMS, k),
+        }
+    }
+}
+
+// The weights of costs and claims of a setting: in the years k = 0 to 4, and in the later ones.
+pub struct Outgoings {
+    pub first: OutgoWeights,
+    pub later: OutgoWeights,
+}
+
+impl Outgoings {
+    pub fn new(setting: usize) -> Outgoings
+        requires { ⌜ setting < 8 ⌝ }
+        ensures { λ r. ⌜ (r ≡ outgoingsOf setting) × OutgoWeighed r ⌝ }
+    {
+        let first = OutgoWeights::new(setting, 0);
+        let later = OutgoWeights::new(setting, 5);
+        Outgoings { first, later }
+    }
+
+    // The weight of the costs in the year k.
+    pub fn cost_weight(self, k: usize) -> u64
+        requires { ⌜ OutgoWeighed self ⌝ }
+        ensures { λ r. ⌜ (r ≡ costsIn self k) × (r ≤ 1200) ⌝ }
+    {
+        if k < 5 {
+            self.first.costs
+        } else {
+            self.later.costs
+        }
+    }
+
+    // The weight of the claims in the year k.
+    pub fn claims_weight(self, k: usize) -> u64
+        requires { ⌜ OutgoWeighed self ⌝ }
+        ensures { λ r. ⌜ (r ≡ claimsIn self k) × (r ≤ 1050) ⌝ }
+    {
+        if k < 5 {
+            self.first.claims
+        } else {
+            self.later.claims
+        }
+    }
+}
