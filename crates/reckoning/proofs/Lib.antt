@@ -1,0 +1,11 @@
+pub mod Near
+pub mod Errors
+pub mod Differences
+pub mod Distance
+pub mod Rows
+pub mod Members
+pub mod Accepted
+pub mod Promised
+pub mod Trials
+pub mod TrialBook
+pub mod Unlinked

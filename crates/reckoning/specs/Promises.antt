@@ -1,0 +1,22 @@
+-- What is promised of the distance between a group's liability and its exact value, in centimes.
+use mathlib.Core.List.{List}
+use Prim.Native.Nat.{ℕ, _+_, _*_}
+use Rattle.reckoning.specs.Steps.{Cell, Terms, held, liability, exactLiability}
+use Rattle.reckoning.specs.Bounds.{GoodCells, GoodTerms, Within}
+
+-- a group in a setting, with no divisor below D: a for each cell with contracts, and b
+abbrev pub GroupPromise : (D a b : ℕ) → Type 0
+GroupPromise D a b = (t : Terms) → GoodTerms D t → (cs : List Cell) → GoodCells cs → Within (a * held cs + b) (liability t cs) (exactLiability t cs)
+
+-- demand 3, for any curve: 500 centimes for each cell with contracts, and 2,850
+abbrev pub eachCell : ℕ
+eachCell = 500
+
+abbrev pub eachGroup : ℕ
+eachGroup = 2_850
+
+abbrev pub distanceOf : ℕ → ℕ
+distanceOf n = eachCell * n + eachGroup
+
+abbrev pub GroupDistance : Type 0
+GroupDistance = GroupPromise 990_000 eachCell eachGroup

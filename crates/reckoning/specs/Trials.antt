@@ -1,0 +1,35 @@
+-- The trial figures T1 to T10 of the paper, on the definitions that the reckoning meets.
+use mathlib.Core.Path.{_≡_}
+use mathlib.Core.List.{List}
+use Prim.Native.Nat.{ℕ, _+_, _<_, _≤_}
+use lib.Dec.{leb}
+use Rattle.book.specs.Layout.{lastClass, sexOf, classOf, nextOf, fieldOf, countOffset, lapseOffset}
+use Rattle.settings.specs.Settings.{decrementsOf}
+use Rattle.reckoning.specs.Arithmetic.{rounded}
+use Rattle.reckoning.specs.Steps.{inForce, capped, discounted}
+use Rattle.reckoning.specs.Portfolio.{mortalityOf, rowAt, cellOf}
+
+-- record i has one man below class 119, with the same mortality at every class and the same lapse in every year
+pub record OneMan (b : List ℕ) (i mortality lapse : ℕ) : Type 0 where
+  pub one : fieldOf b i countOffset ≡ 1
+  pub man : sexOf b i ≡ 0
+  pub young : classOf b i < 119
+  pub ages : classOf b (nextOf b i) ≡ classOf b i + 1
+  pub dies : (class : ℕ) → class ≤ lastClass 1 → mortalityOf b 0 class ≡ mortality
+  pub leaves : (k : ℕ) → fieldOf b (rowAt b i k) lapseOffset ≡ lapse
+
+-- the contracts in force of record i's cell after k years in a setting, in billionths
+abbrev pub inForceAfter : List ℕ → ℕ → ℕ → ℕ → ℕ
+inForceAfter b setting i k = inForce rounded (cellOf b (decrementsOf b setting) i) k
+
+pub record Trials : Type 0 where
+  pub t1 : discounted rounded 990_000 1 99 ≡ 100
+  pub t2 : discounted rounded 1_010_000 2 100 ≡ 98
+  pub t3 : capped rounded (leb 5 5) 1001 900 ≡ 1000
+  pub t4 : capped rounded (leb 5 4) 1001 900 ≡ 1001
+  pub t5 : capped rounded (leb 5 5) 1000 899 ≡ 998
+  pub t6 : (premium : ℕ) → capped rounded (leb 5 5) premium 0 ≡ 0
+  pub t7 : (b : List ℕ) (i : ℕ) → OneMan b i 1_000_000 0 → inForceAfter b 0 i 1 ≡ 130_000_000
+  pub t8 : (b : List ℕ) (i : ℕ) → OneMan b i 1_000_000 0 → inForceAfter b 1 i 1 ≡ 0
+  pub t9 : (b : List ℕ) (i : ℕ) → OneMan b i 1_000_000 0 → inForceAfter b 2 i 1 ≡ 304_000_000
+  pub t10 : (b : List ℕ) (i : ℕ) → OneMan b i 0 333_333 → (inForceAfter b 0 i 1 ≡ 666_667_000) × (inForceAfter b 0 i 2 ≡ 444_444_888)
