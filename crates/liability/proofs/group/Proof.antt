@@ -1,0 +1,47 @@
+-- `liability::group` meets its contract: where a refusal applies it is given and nothing is touched; else reply and table are those of `settle`.
+-- What is promised of both follows from these two equations. Assumes nothing.
+use mathlib.Core.Path.{sym, _∙_}
+use mir.Syntax.{w64}
+use mir.ValLaws.{toZ-ofZ}
+use borrow.Author.Needs.{needs}
+use Rattle.reckoning.specs.Replies.{groupReply, groupTable}
+use Rattle.reckoning.proofs.Accepted.{group-setting, group-table, group-range, group-valid}
+use Rattle.reckoning.proofs.Promised.{promised}
+use Rattle.liability.proofs.group.Statement.{statement}
+use Rattle.liability.proofs.group.Tie as tie
+
+returns : tie.Need-returns
+unfolding groupReply groupTable
+returns c =
+    let e = sym (c .before .before .before .check-group .ensures) ∙ c .before .v .given .1 in
+    promised _ _ _ _ _ _ (rw e) (rw e)
+
+new-requires : tie.Need-new-requires
+new-requires c κs = group-setting _ _ _ _ _ (sym (c .before .before .check-group .ensures) ∙ c .enum-told .given .1)
+
+group-sums-requires : tie.Need-group-sums-requires
+group-sums-requires c κs =
+    let m = c .before in
+    let e = sym (m .before .before .check-group .ensures) ∙ m .enum-told .given .1 in
+    (c .new .ensures .1, group-valid _ _ _ _ _ e, group-range _ _ _ _ _ e .0, group-range _ _ _ _ _ e .1)
+
+settle-requires : tie.Need-settle-requires
+settle-requires c κs =
+    let m = c .before .before .before in
+    let e = sym (m .before .before .check-group .ensures) ∙ m .enum-told .given .1 in
+    (group-setting _ _ _ _ _ e, group-range _ _ _ _ _ e .0, group-range _ _ _ _ _ e .1, group-table _ _ _ _ _ e, group-valid _ _ _ _ _ e, rw (c .before .before .new .ensures .0) at (c .before .group-sums .ensures))
+
+returns-2 : tie.Need-returns-2
+unfolding groupReply groupTable
+returns-2 c =
+    let m = c .before .before .before .before .before .before in
+    let e = sym (m .before .before .check-group .ensures) ∙ m .enum-told .given .1 in
+    let s = c .before .before .settle in
+    let l = toZ-ofZ w64 (s .result) (record { sfits = s .ok }) ∙ s .ensures .liability-is in
+    let n = c .before .before .before .before .group-sums .ensures .n-is in
+    promised _ _ _ _ _ _ (rw (e, l, n)) (rw e (s .ensures .table-is))
+
+pub group-spec : {M : Type 1} → statement M
+group-spec =
+    tie.close
+    (tie.spec (search needs) (search needs) returns (search needs) new-requires group-sums-requires settle-requires (search needs) returns-2)

@@ -1,0 +1,2 @@
+pub mod Discounting
+pub mod Settling

@@ -1,0 +1,23 @@
+-- `settling::counted` meets its contract: before the sixth year the premium, then the lesser of it and the cap. Assumes nothing.
+use native.Mathlib.Omega.{arith}
+use borrow.Author.Tests.{le-leb, lt-leb}
+use Rattle.reckoning.specs.Steps.{capped}
+use borrow.Author.Needs.{needs}
+use Rattle.settling.proofs.counted.Statement.{statement}
+use Rattle.settling.proofs.counted.Tie as tie
+
+returns : tie.Need-returns
+unfolding capped
+returns c = (rw (lt-leb _ _ (c .if1 .taken)), omega arith)
+
+returns-2 : tie.Need-returns-2
+unfolding capped
+returns-2 c = (rw (le-leb _ _ (c .before .if1 .left)) (omega arith), omega arith)
+
+returns-3 : tie.Need-returns-3
+unfolding capped
+returns-3 c = (rw (le-leb _ _ (c .before .if1 .left)) (omega arith), omega arith)
+
+pub counted-spec : {M : Type 1} → statement M
+counted-spec = tie.close
+    (tie.spec returns (search needs) returns-2 returns-3)

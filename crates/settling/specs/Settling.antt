@@ -1,0 +1,39 @@
+-- A year settled from its sums, as the code reckons it: outgo, cap, discounting.
+use mathlib.Core.List.{List, [], _∷_}
+use Prim.Native.Nat.{ℕ, _+_, _*_, _/_}
+use lib.Dec.{leb}
+use Rattle.settings.specs.Settings.{costsIn, claimsIn}
+use Rattle.settings.specs.declared.Outgoings.{Outgoings}
+use Rattle.reckoning.specs.Arithmetic.{rounded}
+use Rattle.reckoning.specs.Steps.{Cell, Terms, outgo, capped, countedPremium, discounted, discountedOutgo, discountedPremium}
+use Rattle.settling.specs.declared.Year.{Year}
+
+-- step 3 of sums of premium and claims
+unfoldable pub outgoOf : Outgoings → ℕ → ℕ → ℕ → ℕ → ℕ
+outgoOf w k rate premium claims = claims * claimsIn w k / 1000 + premium * (rate * costsIn w k) / 1_000_000_000
+
+-- steps 4 and 5 of a premium sum and an outgo
+abbrev pub settled : ℕ → ℕ → ℕ → ℕ → Year
+settled k d premium outgo = record {
+  premium = capped rounded (leb 5 k) premium outgo;
+  outgo = outgo;
+  dpremium = discounted rounded d k (capped rounded (leb 5 k) premium outgo);
+  doutgo = discounted rounded d k outgo;
+}
+
+-- steps 3 to 5 of the year's sums
+abbrev pub yearFrom : Outgoings → ℕ → ℕ → ℕ → ℕ → ℕ → Year
+yearFrom w k rate d premium claims = settled k d premium (outgoOf w k rate premium claims)
+
+-- the year's four numbers by the reckoning's steps
+unfoldable pub yearOf : Terms → List Cell → ℕ → Year
+yearOf t cs k = record {
+  premium = countedPremium rounded t cs k;
+  outgo = outgo rounded t cs k;
+  dpremium = discountedPremium rounded t cs k;
+  doutgo = discountedOutgo rounded t cs k;
+}
+
+-- in the order of the year table
+abbrev pub fourOf : Year → List ℕ
+fourOf y = y .premium ∷ y .outgo ∷ y .dpremium ∷ y .doutgo ∷ []
