@@ -16,6 +16,8 @@ OUTSIDE = [
     ("the second check, by hand-worked examples", PYTHON + ["tools/test_check.py"]),
     ("the stream of verdicts", PYTHON + ["tools/verdict_stream.py", "test"]),
     ("the stream of records", PYTHON + ["tools/record_stream.py", "test"]),
+    ("the second reckoning, by hand-worked examples", PYTHON + ["tools/test_reckoning.py"]),
+    ("the stream of group figures, against the fractions", PYTHON + ["tools/group_stream.py", "test"]),
     ("the sample books", PYTHON + ["tools/sample_books.py", "test"]),
     ("random books against the second check", PYTHON + ["tools/fuzz_check.py"]),
 ]

@@ -1,6 +1,7 @@
 """The stream files of a crate, and the report that every testing script ends with."""
 
 import sys
+import unittest
 from pathlib import Path
 
 ROOT = Path(__file__).resolve().parent.parent
@@ -85,3 +86,12 @@ def run_verbs(crate, build, cover):
     report.test("every case has a name of its own", len(set(names)) == len(names))
     cover(report, entries)
     return report.finish()
+
+
+def run_unit_tests(module):
+    """Run all unit tests of a module, their chatter to standard error, and print the totals; the exit code."""
+    tests = unittest.defaultTestLoader.loadTestsFromModule(module)
+    outcome = unittest.TextTestRunner(stream=sys.stderr).run(tests)
+    failed = len(outcome.failures) + len(outcome.errors)
+    print(f"{outcome.testsRun - failed} passed, {failed} failed")
+    return 0 if outcome.wasSuccessful() and outcome.testsRun else 1

@@ -7,6 +7,7 @@ import unittest
 
 from book import Cell, Portfolio, Values, empty_book, full_book, make_book, one_record_book
 from check import check, look
+from stream import run_unit_tests
 
 
 def packed(year=2021, count=None, spare=0, heads=None, costs=None, curve=None, mortality=None,
@@ -204,14 +205,5 @@ class BookMaker(unittest.TestCase):
             make_book(Values(portfolios={0: Portfolio(119, (Cell(1, 0, 0, 0),))}))
 
 
-def main():
-    """Run all tests; their chatter goes to standard error."""
-    tests = unittest.defaultTestLoader.loadTestsFromModule(sys.modules[__name__])
-    outcome = unittest.TextTestRunner(stream=sys.stderr).run(tests)
-    failed = len(outcome.failures) + len(outcome.errors)
-    print(f"{outcome.testsRun - failed} passed, {failed} failed")
-    return 0 if outcome.wasSuccessful() and outcome.testsRun else 1
-
-
 if __name__ == "__main__":
-    sys.exit(main())
+    sys.exit(run_unit_tests(sys.modules[__name__]))

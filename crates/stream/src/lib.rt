@@ -1,4 +1,6 @@
 // What the test programs read from standard input: numbers, least byte first, and bytes.
+ghost use Prim.Native.Nat.{_+_, _≤_};
+ghost use lib.ListN.{length};
 ghost use Rattle.io.specs.Counts.{Counts};
 use libc::STDIN_FILENO;
 
@@ -16,12 +18,19 @@ pub fn next_u32() -> Next {
     Next::Number(field::read_u32(&bytes, 0))
 }
 
+// The number of eight bytes at a place.
+pub fn read_u64(b: &[u8], at: usize) -> u64
+    requires { ⌜ at + 8 ≤ length (now b) ⌝ }
+{
+    field::read_u32(b, at) + 4_294_967_296 * field::read_u32(b, at + 4)
+}
+
 pub fn next_u64() -> Next {
     let mut bytes = [0u8; 8];
     if io::read_full(STDIN_FILENO, &mut bytes) < 8 {
         return Next::Ended;
     }
-    Next::Number(field::read_u32(&bytes, 0) + 4_294_967_296 * field::read_u32(&bytes, 4))
+    Next::Number(read_u64(&bytes, 0))
 }
 
 // Reads so many bytes to the start of a buffer, and answers how many came: none where the buffer is too short.

@@ -1,0 +1,67 @@
+-- Numbers as text, in base ten, and what writing text into a lent buffer means.
+use mathlib.Core.Bool.{cond}
+use mathlib.Core.List.{List, [], _∷_, _++_}
+use mathlib.Core.Path.{_≡_}
+use Prim.Native.Nat.{ℕ, zero, suc, _+_, _-_, _*_, _/_, _%_, _≤_}
+use lib.Dec.{ltb, leb}
+use lib.IntN.{ℤ, pos, negsuc}
+use lib.ListN.{length, take, drop}
+use lib.Seq.{sets}
+
+-- the digits of n, the first one not 0 unless n is; `left` is a number of steps that is enough where n ≤ left
+unfoldable pub spelled : ℕ → ℕ → List ℕ
+spelled zero n = (48 + n) ∷ []
+spelled (suc left) n = cond (ltb n 10) ((48 + n) ∷ []) (spelled left (n / 10) ++ ((48 + n % 10) ∷ []))
+
+unfoldable pub decimal : ℕ → List ℕ
+decimal n = spelled n n
+
+-- the number that a list of digits spells, read from the left; it says of `decimal` that it is right (decimal-read of the laws)
+unfoldable pub read : ℕ → List ℕ → ℕ
+read so [] = so
+read so (d ∷ ds) = read (so * 10 + (d - 48)) ds
+
+-- how many they are
+unfoldable pub counted : ℕ → ℕ → ℕ
+counted zero n = 1
+counted (suc left) n = cond (ltb n 10) 1 (counted left (n / 10) + 1)
+
+unfoldable pub digits : ℕ → ℕ
+digits n = counted n n
+
+-- a whole number, with a minus sign (45) below 0
+unfoldable pub signed : ℤ → List ℕ
+signed (pos n) = decimal n
+signed (negsuc k) = 45 ∷ decimal (suc k)
+
+-- a number and the byte that ends it: 32 is a blank, 44 a comma, 10 a line's end
+unfoldable pub ended : ℕ → ℕ → List ℕ
+ended n b = decimal n ++ b ∷ []
+
+unfoldable pub signedEnded : ℤ → ℕ → List ℕ
+signedEnded v b = signed v ++ b ∷ []
+
+-- `text` stands in the buffer from `at` on, all else is as it was (what passes the buffer's end is dropped), and `next` is the place after it
+pub record Wrote (entry : List ℕ) (at : ℕ) (text exit : List ℕ) (next : ℕ) : Type 0 where
+  pub bytes : exit ≡ sets entry at text
+  pub place : next ≡ at + length text
+
+-- the first n texts of a run, one after the other
+unfoldable pub joined : (ℕ → List ℕ) → ℕ → List ℕ
+joined f zero = []
+joined f (suc n) = joined f n ++ f n
+
+-- a lent buffer after a text was asked for: the text and then the bytes as they were, or, where it does not fit, the buffer as it was
+unfoldable pub delivered : List ℕ → List ℕ → List ℕ
+delivered text entry = cond (leb (length text) (length entry)) (text ++ drop (length text) entry) entry
+
+-- the answer: the length of the text, or 0 where it does not fit
+unfoldable pub told : List ℕ → List ℕ → ℕ
+told text entry = cond (leb (length text) (length entry)) (length text) 0
+
+-- what a call that delivers a text does to the lent buffer, and its answer. The last two parts follow from the first two: by them `&out[..r]` needs no proof
+pub record Delivered (text entry exit : List ℕ) (r : ℕ) : Type 0 where
+  pub answer : r ≡ told text entry
+  pub bytes : exit ≡ delivered text entry
+  pub within : r ≤ length exit
+  pub counts : r ≡ length (take r exit)
