@@ -12,7 +12,7 @@ PYTHON = [sys.executable]
 
 # What runs after the proofs, in this order: a name for the line, and the command.
 OUTSIDE = [
-    ("must-fail edits fail by a fact", PYTHON + ["tools/must_fail_reasons.py"]),
+    ("must-fail edits fit the proof files", PYTHON + ["tools/must_fail_reasons.py"]),
     ("the second check, by hand-worked examples", PYTHON + ["tools/test_check.py"]),
     ("the stream of verdicts", PYTHON + ["tools/verdict_stream.py", "test"]),
     ("the stream of records", PYTHON + ["tools/record_stream.py", "test"]),

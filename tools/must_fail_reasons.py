@@ -1,4 +1,4 @@
-"""Whether each must-fail edit was refused because a fact fails, and not because the proof no longer fits the code."""
+"""Whether every must-fail edit was tried, and none was refused because a name or place of a proof file is gone."""
 
 import sys
 
@@ -27,8 +27,8 @@ def main():
     for log in logs:
         error = first_error(log.read_text(encoding="utf-8", errors="replace"))
         if not error or any(words in error for words in UNFIT):
-            report.test(f"{log.parent.parent.name}/{log.parent.name} fails by a fact", False, error[:120])
-    report.test("each was refused because a fact fails", report.failed == 0)
+            report.test(f"{log.parent.parent.name}/{log.parent.name} fits the proof file", False, error[:120])
+    report.test("none was refused for a name or place that is gone", report.failed == 0)
     return report.finish()
 
 

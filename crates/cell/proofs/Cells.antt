@@ -28,12 +28,6 @@ pub one-less-le : (rate weight : ℕ) → oneLess rate weight ≤ 1_000_000_000
 unfolding oneLess
 one-less-le rate weight = omega arith
 
-survivors-le : (b : List ℕ) (w : Decrements) (k : ℕ) (c : Cell) → survivors b w k c ≤ c .inforce
-unfolding survivors
-survivors-le b w k c =
-    le-trans (share-le _ _ (one-less-le (fieldOf b (c .row) lapseOffset) (lapseIn w k)))
-    (share-le (c .inforce) _ (one-less-le (mortalityOf b (chainSex (c .chain)) (c .class)) (mortalityIn w (chainSex (c .chain)) k)))
-
 module _ (b : List ℕ) (w : Decrements) (chain i : ℕ) (few : chain < 14) (s : Standing b 120 chain i) where
   abbrev here : ℕ → ℕ
   here k = rowAt b i k
