@@ -4,6 +4,7 @@ pub mod Chains
 pub mod Whole
 pub mod Valid
 pub mod Exact
+pub mod Numbers
 pub mod Same
 pub mod Unlinked
 pub mod Trials
