@@ -1,4 +1,4 @@
--- `liability::settle` meets its contract. The invariant: the table has the numbers of the years before k, and the two sums are those of the reckoning.
+-- `years::settle` meets its contract. The invariant: the table has the numbers of the years before k, and the two sums are those of the reckoning.
 -- The measure is the number of years left. Assumes nothing.
 use mathlib.Core.Path.{_≡_, refl, ap, _∙_}
 use mathlib.Core.List.{List, _++_}
@@ -15,9 +15,9 @@ use Rattle.reckoning.specs.Portfolio.{termsOf, groupCells}
 use Rattle.reckoning.specs.Replies.{yearTable}
 use Rattle.settling.specs.declared.Year.{Year}
 use Rattle.settling.specs.Settling.{yearOf}
-use Rattle.settling.proofs.Settling.{years-more, years-length, sum-more, outgo-is, premium-is, year-is, liability-is}
-use Rattle.liability.proofs.settle.Statement.{statement}
-use Rattle.liability.proofs.settle.Tie as tie
+use Rattle.settling.proofs.Settling.{years-more, years-length, sum-more, outgo-is, premium-is, year-is, liability-is, less-mag}
+use Rattle.years.proofs.settle.Statement.{statement}
+use Rattle.years.proofs.settle.Tie as tie
 
 -- the terms and the cells of a group in a setting
 abbrev terms : List ℕ → ℕ → ℕ → Terms
@@ -102,11 +102,11 @@ returns c =
     let l = m .loop in
     let a = m .before .before .before .before .before .before .before in
     let e : l .k ≡ 50 = omega arith in
+    let r = toZ-ofZ w64 (c .less .result) (record { sfits = c .less .ok }) ∙ c .less .ensures in
     record {
-      liability-is =
-          toZ-ofZ w64 (c .less .result) (record { sfits = c .less .ok }) ∙ c .less .ensures
-          ∙ liability-is (a .args .book .now) (a .args .setting) (a .args .group) (l .k) (l .paid) (l .earned) e (l .inv .2) (l .inv .3);
+      liability-is = r ∙ liability-is (a .args .book .now) (a .args .setting) (a .args .group) (l .k) (l .paid) (l .earned) e (l .inv .2) (l .inv .3);
       table-is = rw e at (l .inv .1);
+      size = rw r (less-mag (l .paid) (l .earned) 450_000_000_000_000_000 (omega arith) (omega arith));
     }
 
 pub settle-spec : {M : Type 1} → statement M
