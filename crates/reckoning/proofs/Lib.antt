@@ -6,6 +6,7 @@ pub mod Rows
 pub mod Members
 pub mod Accepted
 pub mod Promised
+pub mod Total
 pub mod Trials
 pub mod TrialBook
 pub mod Unlinked

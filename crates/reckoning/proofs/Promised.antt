@@ -14,6 +14,7 @@ use Rattle.field.specs.declared.Verdict.{Verdict}
 use Rattle.field.specs.declared.Verdict.the-variants.{Accepted, Refused}
 use Rattle.book.specs.Layout.{lastClass}
 use Rattle.book.specs.Cells.{cellsOfGroup}
+use Rattle.book.specs.Reading.{ValidBook}
 use Rattle.settings.specs.Settings.{decrementsOf}
 use Rattle.reckoning.specs.Arithmetic.{rounded}
 use Rattle.reckoning.specs.Steps.{Cell, Terms, outgo, capped, countedPremium}
@@ -67,16 +68,19 @@ reckoned : (v : Verdict) (l m : ℤ) (n o : ℕ) → replyOf v l n ≡ Reckoned 
 reckoned (Accepted c) l m n o e = (refl, (cc), (cc))
 reckoned (Refused q p) l m n o e = let z : _≡_ {A = ℕ} 0 1 = cc in absurd (omega arith)
 
+-- of an accepted book
+pub group-distance : (b : List ℕ) (setting g : ℕ) → ValidBook 1 b → (1 ≤ g) × (g ≤ 5)
+    → Within (distanceOf (cellsOfGroup b (lastClass 1) g)) (groupLiability b setting g) (exactGroupLiability b setting g)
+unfolding groupLiability exactGroupLiability
+group-distance b setting g v range =
+    let w = decrementsOf b setting in
+    rw (held-group b w g) at
+    (distance (termsOf b setting g) (good-terms b setting g v (range .0) (range .1)) (groupCells b w g) (good-cells b w g v (range .0) (range .1)))
+
 -- where Group accepts
 module _ (b : List ℕ) (setting g : ℕ) (before : List ℕ) (n : ℕ) (e : groupCheck b setting g (length before) ≡ Accepted n) where
-  group-distance : Within (distanceOf (cellsOfGroup b (lastClass 1) g)) (groupLiability b setting g) (exactGroupLiability b setting g)
-  unfolding groupLiability exactGroupLiability
-  group-distance =
-      let w = decrementsOf b setting in
-      let v = group-valid b setting g (length before) n e in
-      let range = group-range b setting g (length before) n e in
-      rw (held-group b w g) at
-      (distance (termsOf b setting g) (good-terms b setting g v (range .0) (range .1)) (groupCells b w g) (good-cells b w g v (range .0) (range .1)))
+  accepted-distance : Within (distanceOf (cellsOfGroup b (lastClass 1) g)) (groupLiability b setting g) (exactGroupLiability b setting g)
+  accepted-distance = group-distance b setting g (group-valid b setting g (length before) n e) (group-range b setting g (length before) n e)
 
   group-cap : (k : ℕ) → 5 ≤ k → k < 50 → 9 * getD (groupTable b setting g before) (4 * k) 0 ≤ 10 * getD (groupTable b setting g before) (4 * k + 1) 0
   unfolding groupTable
@@ -91,6 +95,6 @@ unfolding groupReply
 promised b setting g before after reply reply-is table-is = record {
   reply-is = reply-is;
   table-is = table-is;
-  distance = λ l n e. let h = reckoned _ _ l _ n (sym reply-is ∙ e) in rw (h .1, h .2) at (group-distance b setting g before _ (h .0));
+  distance = λ l n e. let h = reckoned _ _ l _ n (sym reply-is ∙ e) in rw (h .1, h .2) at (accepted-distance b setting g before _ (h .0));
   cap = λ l n k e late year. let h = reckoned _ _ l _ n (sym reply-is ∙ e) in rw table-is (group-cap b setting g before _ (h .0) k late year);
 }

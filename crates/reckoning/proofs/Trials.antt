@@ -1,10 +1,11 @@
--- The trial figures T1 to T10 hold. Assumes nothing.
+-- The trial figures T1 to T12 hold, all together. Assumes nothing.
 use mathlib.Core.Path.{_≡_, refl}
 use mathlib.Core.List.{List}
 use Prim.Native.Nat.{ℕ, zero, suc, _*_, _/_, _<_}
 use native.Mathlib.Omega.{arith}
 use borrow.Author.Tests.{lt-ltb}
 use Rattle.book.specs.Layout.{lastClass, classOf}
+use Rattle.book.proofs.Trials.{t11, t12}
 use Rattle.settings.specs.Settings.{weightOf, mortalityWeight, decrementsOf}
 use Rattle.settings.specs.declared.Decrements.{Decrements}
 use Rattle.reckoning.specs.Arithmetic.{rounded}
@@ -52,4 +53,6 @@ trials = record {
   t8 = λ b i o. first b i _ _ o (decrementsOf b 1);
   t9 = λ b i o. first b i _ _ o (decrementsOf b 2);
   t10 = λ b i o. let w = decrementsOf b 0 in (first b i _ _ o w, year b i _ _ o w 1 666_667_000 (omega arith) (first b i _ _ o w));
+  t11 = t11;
+  t12 = t12;
 }

@@ -4,4 +4,5 @@ pub mod Bounds
 pub mod Promises
 pub mod Portfolio
 pub mod Replies
+pub mod Totals
 pub mod Trials

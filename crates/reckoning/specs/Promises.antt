@@ -1,4 +1,4 @@
--- What is promised of the distance between a group's liability and its exact value, in centimes.
+-- What is promised of the distance between a figure and its exact value, in centimes.
 use mathlib.Core.List.{List}
 use Prim.Native.Nat.{ℕ, _+_, _*_}
 use Rattle.reckoning.specs.Steps.{Cell, Terms, held, liability, exactLiability}
@@ -20,3 +20,10 @@ distanceOf n = eachCell * n + eachGroup
 
 abbrev pub GroupDistance : Type 0
 GroupDistance = GroupPromise 990_000 eachCell eachGroup
+
+-- the five groups together: 500 centimes for each cell with contracts, and 14,250
+abbrev pub allGroups : ℕ
+allGroups = 14_250
+
+abbrev pub totalDistanceOf : ℕ → ℕ
+totalDistanceOf n = eachCell * n + allGroups

@@ -1,9 +1,12 @@
--- The trial figures T1 to T10 of the paper, on the definitions that the reckoning meets.
+-- The trial figures T1 to T12 of the paper, as one proposition on the definitions that the calls meet.
 use mathlib.Core.Path.{_≡_}
 use mathlib.Core.List.{List}
 use Prim.Native.Nat.{ℕ, _+_, _<_, _≤_}
 use lib.Dec.{leb}
+use lib.ListN.{length, replicate}
+use Rattle.field.specs.declared.Verdict.the-variants.{Refused}
 use Rattle.book.specs.Layout.{lastClass, sexOf, classOf, nextOf, fieldOf, countOffset, lapseOffset}
+use Rattle.book.specs.Check.{checkBook}
 use Rattle.settings.specs.Settings.{decrementsOf}
 use Rattle.reckoning.specs.Arithmetic.{rounded}
 use Rattle.reckoning.specs.Steps.{inForce, capped, discounted}
@@ -33,3 +36,6 @@ pub record Trials : Type 0 where
   pub t8 : (b : List ℕ) (i : ℕ) → OneMan b i 1_000_000 0 → inForceAfter b 1 i 1 ≡ 0
   pub t9 : (b : List ℕ) (i : ℕ) → OneMan b i 1_000_000 0 → inForceAfter b 2 i 1 ≡ 304_000_000
   pub t10 : (b : List ℕ) (i : ℕ) → OneMan b i 0 333_333 → (inForceAfter b 0 i 1 ≡ 666_667_000) × (inForceAfter b 0 i 2 ≡ 444_444_888)
+  -- 1,220 zero bytes, and any 1,219 bytes
+  pub t11 : checkBook 1 (replicate 1220 0) ≡ Refused 2 0
+  pub t12 : (b : List ℕ) → length b ≡ 1219 → checkBook 1 b ≡ Refused 1 1219

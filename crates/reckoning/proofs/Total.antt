@@ -1,0 +1,105 @@
+-- The distance of a total: distances add, so the five groups' liabilities together keep 500 n + 14,250. And what Totals promises. Assumes nothing.
+use mathlib.Core.Path.{_≡_, refl, sym, ap, _∙_}
+use mathlib.Core.List.{List}
+use Prim.Native.Nat.{ℕ, zero, suc, _+_, _*_, _≤_, _<_}
+use native.Mathlib.Nat.{mul-le-mul-right, mul-pos}
+use native.Mathlib.Omega.{arith}
+use lib.IntN.{ℤ, pos, _+ℤ_, _-ℤ_, _*ℤ_}
+use lib.ListN.{getD}
+use Rattle.field.specs.Verdicts.{refusalOf, countOf}
+use Rattle.field.specs.declared.Verdict.{Verdict}
+use Rattle.field.specs.declared.Verdict.the-variants.{Accepted, Refused}
+use Rattle.book.specs.Layout.{lastClass}
+use Rattle.book.specs.Check.{checkBook}
+use Rattle.book.specs.Cells.{sumOf, cellsOfGroup, cells}
+use Rattle.book.specs.Reading.{ValidBook}
+use Rattle.book.proofs.Cells.{groups-cells}
+use Rattle.book.proofs.Numbers.{zero-accepted}
+use Rattle.book.proofs.Valid.{valid}
+use Rattle.reckoning.specs.Steps.{SignedFraction}
+use Rattle.reckoning.specs.Bounds.{Within}
+use Rattle.reckoning.specs.Promises.{eachCell, eachGroup, distanceOf, totalDistanceOf}
+use Rattle.reckoning.specs.Replies.{groupLiability, exactGroupLiability}
+use Rattle.reckoning.specs.Totals.{sumGroups, totalOf, plusSigned, exactSumGroups, exactTotalOf, totalsOf, totalsFor, totalsReply, TotalsPromised}
+use Rattle.reckoning.specs.declared.TotalsReply.{TotalsReply}
+use Rattle.reckoning.proofs.Differences.{above, below, diff-self, diff-plus, diff-minus, diff-times, diff-abs, abs-diff}
+use Rattle.reckoning.proofs.Promised.{group-distance}
+
+within-more : {b c : ℕ} {z : ℤ} {x : SignedFraction} → b ≤ c → Within b z x → Within c z x
+within-more {b} {c} {z} {x} h p = record { under-positive = p .under-positive; distance = omega (arith, mul-le-mul-right (x .under) h, p .distance) }
+
+-- the same without signs
+apart : {b : ℕ} {z : ℤ} {x : SignedFraction} → Within b z x
+    → (above z * x .under + below (x .over) ≤ below z * x .under + above (x .over) + b * x .under) × (below z * x .under + above (x .over) ≤ above z * x .under + below (x .over) + b * x .under)
+apart {b} {z} {x} p =
+    abs-diff (z *ℤ pos (x .under) -ℤ x .over) _ _ (b * x .under)
+    (diff-minus (z *ℤ pos (x .under)) (x .over) _ _ _ _ (diff-times z _ _ (x .under) (diff-self z)) (diff-self (x .over))) (p .distance)
+
+within-plus : {b c : ℕ} {z w : ℤ} {x y : SignedFraction} → Within b z x → Within c w y → Within (b + c) (z +ℤ w) (plusSigned x y)
+within-plus {b} {c} {z} {w} {x} {y} p q = record {
+  under-positive = mul-pos (p .under-positive) (q .under-positive);
+  distance =
+      diff-abs ((z +ℤ w) *ℤ pos d -ℤ (x .over *ℤ pos (y .under) +ℤ y .over *ℤ pos (x .under))) _ _ ((b + c) * d)
+      (diff-minus ((z +ℤ w) *ℤ pos d) (x .over *ℤ pos (y .under) +ℤ y .over *ℤ pos (x .under)) _ _ _ _
+      (diff-times (z +ℤ w) _ _ d (diff-plus z w _ _ _ _ (diff-self z) (diff-self w)))
+      (diff-plus (x .over *ℤ pos (y .under)) (y .over *ℤ pos (x .under)) _ _ _ _ (diff-times (x .over) _ _ (y .under) (diff-self (x .over))) (diff-times (y .over) _ _ (x .under) (diff-self (y .over)))))
+      (omega (arith, mul-le-mul-right (y .under) (apart p .0), mul-le-mul-right (x .under) (apart q .0)))
+      (omega (arith, mul-le-mul-right (y .under) (apart p .1), mul-le-mul-right (x .under) (apart q .1)));
+}
+  where
+    d : ℕ
+    d = x .under * y .under
+
+within-none : Within 0 (pos 0) (record { over = pos 0; under = 1 })
+within-none = record { under-positive = omega arith; distance = omega arith }
+
+-- what f gives for the first j product groups, added
+sumFirst : (ℕ → ℕ) → ℕ → ℕ
+sumFirst f zero = 0
+sumFirst f (suc j) = sumFirst f j + f (suc j)
+
+-- distances of groups, added
+groups-within : (n : ℕ → ℕ) (l : ℕ → ℤ) (x : ℕ → SignedFraction) (j : ℕ)
+    → ((g : ℕ) → 1 ≤ g → g ≤ j → Within (distanceOf (n g)) (l g) (x g))
+    → Within (eachCell * sumFirst n j + eachGroup * j) (sumGroups l j) (exactSumGroups x j)
+unfolding sumGroups exactSumGroups sumFirst
+groups-within n l x zero each = within-more (omega arith) within-none
+groups-within n l x (suc j) each =
+    within-more (omega arith)
+    (within-plus (groups-within n l x j (λ g lo hi. each g lo (omega arith))) (each (suc j) (omega arith) (omega arith)))
+
+module _ (b : List ℕ) where
+  first-cells : sumFirst (cellsOfGroup b (lastClass 1)) 5 ≡ cells b (lastClass 1)
+  unfolding sumFirst sumOf
+  first-cells = omega (arith, groups-cells b (lastClass 1))
+
+  pub total-distance : (setting : ℕ) → ValidBook 1 b → Within (totalDistanceOf (cells b (lastClass 1))) (totalOf b setting) (exactTotalOf b setting)
+  unfolding totalOf exactTotalOf
+  total-distance setting v =
+      within-more (omega (arith, first-cells))
+      (groups-within (cellsOfGroup b (lastClass 1)) (groupLiability b setting) (exactGroupLiability b setting) 5 (λ g lo hi. group-distance b setting g v (lo, hi)))
+
+  each-total : (setting : ℕ) → setting < 8 → getD (totalsOf b) setting (pos 0) ≡ totalOf b setting
+  each-total zero h = refl
+  each-total (suc zero) h = refl
+  each-total (suc (suc zero)) h = refl
+  each-total (suc (suc (suc zero))) h = refl
+  each-total (suc (suc (suc (suc zero)))) h = refl
+  each-total (suc (suc (suc (suc (suc zero))))) h = refl
+  each-total (suc (suc (suc (suc (suc (suc zero)))))) h = refl
+  each-total (suc (suc (suc (suc (suc (suc (suc zero))))))) h = refl
+  each-total (suc (suc (suc (suc (suc (suc (suc (suc more)))))))) h = absurd (omega arith)
+
+  refusal-told : (v : Verdict) (n : ℕ) (ts ds : List ℤ) → totalsFor v n ts ds .refusal ≡ refusalOf v
+  refusal-told (Accepted m) n ts ds = refl
+  refusal-told (Refused q p) n ts ds = refl
+
+  pub totals-promised : (reply : TotalsReply) → reply ≡ totalsReply b → TotalsPromised b reply
+  unfolding totalsReply
+  totals-promised reply reply-is = record {
+    reply-is = reply-is;
+    distance = λ setting few e.
+        let n = countOf (checkBook 1 b) in
+        let accepted : checkBook 1 b ≡ Accepted n = zero-accepted 1 b (sym (refusal-told (checkBook 1 b) _ _ _) ∙ sym (ap (λ (r : TotalsReply). r .refusal) reply-is) ∙ e) in
+        rw (reply-is, accepted, each-total setting few) (total-distance setting (valid 1 b n accepted));
+  }
