@@ -85,7 +85,7 @@ fn reckoned(book: &[u8], n: u64) -> TotalsReply
     TotalsReply {
         refusal: 0,
         place: 0,
-        n: n,
+        n,
         totals: [
             base,
             deaths_up,
@@ -111,7 +111,7 @@ fn refused(number: u64, place: usize) -> TotalsReply
 {
     TotalsReply {
         refusal: number,
-        place: place,
+        place,
         n: 0,
         totals: [0; 8],
         differences: [0; 4],
