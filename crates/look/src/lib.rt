@@ -5,6 +5,7 @@ ghost use Rattle.look.specs.Looker.{lookUp, locatedIn, PartOf, Shows};
 use field::Verdict;
 
 // The refusal and its place, 0 and 0 where there is none, and where the record's bytes stand, 0 and 0 where refused.
+#[repr(C)]
 pub struct Located {
     pub refusal: u64,
     pub place: usize,

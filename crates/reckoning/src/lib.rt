@@ -5,6 +5,7 @@ pub enum GroupReply {
 }
 
 // Refusal and place are 0 where the book is accepted; every other field is 0 where it is refused.
+#[repr(C)]
 pub struct TotalsReply {
     pub refusal: u64,
     pub place: usize,
