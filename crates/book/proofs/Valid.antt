@@ -82,12 +82,14 @@ header-rules basis b n e =
     let h₃ = then-left _ _ _ h₄ in
     let h₂ = then-left _ _ _ h₃ in
     let year = within-means _ _ _ (need-true _ _ _ _ (then-right _ _ _ h₃)) in
+    -- what the test says, whatever its bound
+    let few = leb-true (records b) _ (need-true _ _ _ _ (then-right _ _ _ h₄)) in
     record {
       edition-one = eqb-true _ _ (need-true _ _ _ _ (then-left _ _ _ h₂));
       basis-is = eqb-true _ _ (need-true _ _ _ _ (then-right _ _ _ h₂));
       year-low = year .0;
       year-high = year .1;
-      few = leb-true _ _ (need-true _ _ _ _ (then-right _ _ _ h₄));
+      few = omega (arith, few);
       spare = eqb-true _ _ (need-true _ _ _ _ (then-right _ _ _ h₅));
       size = eqb-true _ _ (need-true _ _ _ _ (then-right _ _ _ e));
     }

@@ -5,7 +5,7 @@ use native.Mathlib.Decide.{decLe}
 use native.Mathlib.Nat.{min-le-left, min-comm, le-of-lt, mul-le-mul-right, le-of-mul-le-mul-right, mul-pos, div-mul-le-self, lt-div-mul-add}
 use native.Mathlib.Omega.{arith}
 use lib.Dec.{T, leb, leb→le, nleb→lt}
-use Rattle.reckoning.specs.Arithmetic.{Fraction, wholeFraction, plusFraction, partFraction, lesserFraction, pickFraction}
+use Rattle.reckoning.specs.Arithmetic.{Fraction, wholeFraction, plusFraction, lesserFraction, pickFraction, rounded, exact}
 
 -- r is at most x, and x is at most r and e millionths
 pub record Near (r : ℕ) (x : Fraction) (e : ℕ) : Type 0 where
@@ -31,7 +31,7 @@ near-plus {r} {s} {x} {y} {e} {f} n m = record {
 }
 
 -- times w, divided by d: the error is scaled, and the rounding adds one
-pub near-part : {r : ℕ} {x : Fraction} {e : ℕ} (w d g : ℕ) → 0 < d → e * w ≤ g * d → Near r x e → Near (r * w / d) (partFraction x w d) (g + 1_000_000)
+pub near-part : {r : ℕ} {x : Fraction} {e : ℕ} (w d g : ℕ) → 0 < d → e * w ≤ g * d → Near r x e → Near (rounded .part r w d) (exact .part x w d) (g + 1_000_000)
 near-part {r} {x} {e} w d g h k n = record {
   positive = mul-pos (n .positive) h;
   low = omega (arith, mul-le-mul-right (x .under) (div-mul-le-self (r * w) d), mul-le-mul-right w (n .low));

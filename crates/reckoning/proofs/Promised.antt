@@ -7,7 +7,7 @@ use native.Mathlib.Nat.{add-zero, eq-or-lt-of-le}
 use native.Mathlib.Omega.{arith}
 use borrow.Author.Tests.{le-leb}
 use lib.IntN.{ℤ}
-use lib.ListN.{length, getD, length-append, List·getD-append}
+use lib.ListN.{length, getD, drop, length-append, List·getD-append}
 use lib.Seq.{getD-append-add}
 use Rattle.field.specs.Verdicts.{countOf}
 use Rattle.field.specs.declared.Verdict.{Verdict}
@@ -87,7 +87,9 @@ module _ (b : List ℕ) (setting g : ℕ) (before : List ℕ) (n : ℕ) (e : gro
   group-cap k late year =
       let t = termsOf b setting g in
       let cs = groupCells b (decrementsOf b setting) g in
-      rw (e, premium-at t cs _ k _ year, outgo-at t cs _ k _ year) (cap-holds t cs k late)
+      let premium : getD (groupTable b setting g before) (4 * k) 0 ≡ countedPremium rounded t cs k = rw e (premium-at t cs 50 k (drop 200 before) year) in
+      let paid : getD (groupTable b setting g before) (4 * k + 1) 0 ≡ outgo rounded t cs k = rw e (outgo-at t cs 50 k (drop 200 before) year) in
+      rw (premium, paid) (cap-holds t cs k late)
 
 pub promised : (b : List ℕ) (setting g : ℕ) (before after : List ℕ) (reply : GroupReply)
     → reply ≡ groupReply b setting g (length before) → after ≡ groupTable b setting g before → GroupPromised b setting g before after reply

@@ -7,11 +7,11 @@ use Rattle.cell.proofs.Cell.next_year.Tie as tie
 
 returns : tie.Need-returns
 unfolding nextYear
-returns c = rw (lt-ltb _ _ (c .before .before .if1 .taken)) (cc)
+returns c = let i = c .before .before in rw (lt-ltb (i .before .before .args .self .class) 120 (i .if1 .taken)) (cc)
 
 returns-2 : tie.Need-returns-2
 unfolding nextYear
-returns-2 c = rw (le-ltb _ _ (c .if1 .left)) (cc)
+returns-2 c = rw (le-ltb (c .before .before .args .self .class) 120 (c .if1 .left)) (cc)
 
 survivors-requires : tie.Need-survivors-requires
 survivors-requires c κs = c .before .before .before .pre
