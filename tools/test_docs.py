@@ -1,0 +1,224 @@
+"""Tests that the documents stay true to the tree: what README and docs/ name is there, and is as they say.
+
+A rule makes items: where, whether it holds, what is wrong if not. Its docstring is its line in the report.
+"""
+
+import functools
+import re
+import sys
+
+from stream import ROOT, Report
+
+README, DOCS = ROOT / "README.md", ROOT / "docs"
+PAGES = [README, *sorted(DOCS.rglob("*.md"))]
+PROMISES, REVIEW, DECISIONS = DOCS / "PROMISES.md", DOCS / "REVIEW.md", DOCS / "DECISIONS.md"
+# In the tables of these pages a name stands after the path or the crate that has it.
+NAMING = [PROMISES, DOCS / "RECKONING.md"]
+
+LISTED = re.findall(r"^(\w+):(.*)", (ROOT / "crates.txt").read_text(encoding="utf-8"), re.M)
+CRATES = [crate for crate, _ in LISTED]
+OUTSIDE = {word for _, needs in LISTED for word in needs.split()} - set(CRATES)
+
+# A path from the root, or below crates/ where it leads to definitions, proofs, code or edits.
+PATH = (r"(?<![\w./-])(?:(?:crates|docs|tools|samples|include|callers)/"
+        r"|[a-z]\w*/(?:specs|proofs|src|must-fail)\b)[\w+./-]*")
+# A folder and after a colon files in it.
+LISTING = r"`([\w/]+/(?:specs|proofs))`: ([A-Z]\w+(?:, [A-Z]\w+)*)"
+EDIT = rf"(?<![\w./-])({'|'.join(CRATES)})/(\w+_\w+)\b(?!/)"
+# A file of definitions or proofs; spans before one in brackets; and what the names in a table cell go by.
+FILE = r"(?:crates/)?[a-z]\w*/(?:specs|proofs)/[\w+/]+(?:\.antt)?"
+BRACKETED = re.compile(rf"((?:`[^`]+`(?:, | and )?)+) \(({FILE})\)")
+TOKEN = re.compile(rf"`?(?P<path>{FILE})`?|`(?P<span>[^`]+)`"
+                   rf"|\b(?P<crate>{'|'.join(CRATES)})(?= `)|\b(?P<file>[A-Z]\w+)(?= [`(])")
+NAME = re.compile(r"(?:[A-Z]\w*::)?([\w′-]+)")
+# What only one machine has; in this form the pattern does not find itself.
+MACHINE = re.compile(r"/(?:work|tmp|root|home|opt|farm)/")
+
+
+@functools.cache
+def text_of(path):
+    """The text of a file."""
+    return path.read_text(encoding="utf-8", errors="replace")
+
+
+def text_at(path):
+    """The text of a file, or of all files in a folder."""
+    files = [path] if path.is_file() else sorted(file for file in path.rglob("*") if file.is_file())
+    return "\n".join(text_of(file) for file in files)
+
+
+def lines(page):
+    """The lines of a file, each with its place."""
+    for number, line in enumerate(text_of(page).splitlines(), 1):
+        yield f"{page.relative_to(ROOT)}:{number}", line
+
+
+def matches(pattern, pages=None):
+    """Every match of a pattern in the documents, with its place."""
+    for page in pages or PAGES:
+        for where, line in lines(page):
+            for match in re.finditer(pattern, line):
+                yield where, match
+
+
+def found(path):
+    """What a path means, from the root or below crates/, with or without .antt; None where there is none."""
+    forms = [base / (path + end) for base in (ROOT, ROOT / "crates") for end in (".antt", "")]
+    return next((form for form in forms if form.exists()), None)
+
+
+def defined(name, at):
+    """Whether a file or folder defines a name."""
+    name = re.escape(name) + r"(?![\w′-])"
+    form = rf"^\s*(?:(?:pub|abbrev|unfoldable) )*(?:{name} :|record {name})|\b(?:fn|const|struct|enum) {name}"
+    return re.search(form, text_at(at), re.M) is not None
+
+
+def cells(page):
+    """The cells of a page's tables: the place, the heading of the column, and the text."""
+    headings = []
+    for where, line in lines(page):
+        row = line.split("|")[1:-1] if line.startswith("|") else []
+        for heading, cell in zip(headings, row):
+            yield where, heading, cell
+        headings = (headings or row) if row else []
+
+
+def owned(text):
+    """The spans of a table cell, each with the place before it; and each place that a bare file name makes.
+
+    A place is a path, or a crate's source. A bare file name stands right before a span or a bracket; it is in
+    the folder of the path before it.
+    """
+    place = ""
+    for token in TOKEN.finditer(text):
+        folder = re.match(r".*(?:specs|proofs)/", place)
+        if token["path"] or token["crate"]:
+            place = token["path"] or token["crate"] + "/src"
+        elif token["file"] and folder:
+            place = folder[0] + token["file"]
+            yield place, ""
+        elif token["span"] and place:
+            yield place, token["span"]
+
+
+def named(where, place, span):
+    """The item that a place defines a span that is a name; without a span, that the place is there."""
+    at, name = found(place), NAME.fullmatch(span)
+    if not span:
+        return where, at is not None, f"there is no {place}"
+    # A place that is not there has an item of its own.
+    holds = at is None or name is None or defined(name[1], at)
+    return where, holds, f"{place} does not define {span}"
+
+
+def paths():
+    """Paths in the documents are there."""
+    for where, match in matches(PATH):
+        path = match[0].rstrip("./-")
+        yield where, found(path) is not None, f"there is no {path}"
+    for where, match in matches(LISTING):
+        for path in [f"{match[1]}/{file}" for file in match[2].split(", ")]:
+            yield where, found(path) is not None, f"there is no {path}"
+
+
+def links():
+    """Links of the documents lead to a file."""
+    for where, match in matches(r"\]\((?!\w+:)([^)#\s]+)"):
+        folder = (ROOT / where.rpartition(":")[0]).parent
+        yield where, (folder / match[1]).exists(), f"the link to {match[1]} leads nowhere"
+
+
+def edits():
+    """Must-fail edits in the documents are there, and PROMISES names every one."""
+    for where, match in matches(EDIT):
+        edit = ROOT / "crates" / match[1] / "must-fail" / f"{match[2]}.edit"
+        yield where, edit.is_file(), f"there is no edit {match[0]}"
+    told = {match[0] for _, match in matches(EDIT, [PROMISES])}
+    for edit in sorted((ROOT / "crates").glob("*/must-fail/*.edit")):
+        label = f"{edit.parent.parent.name}/{edit.stem}"
+        yield "docs/PROMISES.md", label in told, f"does not name the edit {label}"
+
+
+def names():
+    """Names beside a path or a crate are defined there."""
+    for where, match in matches(BRACKETED):
+        for span in re.findall("`([^`]+)`", match[1]):
+            yield named(where, match[2], span)
+    for page in NAMING:
+        for where, heading, cell in cells(page):
+            for place, span in owned(heading + " " + BRACKETED.sub("", cell)):
+                yield named(where, place, span)
+
+
+def functions():
+    """Functions named as CRATE::NAME are in the crate's source."""
+    for where, match in matches(r"(?<![\w:])([a-z]\w*)::([a-z]\w*)"):
+        if match[1] not in OUTSIDE:
+            holds = defined(match[2], ROOT / "crates" / match[1] / "src")
+            yield where, holds, f"there is no function {match[0]}"
+
+
+def calls():
+    """Calls of README's table are public and have no requires."""
+    for where, match in matches(r"^\| `(\w+)::(\w+)", [README]):
+        source = text_at(ROOT / "crates" / match[1] / "src")
+        head = re.search(rf"^ *pub .*\bfn {match[2]}\b(?:.*\{{$|(?s:.*?)^ *\{{$)", source, re.M)
+        call = f"{match[1]}::{match[2]}"
+        yield where, head is not None, f"{call} is no public function"
+        yield where, head is None or "requires" not in head[0], f"{call} has a requires"
+
+
+def counts():
+    """Line counts of docs/REVIEW.md are those of the files."""
+    for where, match in matches(r"^\| *`?([\w+./-]+/[\w+.-]+)`? *\| *([\d,]+) *\|", [REVIEW]):
+        at = found(match[1])
+        file = at is not None and at.is_file()
+        held = sum(1 for line in text_of(at).splitlines() if line.strip()) if file else "no file"
+        yield where, held == int(match[2].replace(",", "")), f"{match[1]} is {held} and not {match[2]}"
+
+
+def targets():
+    """Targets of make in the documents are in the Makefile."""
+    known = re.findall(r"^([a-z][\w-]*):(?!=)", text_of(ROOT / "Makefile"), re.M)
+    for where, match in matches(r"(?:`|^ {4}(?:\$ )?)make ([a-z][\w-]*)"):
+        yield where, match[1] in known, f"the Makefile has no target {match[1]}"
+
+
+def decisions():
+    """Decisions are numbered in their order, and those cited are there."""
+    known = [0]
+    for where, match in matches(r"^\| D(\d+) \|", [DECISIONS]):
+        yield where, int(match[1]) == known[-1] + 1, f"D{match[1]} comes after D{known[-1]}"
+        known.append(int(match[1]))
+    for where, match in matches(r"\bD(\d+)\b"):
+        yield where, int(match[1]) in known[1:], f"there is no decision {match[0]}"
+
+
+def machines():
+    """Documents, sources and tools name no path of a machine."""
+    tops = [top for top in sorted(ROOT.iterdir()) if top.name not in (".git", "target", "samples")]
+    for file in [file for top in tops for file in ([top] if top.is_file() else sorted(top.rglob("*")))]:
+        if file.is_file() and file.suffix != ".pyc" and file.name not in ("stdin", "stdout"):
+            for where, line in lines(file):
+                yield where, not MACHINE.search(line), "names a path of a machine"
+
+
+RULES = [paths, links, edits, names, functions, calls, targets, decisions, machines]
+
+
+def main():
+    """A line for each item that fails, and one for each rule where none does; a rule without items fails."""
+    report = Report()
+    for rule in RULES + ([counts] if REVIEW.is_file() else []):
+        items = list(rule())
+        wrong = dict.fromkeys((where, what) for where, holds, what in items if not holds)
+        for where, what in wrong:
+            report.test(where, False, what)
+        if not wrong:
+            report.test(f"{rule.__doc__.rstrip('.')} ({len(items)})", len(items) > 0, "there are none")
+    return report.finish()
+
+
+if __name__ == "__main__":
+    sys.exit(main())
