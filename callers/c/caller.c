@@ -1,0 +1,467 @@
+/* Calls the archive from C on books made here, and holds every reply against figures worked by hand. */
+#include <stdio.h>
+#include <stdlib.h>
+#include <string.h>
+
+#include "xaropinto.h"
+
+enum {
+    HEADER_SIZE = 1220,
+    RECORD_SIZE = 24,
+    MOST_RECORDS = 1694,
+    CHAINS = 14,
+    LAST_CLASS = 120,
+    SETTINGS = 8,
+    PRODUCT_GROUPS = 5,
+    /* where fields stand in the header */
+    RECORD_COUNT = 4,
+    HEADS = 8,
+    COST_RATES = 36,
+    CURVE = 56,
+    MORTALITY = 252,
+    /* and in a record */
+    LAPSE = 12,
+    /* the chain of PG2 men, counted from 0, and their product group */
+    PG2_MEN = 6,
+    PG2 = 2
+};
+
+/* The first number that 32 bits cannot hold. */
+#define HIGH_BIT ((size_t)1 << 32)
+
+/* ---- one line for each test, and the tally ---- */
+
+static int passed, failed;
+
+static void test(const char *name, int holds)
+{
+    printf("%s %s\n", holds ? "ok" : "FAILED", name);
+    if (holds)
+        passed++;
+    else
+        failed++;
+}
+
+/* ---- books ---- */
+
+/* The bytes have just this length, so that a tool that watches memory sees a read past their end. */
+typedef struct {
+    uint8_t *bytes;
+    size_t length;
+} parameter_book;
+
+typedef struct {
+    unsigned count, lapse, premium, claims;
+} contracts;
+
+static void *exact_memory(size_t bytes)
+{
+    void *memory = malloc(bytes ? bytes : 1);
+    if (!memory) {
+        puts("0 passed, 1 failed");
+        exit(1);
+    }
+    return memory;
+}
+
+static void put(parameter_book book, size_t at, size_t size, unsigned long number)
+{
+    for (size_t i = 0; i < size; i++)
+        book.bytes[at + i] = (uint8_t)(number >> (8 * i));
+}
+
+static size_t record_start(size_t number)
+{
+    return HEADER_SIZE + RECORD_SIZE * (number - 1);
+}
+
+/* Zero in every byte. */
+static parameter_book blank(size_t length)
+{
+    parameter_book book = {exact_memory(length), length};
+    memset(book.bytes, 0, length);
+    return book;
+}
+
+/* A valid header, all rates 0, all chains empty, and records that no chain reaches. */
+static parameter_book unlinked_book(size_t records)
+{
+    parameter_book book = blank(record_start(records + 1));
+    put(book, 0, 1, 1);
+    put(book, 1, 1, 1);
+    put(book, 2, 2, 2021);
+    put(book, RECORD_COUNT, 2, records);
+    return book;
+}
+
+static void put_record(parameter_book book, size_t number, size_t chain, size_t class, contracts held)
+{
+    size_t start = record_start(number);
+    put(book, start, 1, chain / 2 + 1);
+    put(book, start + 1, 1, chain % 2);
+    put(book, start + 2, 1, class);
+    put(book, start + 4, 2, class == LAST_CLASS ? 0 : number + 1);
+    put(book, start + 8, 4, held.count);
+    put(book, start + LAPSE, 4, held.lapse);
+    put(book, start + 16, 4, held.premium);
+    put(book, start + 20, 4, held.claims);
+}
+
+/* The book behind the paper's listing: ten contracts of PG2 men at class 120. */
+static parameter_book one_record_book(void)
+{
+    parameter_book book = unlinked_book(1);
+    contracts ten = {10, 0, 100000, 80000};
+    put(book, HEADS + 2 * PG2_MEN, 2, 1);
+    put(book, COST_RATES + 4 * (PG2 - 1), 4, 100000);
+    put_record(book, 1, PG2_MEN, LAST_CLASS, ten);
+    return book;
+}
+
+/* One man of PG2 who meets these amounts in the years k = 0 to years - 1, up to class 120. */
+static parameter_book one_man_book(size_t years, contracts each_year)
+{
+    parameter_book book = unlinked_book(years);
+    put(book, HEADS + 2 * PG2_MEN, 2, 1);
+    for (size_t k = 0; k < years; k++) {
+        each_year.count = k == 0;
+        put_record(book, k + 1, PG2_MEN, LAST_CLASS + 1 - years + k, each_year);
+    }
+    return book;
+}
+
+/* All 14 chains from class 0, everywhere one contract with claims of one centime; nobody dies or leaves. */
+static parameter_book full_book(void)
+{
+    parameter_book book = unlinked_book(MOST_RECORDS);
+    contracts one = {1, 0, 0, 1};
+    size_t number = 1;
+    for (size_t chain = 0; chain < CHAINS; chain++) {
+        put(book, HEADS + 2 * chain, 2, number);
+        for (size_t class = 0; class <= LAST_CLASS; class++)
+            put_record(book, number++, chain, class, one);
+    }
+    return book;
+}
+
+/* ---- year tables ---- */
+
+enum { LENT = 300 };
+
+static uint64_t mark(size_t number)
+{
+    return 0xA5A5A5A500000000u + number;
+}
+
+static uint64_t *marked_table(size_t numbers)
+{
+    uint64_t *table = exact_memory(numbers * sizeof *table);
+    for (size_t i = 0; i < numbers; i++)
+        table[i] = mark(i);
+    return table;
+}
+
+static int marks_stand(const uint64_t *table, size_t from, size_t to)
+{
+    for (size_t i = from; i < to; i++)
+        if (table[i] != mark(i))
+            return 0;
+    return 1;
+}
+
+/* ---- replies as they should be ---- */
+
+static int verdict_is(parameter_book book, uint64_t refusal, uint64_t place, uint64_t n)
+{
+    xaropinto_verdict reply = xaropinto_check(book.bytes, book.length);
+    return reply.refusal == refusal && reply.place == place && reply.n == n;
+}
+
+static int totals_are(parameter_book book, uint64_t n, const int64_t totals[8], const int64_t differences[4])
+{
+    xaropinto_totals_reply reply = xaropinto_totals(book.bytes, book.length);
+    return reply.refusal == 0 && reply.place == 0 && reply.n == n &&
+           memcmp(reply.totals, totals, sizeof reply.totals) == 0 &&
+           memcmp(reply.differences, differences, sizeof reply.differences) == 0;
+}
+
+static int totals_refused(parameter_book book, uint64_t refusal, uint64_t place)
+{
+    xaropinto_totals_reply reply = xaropinto_totals(book.bytes, book.length);
+    xaropinto_totals_reply due = {refusal, place, 0, {0}, {0}};
+    return memcmp(&reply, &due, sizeof due) == 0;
+}
+
+static int record_is(parameter_book book, size_t number, xaropinto_record_reply due)
+{
+    xaropinto_record_reply reply = xaropinto_record(book.bytes, book.length, number);
+    return memcmp(&reply, &due, sizeof due) == 0;
+}
+
+static int group_is(parameter_book book, size_t setting, size_t group, int64_t liability, uint64_t n)
+{
+    uint64_t *table = marked_table(XAROPINTO_TABLE_NUMBERS);
+    xaropinto_group_reply reply =
+        xaropinto_group(book.bytes, book.length, setting, group, table, XAROPINTO_TABLE_NUMBERS);
+    free(table);
+    return reply.refusal == 0 && reply.place == 0 && reply.liability == liability && reply.n == n;
+}
+
+/* The refusal is given, and of a table that has LENT numbers, not all of them lent, each is as it was. */
+static int group_refused(parameter_book book, size_t setting, size_t group, size_t numbers, uint64_t refusal,
+                         uint64_t place)
+{
+    uint64_t *table = marked_table(LENT);
+    xaropinto_group_reply reply = xaropinto_group(book.bytes, book.length, setting, group, table, numbers);
+    xaropinto_group_reply due = {refusal, place, 0, 0};
+    int holds = memcmp(&reply, &due, sizeof due) == 0 && marks_stand(table, 0, LENT);
+    free(table);
+    return holds;
+}
+
+enum { PREMIUM, OUTGO, DISCOUNTED_PREMIUM, DISCOUNTED_OUTGO };
+
+/* One number of PG2's year table. */
+static uint64_t table_number(parameter_book book, size_t setting, size_t k, size_t which)
+{
+    uint64_t *table = marked_table(XAROPINTO_TABLE_NUMBERS);
+    xaropinto_group(book.bytes, book.length, setting, PG2, table, XAROPINTO_TABLE_NUMBERS);
+    uint64_t number = table[4 * k + which];
+    free(table);
+    return number;
+}
+
+/* ---- tests ---- */
+
+static void test_sizes(void)
+{
+    test("replies_have_no_gaps", sizeof(xaropinto_verdict) == 24 && sizeof(xaropinto_group_reply) == 32 &&
+                                     sizeof(xaropinto_totals_reply) == 120 && sizeof(xaropinto_record_reply) == 32);
+}
+
+static void test_one_record(void)
+{
+    static const int64_t totals[8] = {-100000, -100000, -100000, -100000, -100000, -80000, -120000, -60000};
+    static const int64_t differences[4] = {0, 0, 40000, 40000};
+    parameter_book book = one_record_book();
+    int groups_hold = 1, empty_groups_hold = 1;
+    for (size_t setting = 0; setting < SETTINGS; setting++)
+        for (size_t group = 1; group <= PRODUCT_GROUPS; group++)
+            if (group == PG2)
+                groups_hold &= group_is(book, setting, group, totals[setting], 1);
+            else
+                empty_groups_hold &= group_is(book, setting, group, 0, 0);
+    test("check_counts_the_record_with_contracts", verdict_is(book, 0, 0, 1));
+    test("totals_are_those_of_the_listing", totals_are(book, 1, totals, differences));
+    test("group_gives_the_listing_for_pg2", groups_hold);
+    test("group_gives_nothing_for_the_other_groups", empty_groups_hold);
+    free(book.bytes);
+}
+
+static void test_year_table(void)
+{
+    parameter_book book = one_record_book();
+    uint64_t *table = marked_table(LENT);
+    xaropinto_group(book.bytes, book.length, 0, PG2, table, LENT);
+    int later_years = 1;
+    for (size_t i = 4; i < XAROPINTO_TABLE_NUMBERS; i++)
+        later_years &= table[i] == 0;
+    test("year_0_has_premium_and_outgo_twice",
+         table[0] == 1000000 && table[1] == 900000 && table[2] == 1000000 && table[3] == 900000);
+    test("years_after_class_120_are_0", later_years);
+    test("numbers_past_200_stay", marks_stand(table, XAROPINTO_TABLE_NUMBERS, LENT));
+    free(table);
+    free(book.bytes);
+}
+
+static void test_group_refusals(void)
+{
+    parameter_book book = one_record_book();
+    parameter_book refused = one_record_book();
+    put(refused, record_start(1) + LAPSE, 4, 1000001);
+    test("setting_8_is_refused", group_refused(book, 8, PG2, LENT, 14, 0));
+    test("setting_above_32_bits_is_refused", group_refused(book, HIGH_BIT, PG2, LENT, 14, 0));
+    test("largest_setting_is_refused", group_refused(book, (size_t)-1, PG2, LENT, 14, 0));
+    test("group_0_is_refused", group_refused(book, 0, 0, LENT, 15, 0));
+    test("group_6_is_refused", group_refused(book, 0, 6, LENT, 15, 0));
+    test("group_above_32_bits_is_refused", group_refused(book, 0, HIGH_BIT + PG2, LENT, 15, 0));
+    test("table_of_199_numbers_is_refused", group_refused(book, 0, PG2, 199, 16, 0));
+    test("table_of_no_numbers_is_refused", group_refused(book, 0, PG2, 0, 16, 0));
+    test("refused_book_leaves_the_table", group_refused(refused, 0, PG2, LENT, 12, 1232));
+    test("setting_comes_before_group_and_table_and_book", group_refused(refused, 8, 6, 0, 14, 0));
+    test("group_comes_before_table_and_book", group_refused(refused, 7, 6, 0, 15, 0));
+    test("table_comes_before_book", group_refused(refused, 7, 5, 199, 16, 0));
+    free(refused.bytes);
+    free(book.bytes);
+}
+
+static int all_calls_refuse(parameter_book book, uint64_t refusal, uint64_t place)
+{
+    xaropinto_record_reply due = {refusal, place, 0, 0};
+    return verdict_is(book, refusal, place, 0) && totals_refused(book, refusal, place) && record_is(book, 1, due) &&
+           group_refused(book, 0, PG2, LENT, refusal, place);
+}
+
+/* A book of this length whose header asks for so many records. */
+static int length_is_refused(size_t length, size_t records, uint64_t refusal)
+{
+    parameter_book book = blank(length);
+    parameter_book header = unlinked_book(0);
+    memcpy(book.bytes, header.bytes, length < HEADER_SIZE ? length : (size_t)HEADER_SIZE);
+    if (length >= HEADER_SIZE)
+        put(book, RECORD_COUNT, 2, records);
+    int holds = all_calls_refuse(book, refusal, length);
+    free(header.bytes);
+    free(book.bytes);
+    return holds;
+}
+
+static void test_book_refusals(void)
+{
+    parameter_book zeros = blank(HEADER_SIZE);
+    parameter_book lapse = one_record_book();
+    parameter_book head = one_record_book();
+    parameter_book rate = one_record_book();
+    put(lapse, record_start(1) + LAPSE, 4, 1000001);
+    put(head, HEADS, 2, 2);
+    put(rate, CURVE, 4, 200001);
+    test("no_bytes_are_refused", length_is_refused(0, 0, 1));
+    test("too_few_bytes_are_refused", length_is_refused(1219, 0, 1));
+    test("zero_bytes_are_refused_for_their_edition", all_calls_refuse(zeros, 2, 0));
+    test("a_byte_too_many_is_refused", length_is_refused(1245, 1, 5));
+    test("a_byte_too_few_is_refused", length_is_refused(1243, 1, 5));
+    test("the_longest_read_of_a_file_is_refused", length_is_refused(XAROPINTO_LONGEST_BOOK + 1, MOST_RECORDS, 5));
+    test("rate_200001_is_refused", all_calls_refuse(rate, 7, 56));
+    test("head_above_n_is_refused", all_calls_refuse(head, 9, 8));
+    test("lapse_above_one_is_refused", all_calls_refuse(lapse, 12, 1232));
+    put(rate, CURVE, 4, 200000);
+    test("rate_200000_passes", verdict_is(rate, 0, 0, 1));
+    free(rate.bytes);
+    free(head.bytes);
+    free(lapse.bytes);
+    free(zeros.bytes);
+}
+
+static void test_no_records(void)
+{
+    static const int64_t nothing[8] = {0};
+    parameter_book book = unlinked_book(0);
+    xaropinto_record_reply due = {9, 0, 0, 0};
+    int groups_hold = 1;
+    for (size_t group = 1; group <= PRODUCT_GROUPS; group++)
+        groups_hold &= group_is(book, 0, group, 0, 0);
+    test("no_records_are_accepted", verdict_is(book, 0, 0, 0));
+    test("no_records_give_no_totals", totals_are(book, 0, nothing, nothing));
+    test("no_records_give_no_liability", groups_hold);
+    test("no_records_leave_none_to_look_at", record_is(book, 0, due) && record_is(book, 1, due));
+    free(book.bytes);
+}
+
+static void test_record(void)
+{
+    parameter_book book = full_book();
+    xaropinto_record_reply first = {0, 0, 1220, 24}, second = {0, 0, 1244, 24}, last = {0, 0, 41852, 24};
+    xaropinto_record_reply none = {9, 0, 0, 0};
+    test("record_1_starts_behind_the_tables", record_is(book, 1, first));
+    test("record_2_starts_24_bytes_later", record_is(book, 2, second));
+    test("record_1694_ends_the_book", record_is(book, MOST_RECORDS, last));
+    test("record_0_is_refused", record_is(book, 0, none));
+    test("record_1695_is_refused", record_is(book, MOST_RECORDS + 1, none));
+    test("record_number_above_32_bits_is_refused", record_is(book, HIGH_BIT + 1, none));
+    test("record_number_whose_start_overflows_is_refused", record_is(book, ((size_t)1 << 61) + 1, none));
+    test("largest_record_number_is_refused", record_is(book, (size_t)-1, none));
+    free(book.bytes);
+}
+
+/* A chain has 121 - k cells in year k: 4,825 in fifty years, times 14 chains. In setting 7 the five percent of the
+ * first five years, rounded down by product group, are 177 for PG1 and 57 for each other group. */
+static void test_full_book(void)
+{
+    static const int64_t totals[8] = {67550, 67550, 67550, 67550, 67550, 67550, 67550, 67955};
+    static const int64_t differences[4] = {0, 0, 0, 405};
+    parameter_book book = full_book();
+    test("a_full_book_is_accepted", book.length == XAROPINTO_LONGEST_BOOK && verdict_is(book, 0, 0, MOST_RECORDS));
+    test("a_full_book_has_its_totals", totals_are(book, MOST_RECORDS, totals, differences));
+    test("pg1_has_six_chains", group_is(book, 0, 1, 28950, 726) && group_is(book, 7, 1, 29127, 726));
+    test("pg5_has_two_chains", group_is(book, 0, 5, 9650, 242) && group_is(book, 7, 5, 9707, 242));
+    free(book.bytes);
+}
+
+/* Year 0 and 0.913 times 0.9 of it; per contract 10,000,000 claims and 100,000 costs less 1,000,000 premium. Every
+ * setting but the base moves one of these: 0.8956 or 0.9304 live on, 0.87 or 0.93 stay, and so on. */
+static void test_settings(void)
+{
+    static const int64_t totals[8] = {16577470, 16434964, 16719976, 16328221, 16826719, 16613904, 16541036, 17488320};
+    static const int64_t differences[4] = {-285012, -498498, 72868, 910850};
+    contracts each_year = {0, 100000, 1000000, 10000000};
+    parameter_book book = one_man_book(2, each_year);
+    put(book, COST_RATES + 4 * (PG2 - 1), 4, 100000);
+    put(book, MORTALITY + 4 * (LAST_CLASS - 1), 4, 100000);
+    test("every_setting_and_difference_is_its_own", totals_are(book, 1, totals, differences));
+    free(book.bytes);
+}
+
+/* Trial figures T1 and T2. */
+static void test_discounting(void)
+{
+    contracts claims_of_99 = {0, 0, 0, 99}, claims_of_100 = {0, 0, 0, 100};
+    parameter_book falling = one_man_book(2, claims_of_99);
+    parameter_book rising = one_man_book(3, claims_of_100);
+    put(falling, CURVE, 4, -10000UL);
+    put(rising, CURVE + 4, 4, 10000);
+    test("t1_99_a_year_back_at_minus_one_percent_is_100", table_number(falling, 0, 1, DISCOUNTED_OUTGO) == 100);
+    test("t2_100_two_years_back_at_one_percent_is_98", table_number(rising, 0, 2, DISCOUNTED_OUTGO) == 98);
+    free(falling.bytes);
+    free(rising.bytes);
+}
+
+/* Trial figures T3 to T6. */
+static void test_cap(void)
+{
+    contracts rich = {0, 0, 1001, 900}, rounded = {0, 0, 1000, 899}, no_outgo = {0, 0, 1001, 0};
+    parameter_book book = one_man_book(6, rich);
+    test("t3_cap_starts_in_the_sixth_year", table_number(book, 0, 5, PREMIUM) == 1000);
+    test("t4_no_cap_in_the_fifth_year", table_number(book, 0, 4, PREMIUM) == 1001);
+    free(book.bytes);
+    book = one_man_book(6, rounded);
+    test("t5_cap_is_rounded_down", table_number(book, 0, 5, PREMIUM) == 998);
+    free(book.bytes);
+    book = one_man_book(6, no_outgo);
+    test("t6_no_outgo_leaves_no_premium", table_number(book, 0, 5, PREMIUM) == 0);
+    free(book.bytes);
+}
+
+/* Trial figures T7 to T10: a premium of 10,000,000 shows what is in force, in hundreds of billionths. */
+static void test_in_force(void)
+{
+    contracts stays = {0, 0, 10000000, 10000000}, leaves = {0, 333333, 10000000, 10000000};
+    parameter_book dying = one_man_book(3, stays);
+    parameter_book leaving = one_man_book(3, leaves);
+    for (size_t class = 0; class <= LAST_CLASS; class++)
+        put(dying, MORTALITY + 4 * class, 4, 1000000);
+    test("t7_mortality_weighs_870", table_number(dying, 0, 1, PREMIUM) == 1300000);
+    test("t8_mortality_up_is_cut_to_one", table_number(dying, 1, 1, PREMIUM) == 0);
+    test("t9_mortality_down_weighs_696", table_number(dying, 2, 1, PREMIUM) == 3040000);
+    test("t10_lapse_is_rounded_each_year", table_number(leaving, 0, 1, PREMIUM) == 6666670 &&
+                                               table_number(leaving, 0, 2, PREMIUM) == 4444448);
+    free(dying.bytes);
+    free(leaving.bytes);
+}
+
+int main(void)
+{
+    test_sizes();
+    test_one_record();
+    test_year_table();
+    test_group_refusals();
+    test_book_refusals();
+    test_no_records();
+    test_record();
+    test_full_book();
+    test_settings();
+    test_discounting();
+    test_cap();
+    test_in_force();
+    printf("%d passed, %d failed\n", passed, failed);
+    return failed != 0;
+}

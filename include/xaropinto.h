@@ -1,0 +1,105 @@
+/* The four calls on a parameter book, for C and C++ on x86-64 (System V). Link with libxaropinto.a or libxaropinto.so.
+ *
+ * docs/BOOK.md has the book's format, docs/RECKONING.md the reckoning. Amounts are centimes.
+ *
+ * Buffers. The caller owns the book and the table. A call only reads the book. Group alone writes, and only to
+ * numbers 0 to 199 of the table. No call keeps a pointer after it returns, and none allocates.
+ *
+ * Pointers. Each must be valid for its length and must not be null, also where the length is 0. The table must be
+ * aligned for uint64_t and must not overlap the book.
+ *
+ * Threads. Calls may run at the same time in several threads. They may share a book that no thread writes to; each
+ * Group call needs a table of its own.
+ *
+ * Replies. A refusal of 0 means accepted. Otherwise `refusal` says which rule is broken and `place` where; every
+ * other field of the reply is 0, and the table is as it was. No earlier call is trusted: each checks the whole book.
+ *
+ *   refusal  broken rule                                 place                       who mends it
+ *    1       the book has at least 1,220 bytes           its length                  desk that writes the file
+ *    2       edition                                     0                           desk that writes the file
+ *    3       age basis                                   1                           desk that writes the file
+ *    4       SST year, number of records N, bytes 6-7    2, 4 or 6: the first        desk that writes the file
+ *    5       the length is 1,220 + 24 N bytes            its length                  desk that writes the file
+ *    6       cost rate                                   its first byte              insurer's cost sheet
+ *    7       curve rate                                  its first byte              keeper of supervisor's tables
+ *    8       mortality                                   its first byte              keeper of supervisor's tables
+ *    9       a head or next is at most N                 its first byte              portfolio desk
+ *   10       code, sex, spare bytes of a linked record   the record's first byte     portfolio desk
+ *   11       class                                       the record's first byte + 2 portfolio desk
+ *   12       count, lapse, premium, claims               the first too large         portfolio desk
+ *   13       a chain ends at class 120, nowhere else     the record's first byte + 4 portfolio desk
+ *   14       the setting is 0 to 7                       0                           caller
+ *   15       the product group is 1 to 5                 0                           caller
+ *   16       the table has at least 200 numbers          0                           caller
+ *
+ * The first that applies is given: 14, 15, 16, then 1 to 8 by number and by place, then the chains one by one.
+ */
+#ifndef XAROPINTO_H
+#define XAROPINTO_H
+
+#include <stddef.h>
+#include <stdint.h>
+
+/* The longest book: 1,694 records. Whoever reads a file takes one byte more, to see that it runs on. */
+#define XAROPINTO_LONGEST_BOOK 41876
+/* The numbers that Group writes: four for each of fifty years. */
+#define XAROPINTO_TABLE_NUMBERS 200
+
+#ifdef __cplusplus
+extern "C" {
+#endif
+
+/* n: how many linked records of the book have a count that is not 0. */
+typedef struct {
+    uint64_t refusal;
+    uint64_t place;
+    uint64_t n;
+} xaropinto_verdict;
+
+/* liability: of the product group, negative where it is a credit. n: as above, of the group's records. */
+typedef struct {
+    uint64_t refusal;
+    uint64_t place;
+    int64_t liability;
+    uint64_t n;
+} xaropinto_group_reply;
+
+/* totals: by setting. differences: setting 1 less 2, 3 less 4, 5 less 6, 7 less 0. n: of the book. */
+typedef struct {
+    uint64_t refusal;
+    uint64_t place;
+    uint64_t n;
+    int64_t totals[8];
+    int64_t differences[4];
+} xaropinto_totals_reply;
+
+/* start: the place in the book of the record's first byte. length: 24. */
+typedef struct {
+    uint64_t refusal;
+    uint64_t place;
+    uint64_t start;
+    uint64_t length;
+} xaropinto_record_reply;
+
+/* Check: is this a book? Refusals 1 to 13. */
+xaropinto_verdict xaropinto_check(const uint8_t *book, size_t length);
+
+/* Group: the liability of one product group, PG1 to PG5, in one setting. Refusals 14, 15, 16, then 1 to 13.
+ *
+ * `numbers` is how many numbers the table has. Where accepted, year k from 0 to 49 has four from number 4 k on:
+ * premium after the cap, outgo, discounted premium, discounted outgo. Numbers from 200 on are as they were. */
+xaropinto_group_reply xaropinto_group(const uint8_t *book, size_t length, size_t setting, size_t group,
+                                      uint64_t *table, size_t numbers);
+
+/* Totals: the liabilities of the five product groups added, in each of the eight settings. Refusals 1 to 13. */
+xaropinto_totals_reply xaropinto_totals(const uint8_t *book, size_t length);
+
+/* Record: where record `number`, counted from 1, stands in the book, linked or not. Refusals 1 to 13; then 9 with
+ * place 0, the caller's, where the number is 0 or above N. */
+xaropinto_record_reply xaropinto_record(const uint8_t *book, size_t length, size_t number);
+
+#ifdef __cplusplus
+}
+#endif
+
+#endif
