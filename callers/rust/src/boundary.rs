@@ -1,0 +1,50 @@
+//! The declarations of `include/xaropinto.h`, in its order.
+
+#[repr(C)]
+pub struct Verdict {
+    pub refusal: u64,
+    pub place: u64,
+    pub n: u64,
+}
+
+#[repr(C)]
+pub struct GroupReply {
+    pub refusal: u64,
+    pub place: u64,
+    pub liability: i64,
+    pub n: u64,
+}
+
+#[repr(C)]
+pub struct TotalsReply {
+    pub refusal: u64,
+    pub place: u64,
+    pub n: u64,
+    pub totals: [i64; 8],
+    pub differences: [i64; 4],
+}
+
+#[repr(C)]
+pub struct RecordReply {
+    pub refusal: u64,
+    pub place: u64,
+    pub start: u64,
+    pub length: u64,
+}
+
+extern "C" {
+    pub fn xaropinto_check(book: *const u8, length: usize) -> Verdict;
+
+    pub fn xaropinto_group(
+        book: *const u8,
+        length: usize,
+        setting: usize,
+        group: usize,
+        table: *mut u64,
+        numbers: usize,
+    ) -> GroupReply;
+
+    pub fn xaropinto_totals(book: *const u8, length: usize) -> TotalsReply;
+
+    pub fn xaropinto_record(book: *const u8, length: usize, number: usize) -> RecordReply;
+}

@@ -1,0 +1,118 @@
+//! Safe calls of the proved check and reckoning of a parameter book.
+//!
+//! `include/xaropinto.h` says what each call answers and which refusals it gives. Nothing checks the
+//! declarations in `boundary` against the archive but the tests.
+
+mod boundary;
+
+use std::error::Error;
+use std::fmt;
+
+use boundary::{xaropinto_check, xaropinto_group, xaropinto_record, xaropinto_totals};
+
+/// The first rule that is broken, and the byte of the book where; 0 where none is named.
+#[derive(Clone, Copy, Debug, PartialEq, Eq)]
+pub struct Refusal {
+    pub number: u64,
+    pub place: u64,
+}
+
+impl fmt::Display for Refusal {
+    fn fmt(&self, line: &mut fmt::Formatter) -> fmt::Result {
+        write!(line, "refused {} {}", self.number, self.place)
+    }
+}
+
+impl Error for Refusal {}
+
+/// An accepted book.
+#[derive(Clone, Copy, Debug, PartialEq, Eq)]
+pub struct Accepted {
+    /// how many linked records have a count that is not 0
+    pub n: u64,
+}
+
+/// A product group in a setting.
+#[derive(Clone, Copy, Debug, PartialEq, Eq)]
+pub struct Group {
+    /// in centimes, negative where it is a credit
+    pub liability: i64,
+    /// how many linked records of the group have a count that is not 0
+    pub n: u64,
+}
+
+/// The five product groups together.
+#[derive(Clone, Copy, Debug, PartialEq, Eq)]
+pub struct Totals {
+    /// how many linked records have a count that is not 0
+    pub n: u64,
+    /// in centimes, by setting
+    pub totals: [i64; 8],
+    /// setting 1 less 2, 3 less 4, 5 less 6, 7 less 0
+    pub differences: [i64; 4],
+}
+
+/// Is this a book?
+pub fn check(book: &[u8]) -> Result<Accepted, Refusal> {
+    // SAFETY: a slice's pointer is not null and is valid for its length.
+    let reply = unsafe { xaropinto_check(book.as_ptr(), book.len()) };
+    unless_refused(reply.refusal, reply.place)?;
+    Ok(Accepted { n: reply.n })
+}
+
+/// The liability of product group 1 to 5 in setting 0 to 7.
+///
+/// Where accepted, the first 200 numbers of the table become, for each of fifty years: premium after
+/// the cap, outgo, discounted premium, discounted outgo. All others stay as they were.
+pub fn group(
+    book: &[u8],
+    setting: usize,
+    group: usize,
+    table: &mut [u64],
+) -> Result<Group, Refusal> {
+    // SAFETY: as in `check`; the table is lent to this call alone, so it does not overlap the book.
+    let reply = unsafe {
+        xaropinto_group(
+            book.as_ptr(),
+            book.len(),
+            setting,
+            group,
+            table.as_mut_ptr(),
+            table.len(),
+        )
+    };
+    unless_refused(reply.refusal, reply.place)?;
+    Ok(Group {
+        liability: reply.liability,
+        n: reply.n,
+    })
+}
+
+/// The liabilities of the five product groups added, in each of the eight settings.
+pub fn totals(book: &[u8]) -> Result<Totals, Refusal> {
+    // SAFETY: as in `check`.
+    let reply = unsafe { xaropinto_totals(book.as_ptr(), book.len()) };
+    unless_refused(reply.refusal, reply.place)?;
+    Ok(Totals {
+        n: reply.n,
+        totals: reply.totals,
+        differences: reply.differences,
+    })
+}
+
+/// The 24 bytes of a record, linked or not, as a part of the book; records are numbered from 1.
+pub fn record(book: &[u8], number: usize) -> Result<&[u8], Refusal> {
+    // SAFETY: as in `check`.
+    let reply = unsafe { xaropinto_record(book.as_ptr(), book.len(), number) };
+    unless_refused(reply.refusal, reply.place)?;
+    let start = reply.start as usize;
+    Ok(&book[start..start + reply.length as usize])
+}
+
+fn unless_refused(number: u64, place: u64) -> Result<(), Refusal> {
+    if number == 0 {
+        Ok(())
+    } else {
+        Err(Refusal { number, place })
+    }
+}

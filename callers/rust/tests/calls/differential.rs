@@ -1,0 +1,195 @@
+//! Random books, short and long, valid and damaged: every call held against its plain counterpart.
+
+use plain::book::{full_book, random_book, Kind};
+use plain::check;
+use plain::chooser::Chooser;
+use plain::damage::damage;
+use plain::layout::record_count;
+
+use crate::replies::{agreed_check, agreed_group, agreed_totals, archive_record};
+
+/// Numbers out of range, and some that would be in range if they lost their high bits.
+const ODD_NUMBERS: [usize; 6] = [0, 6, 8, (1 << 32) + 1, 1 << 63, usize::MAX];
+const TABLES: [usize; 5] = [0, 199, 200, 201, 300];
+
+/// Mostly short chains; a book of 14 full ones now and then.
+fn valid_book(chooser: &mut Chooser) -> Vec<u8> {
+    let longest_chain = chooser.pick(&[2, 2, 4, 4, 10, 30, 121]);
+    let most_chains = chooser.pick(&[1, 3, 6, 14]);
+    random_book(chooser, longest_chain, most_chains)
+}
+
+fn mostly_damaged_book(chooser: &mut Chooser) -> Vec<u8> {
+    let mut book = valid_book(chooser);
+    if chooser.percent(85) {
+        damage(&mut book, chooser);
+    }
+    book
+}
+
+/// Valid half of the time, so that there are figures to compare.
+fn valid_or_damaged_book(chooser: &mut Chooser) -> Vec<u8> {
+    if chooser.percent(50) {
+        valid_book(chooser)
+    } else {
+        mostly_damaged_book(chooser)
+    }
+}
+
+/// One of `usual`, now and then an odd number.
+fn mostly(usual: std::ops::Range<usize>, chooser: &mut Chooser) -> usize {
+    if chooser.percent(90) {
+        usual.start + chooser.below(usual.len())
+    } else {
+        chooser.pick(&ODD_NUMBERS)
+    }
+}
+
+fn assert_all_seen(times: &[usize]) {
+    for (refusal, times) in times.iter().enumerate() {
+        assert!(*times >= 10, "refusal {refusal} was seen {times} times");
+    }
+}
+
+fn full_books() -> Vec<(&'static str, Vec<u8>)> {
+    let mut chooser = Chooser::new(1_694);
+    [
+        ("believable", Kind::Believable),
+        ("anywhere", Kind::Anywhere),
+        ("at ends", Kind::AtEnds),
+    ]
+    .map(|(name, kind)| (name, full_book(&mut chooser, kind)))
+    .into()
+}
+
+#[test]
+fn verdicts_agree_and_every_refusal_is_reached() {
+    let seed = 41_876;
+    let mut chooser = Chooser::new(seed);
+    let mut seen = [0; 14];
+    for number in 0..20_000 {
+        let book = mostly_damaged_book(&mut chooser);
+        let verdict = agreed_check(&book, &format!("book {number} of seed {seed}"));
+        let refusal = verdict.map_or_else(|refusal| refusal.0, |_| 0);
+        seen[refusal as usize] += 1;
+    }
+    assert_all_seen(&seen);
+}
+
+#[test]
+fn cut_and_extended_books_agree() {
+    let mut chooser = Chooser::new(1_220);
+    let book = random_book(&mut chooser, 4, 3);
+    for length in 0..book.len() + 60 {
+        let mut changed = book.clone();
+        changed.resize(length, 0);
+        agreed_check(&changed, &format!("length {length}")).ok();
+        agreed_totals(&changed, &format!("length {length}")).ok();
+    }
+}
+
+#[test]
+fn groups_and_tables_agree_and_every_refusal_is_reached() {
+    let seed = 200;
+    let mut chooser = Chooser::new(seed);
+    let mut seen = [0; 17];
+    for number in 0..6_000 {
+        let book = valid_or_damaged_book(&mut chooser);
+        let setting = mostly(0..8, &mut chooser);
+        let group = mostly(1..6, &mut chooser);
+        let numbers = chooser.pick(&TABLES);
+        let name = format!("book {number} of seed {seed}");
+        let (reply, _) = agreed_group(&book, setting, group, numbers, &name);
+        seen[reply.map_or_else(|refusal| refusal.0, |_| 0) as usize] += 1;
+    }
+    assert_all_seen(&seen);
+}
+
+#[test]
+fn every_setting_and_group_agrees() {
+    let mut chooser = Chooser::new(85);
+    for number in 0..40 {
+        let book = valid_book(&mut chooser);
+        for setting in 0..8 {
+            for group in 1..=5 {
+                agreed_group(&book, setting, group, 201, &format!("book {number}"))
+                    .0
+                    .expect("a valid book");
+            }
+        }
+    }
+}
+
+#[test]
+fn odd_settings_groups_and_tables_agree() {
+    let mut chooser = Chooser::new(14);
+    for book in [valid_book(&mut chooser), vec![0; 1_219]] {
+        for setting in (0..10).chain(ODD_NUMBERS) {
+            for group in (0..8).chain(ODD_NUMBERS) {
+                for numbers in TABLES {
+                    agreed_group(&book, setting, group, numbers, "odd numbers")
+                        .0
+                        .ok();
+                }
+            }
+        }
+    }
+}
+
+#[test]
+fn groups_agree_on_full_books() {
+    for (name, book) in full_books() {
+        for setting in 0..8 {
+            for group in 1..=5 {
+                agreed_group(&book, setting, group, 300, name)
+                    .0
+                    .expect("a full book is accepted");
+            }
+        }
+    }
+}
+
+#[test]
+fn totals_agree_on_random_books() {
+    let seed = 8;
+    let mut chooser = Chooser::new(seed);
+    let mut accepted = 0;
+    for number in 0..1_500 {
+        let book = valid_or_damaged_book(&mut chooser);
+        let name = format!("book {number} of seed {seed}");
+        accepted += agreed_totals(&book, &name).is_ok() as usize;
+    }
+    assert!((800..1_200).contains(&accepted), "{accepted} accepted");
+}
+
+#[test]
+fn totals_agree_on_full_books() {
+    for (name, book) in full_books() {
+        let totals = agreed_totals(&book, name).expect("a full book is accepted");
+        assert_eq!(totals.n, agreed_check(&book, name).expect("accepted"));
+    }
+}
+
+#[test]
+fn records_agree() {
+    let seed = 24;
+    let mut chooser = Chooser::new(seed);
+    for number in 0..2_000 {
+        let book = mostly_damaged_book(&mut chooser);
+        let count = if book.len() < 6 {
+            0
+        } else {
+            record_count(&book)
+        };
+        let within = chooser.below(count + 1);
+        let far = [(1 << 16) + 1, (1 << 32) + 1, (1 << 61) + 1, usize::MAX];
+        for record in [0, 1, within, count, count + 1].into_iter().chain(far) {
+            let due = check::record(&book, record);
+            assert_eq!(
+                archive_record(&book, record),
+                due,
+                "book {number} of seed {seed}, record {record}"
+            );
+        }
+    }
+}

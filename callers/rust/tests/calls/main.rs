@@ -1,0 +1,7 @@
+//! The archive's replies, held against the paper's figures and against the second check and reckoning.
+
+mod differential;
+mod replies;
+mod threads;
+mod trial_figures;
+mod wrapper;
