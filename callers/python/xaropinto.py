@@ -1,0 +1,141 @@
+"""The proved check and reckoning of a parameter book, called through ctypes.
+
+`make lib` links the shared library. `include/xaropinto.h` says what each call answers and which refusals it gives.
+A book is `bytes` or anything with writable bytes, such as a `bytearray`; neither is copied, any other view is.
+"""
+
+import ctypes
+from pathlib import Path
+from typing import NamedTuple
+
+LIBRARY_PATH = Path(__file__).resolve().parents[2] / "target" / "lib" / "libxaropinto.so"
+TABLE_NUMBERS = 200
+WORD_LIMIT = 2**64
+
+
+class Verdict(NamedTuple):
+    """Refusal 0 means accepted; n counts the linked records whose count is not 0."""
+
+    refusal: int
+    place: int
+    n: int
+
+
+class GroupReply(NamedTuple):
+    """The liability of a product group in centimes, negative where it is a credit, and the group's n."""
+
+    refusal: int
+    place: int
+    liability: int
+    n: int
+
+
+class TotalsReply(NamedTuple):
+    """Totals by setting; differences of settings 1 less 2, 3 less 4, 5 less 6, 7 less 0."""
+
+    refusal: int
+    place: int
+    n: int
+    totals: tuple
+    differences: tuple
+
+
+class RecordReply(NamedTuple):
+    """Where a record starts in the book, and its length."""
+
+    refusal: int
+    place: int
+    start: int
+    length: int
+
+
+class _Verdict(ctypes.Structure):
+    _fields_ = [("refusal", ctypes.c_uint64), ("place", ctypes.c_uint64), ("n", ctypes.c_uint64)]
+
+
+class _GroupReply(ctypes.Structure):
+    _fields_ = [("refusal", ctypes.c_uint64), ("place", ctypes.c_uint64),
+                ("liability", ctypes.c_int64), ("n", ctypes.c_uint64)]
+
+
+class _TotalsReply(ctypes.Structure):
+    _fields_ = [("refusal", ctypes.c_uint64), ("place", ctypes.c_uint64), ("n", ctypes.c_uint64),
+                ("totals", ctypes.c_int64 * 8), ("differences", ctypes.c_int64 * 4)]
+
+
+class _RecordReply(ctypes.Structure):
+    _fields_ = [("refusal", ctypes.c_uint64), ("place", ctypes.c_uint64),
+                ("start", ctypes.c_uint64), ("length", ctypes.c_uint64)]
+
+
+_BOOK = [ctypes.c_char_p, ctypes.c_size_t]
+
+
+def _declared(name, reply, *more):
+    """A function of the library that takes a book and more."""
+    function = getattr(_LIBRARY, name)
+    function.restype = reply
+    function.argtypes = _BOOK + list(more)
+    return function
+
+
+_LIBRARY = ctypes.CDLL(str(LIBRARY_PATH))
+_CHECK = _declared("xaropinto_check", _Verdict)
+_GROUP = _declared("xaropinto_group", _GroupReply, ctypes.c_size_t, ctypes.c_size_t,
+                   ctypes.POINTER(ctypes.c_uint64), ctypes.c_size_t)
+_TOTALS = _declared("xaropinto_totals", _TotalsReply)
+_RECORD = _declared("xaropinto_record", _RecordReply, ctypes.c_size_t)
+
+
+def check(book):
+    """Is this a book?"""
+    reply = _CHECK(*_lent_book(book))
+    return Verdict(reply.refusal, reply.place, reply.n)
+
+
+def group(book, setting, product_group, table):
+    """The liability of a product group in a setting.
+
+    The table has writable 64-bit numbers, as `array.array("Q")` has. Where accepted, its first 200 become the fifty
+    years; all others stay as they were.
+    """
+    numbers = _lent_table(table)
+    reply = _GROUP(*_lent_book(book), _word(setting), _word(product_group), numbers, len(numbers))
+    return GroupReply(reply.refusal, reply.place, reply.liability, reply.n)
+
+
+def totals(book):
+    """The eight totals and the four differences."""
+    reply = _TOTALS(*_lent_book(book))
+    return TotalsReply(reply.refusal, reply.place, reply.n, tuple(reply.totals), tuple(reply.differences))
+
+
+def record(book, number):
+    """Where the record of this number, counted from 1, stands in the book."""
+    reply = _RECORD(*_lent_book(book), _word(number))
+    return RecordReply(reply.refusal, reply.place, reply.start, reply.length)
+
+
+def _lent_book(book):
+    """The book's bytes as an argument, and how many they are."""
+    if isinstance(book, bytes):
+        return book, len(book)
+    view = memoryview(book).cast("B")
+    if view.readonly:
+        return bytes(view), len(view)
+    return (ctypes.c_char * len(view)).from_buffer(view), len(view)
+
+
+def _lent_table(table):
+    """The table's own numbers."""
+    view = memoryview(table)
+    if view.itemsize != 8 or view.format not in ("Q", "L", "@Q", "@L") or view.ndim != 1:
+        raise TypeError("the table must have unsigned 64-bit numbers")
+    return (ctypes.c_uint64 * len(view)).from_buffer(view)
+
+
+def _word(number):
+    """A number that fits; ctypes would cut it silently."""
+    if not 0 <= number < WORD_LIMIT:
+        raise ValueError(f"{number} does not fit in 64 bits")
+    return number

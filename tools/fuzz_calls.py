@@ -1,0 +1,245 @@
+"""Random books, the shared library's replies to all four calls held against the second check and reckoning."""
+
+import argparse
+import random
+import sys
+from array import array
+from collections import Counter
+from typing import NamedTuple
+
+from book import empty_book, random_book
+from check import check, look
+from fuzz_check import keep_book, one_book
+from group_books import MANY_PRODUCTS, dense_full_book, highest_full_book, insurer_book
+from layout import RECORD_COUNT, record_start
+from reckoning import group, totals
+from stream import ROOT, Report
+
+sys.path.insert(0, str(ROOT / "callers" / "python"))
+
+DEFAULT_BOOKS = 2_000
+DEFAULT_SEED = 1_694
+# Below so many books a refusal may be missed by chance.
+BOOKS_FOR_COVERAGE = 1_000
+LEAST_TIMES = 3
+MOST_DIFFERENCES_SHOWN = 5
+
+SETTINGS = range(8)
+PRODUCT_GROUPS = range(1, 6)
+# Numbers out of range, and some that would be in range if they lost their high bits.
+ODD_NUMBERS = (8, 0, 6, 2**32 + 1, 2**63, 2**64 - 1)
+FAR_RECORDS = (2**16 + 1, 2**32 + 1, 2**61 + 1, 2**64 - 1)
+LENT_TABLES = (0, 199, 200, 201, 300)
+# Longer than any lent table, so that a number written past what was lent shows.
+TABLE_LENGTH = 320
+# How a book can be lent.
+BOOK_FORMS = (bytes, bytearray, memoryview)
+# One book in so many, for what takes the second reckoning long; both are even, as the numbers of valid books are.
+BOOKS_FOR_TOTALS = 8
+BOOKS_FOR_ALL_GROUPS = 60
+
+
+class Call(NamedTuple):
+    """A call on one book: its name, what else was asked, the reply that is due, and the library's."""
+
+    name: str
+    asked: str
+    due: tuple
+    given: tuple
+
+
+def check_calls(library, book):
+    """Check, however the book is lent."""
+    verdict = check(book)
+    due = (0, 0, verdict[1]) if verdict[0] == "accepted" else (*verdict[1:], 0)
+    for form in BOOK_FORMS:
+        yield Call("check", f"of {form.__name__}", due, tuple(library.check(form(book))))
+
+
+def record_call(library, book, number):
+    """The looker at one record."""
+    refusal, place, part = look(book, number)
+    start = 0 if refusal else record_start(number)
+    return Call("record", str(number), (refusal, place, start, len(part)), tuple(library.record(book, number)))
+
+
+def totals_call(library, book):
+    """Totals."""
+    refusal, place, n, by_setting, differences = totals(book)
+    due = (refusal, place, n, tuple(by_setting), tuple(differences))
+    return Call("totals", "of the book", due, tuple(library.totals(book)))
+
+
+def group_call(library, book, setting, product_group, lent, chooser):
+    """Group, with every number of a marked table, also those that are not lent."""
+    marks = [chooser.getrandbits(64) for _ in range(TABLE_LENGTH)]
+    table = array("Q", marks)
+    reply = library.group(book, setting, product_group, memoryview(table)[:lent])
+    *due, numbers = group(book, setting, product_group, lent)
+    if numbers is not None:
+        marks[:len(numbers)] = numbers
+    asked = f"{product_group} in setting {setting} with {lent} numbers"
+    return Call("group", asked, (*due, marks), (*reply, table.tolist()))
+
+
+def random_group_call(library, book, chooser):
+    """Group as it is mostly called, and now and then with an odd setting, group or table."""
+    setting = chooser.choice(SETTINGS if chooser.random() < 0.9 else ODD_NUMBERS)
+    product_group = chooser.choice(PRODUCT_GROUPS if chooser.random() < 0.9 else ODD_NUMBERS)
+    lent = chooser.choice((200, 201, 300) if chooser.random() < 0.8 else LENT_TABLES)
+    return group_call(library, book, setting, product_group, lent, chooser)
+
+
+def random_record_numbers(book, chooser):
+    """Some of the book's record numbers, both ends, and numbers that it does not have."""
+    count = RECORD_COUNT.read(book)
+    return {0, 1, count, count + 1, chooser.randint(0, count), chooser.choice(FAR_RECORDS)}
+
+
+def all_groups(library, book, chooser):
+    """Every setting and product group."""
+    for setting in SETTINGS:
+        for product_group in PRODUCT_GROUPS:
+            yield group_call(library, book, setting, product_group, chooser.choice((200, 201, 300)), chooser)
+
+
+def odd_groups(library, book, chooser):
+    """Every odd setting, product group and table."""
+    for setting in (0, 7, *ODD_NUMBERS):
+        for product_group in (1, 5, *ODD_NUMBERS):
+            for lent in LENT_TABLES:
+                yield group_call(library, book, setting, product_group, lent, chooser)
+
+
+def calls_on(library, book, number, chooser):
+    """All that is called on a random book."""
+    yield from check_calls(library, book)
+    for each in random_record_numbers(book, chooser):
+        yield record_call(library, book, each)
+    for _ in range(2):
+        yield random_group_call(library, book, chooser)
+    if number % BOOKS_FOR_TOTALS == 0 or check(book)[0] == "refused":
+        yield totals_call(library, book)
+    if number % BOOKS_FOR_ALL_GROUPS == 0:
+        yield from all_groups(library, book, chooser)
+
+
+def random_books(chooser, count):
+    """Valid and mostly damaged books in turn; the valid ones have now and then long chains."""
+    for number in range(count):
+        if number % 2:
+            yield one_book(chooser)
+        else:
+            least_class = chooser.choices((0, 60, 100, 117), weights=(1, 2, 5, 12))[0]
+            yield random_book(chooser, least_class, chooser.choice((1, 4, 14)))
+
+
+def random_calls(library, count, seed):
+    """(number, book, call) for every call on random books."""
+    chooser = random.Random(seed)
+    for number, book in enumerate(random_books(chooser, count)):
+        for call in calls_on(library, book, number, chooser):
+            yield number, book, call
+
+
+def fixed_calls(library, seed):
+    """(name, book, call) for books that no random one comes near, and for odd numbers on small ones."""
+    chooser = random.Random(seed)
+    for name, book in (("insurer", insurer_book(MANY_PRODUCTS, seed)), ("dense", dense_full_book(seed)),
+                       ("highest", highest_full_book())):
+        yield name, book, totals_call(library, book)
+        yield name, book, group_call(library, book, chooser.choice(SETTINGS), 1, 300, chooser)
+    for name, book in (("empty", empty_book()), ("zeros", bytes(1_220)), ("nothing", b"")):
+        yield name, book, totals_call(library, book)
+        yield name, book, record_call(library, book, 1)
+        for call in (*check_calls(library, book), *odd_groups(library, book, chooser)):
+            yield name, book, call
+
+
+class Tally:
+    """Counts calls, differences and refusals by the call's name, and keeps the first books that differ."""
+
+    def __init__(self, seed):
+        self.seed = seed
+        self.calls = Counter()
+        self.differences = Counter()
+        self.refusals = Counter()
+
+    def add(self, name, book, call):
+        """One call."""
+        self.calls[call.name] += 1
+        self.refusals[call.name, call.due[0]] += 1
+        if call.given != call.due:
+            self.differences[call.name] += 1
+            if self.differences.total() <= MOST_DIFFERENCES_SHOWN:
+                self.show(name, book, call)
+
+    def show(self, name, book, call):
+        """Keep the book and say what differs."""
+        print(f"difference: {keep_book(book, self.seed, name)}: {call.name} {call.asked}", end=" ")
+        if call.name == "group":
+            numbers = [at for at, (one, other) in enumerate(zip(call.due[4], call.given[4])) if one != other]
+            print(f"gives {call.given[:4]}, due is {call.due[:4]}; in the table differ {numbers[:8]}")
+        else:
+            print(f"gives {call.given}, due is {call.due}")
+
+    def test_agreement(self, report):
+        """No call differs."""
+        for name, times in sorted(self.calls.items()):
+            differing = self.differences[name]
+            report.test(f"{times} replies to {name} agree", differing == 0, f"{differing} differ")
+
+    def test_coverage(self, report):
+        """Every refusal of every call often enough."""
+        for name, last in (("check", 13), ("record", 13), ("group", 16), ("totals", 13)):
+            rare = [number for number in range(last + 1) if self.refusals[name, number] < LEAST_TIMES]
+            report.test(f"every refusal of {name} is seen", not rare, f"rare: {rare}")
+
+
+def raises(error, function, *arguments):
+    """Does the call end with this error?"""
+    try:
+        function(*arguments)
+    except error:
+        return True
+    return False
+
+
+def test_arguments(report, library):
+    """What the module itself turns away, since no 64-bit word or table could be made of it."""
+    book = empty_book()
+    report.test("a number above 64 bits is turned away", raises(ValueError, library.record, book, 2**64))
+    report.test("a number below 0 is turned away", raises(ValueError, library.group, book, -1, 1, array("Q")))
+    report.test("a table of signed numbers is turned away",
+                raises(TypeError, library.group, book, 0, 1, array("q", [0] * 200)))
+    report.test("a table that cannot be written is turned away",
+                raises(TypeError, library.group, book, 0, 1, memoryview(bytes(1_600)).cast("Q")))
+
+
+def main():
+    """Run and report."""
+    parser = argparse.ArgumentParser(description=__doc__)
+    parser.add_argument("--books", type=int, default=DEFAULT_BOOKS)
+    parser.add_argument("--seed", type=int, default=DEFAULT_SEED)
+    wanted = parser.parse_args()
+    print(f"seed {wanted.seed}")
+    report = Report()
+    try:
+        import xaropinto as library
+    except OSError as trouble:
+        report.test("the shared library is built by make lib", False, trouble)
+        return report.finish()
+    tally = Tally(wanted.seed)
+    for name, book, call in random_calls(library, wanted.books, wanted.seed):
+        tally.add(name, book, call)
+    for name, book, call in fixed_calls(library, wanted.seed):
+        tally.add(name, book, call)
+    test_arguments(report, library)
+    tally.test_agreement(report)
+    if wanted.books >= BOOKS_FOR_COVERAGE:
+        tally.test_coverage(report)
+    return report.finish()
+
+
+if __name__ == "__main__":
+    sys.exit(main())
