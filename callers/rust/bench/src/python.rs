@@ -1,0 +1,38 @@
+//! The Python integers: a script times them on a book in a file.
+
+use std::path::Path;
+use std::process::Command;
+use std::str::FromStr;
+
+use plain::reckoning::Totals;
+
+const SCRIPT: &str = "tools/time_totals.py";
+pub const RUNS: usize = 3;
+
+/// The least milliseconds, where the figures are those that are due.
+pub fn least_time(book: &Path, due: &Totals) -> Result<f64, String> {
+    let output = Command::new("python3")
+        .arg(SCRIPT)
+        .arg(book)
+        .arg(RUNS.to_string())
+        .output()
+        .map_err(|trouble| format!("python3 {SCRIPT}: {trouble}"))?;
+    let line = String::from_utf8_lossy(&output.stdout);
+    let (milliseconds, figures) = line
+        .trim_end()
+        .split_once(' ')
+        .ok_or_else(|| format!("{SCRIPT}: {}", String::from_utf8_lossy(&output.stderr)))?;
+    if figures != figures_of(due) {
+        return Err("the Python integers differ from the plain Rust".to_string());
+    }
+    f64::from_str(milliseconds).map_err(|trouble| format!("{SCRIPT}: {trouble}"))
+}
+
+/// n, the totals and the differences, as the script writes them.
+fn figures_of(totals: &Totals) -> String {
+    let mut figures = totals.n.to_string();
+    for figure in totals.totals.iter().chain(&totals.differences) {
+        figures += &format!(" {figure}");
+    }
+    figures
+}

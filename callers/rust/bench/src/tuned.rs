@@ -1,0 +1,316 @@
+//! Totals in 64 bits, as a good engineer would tune the paper's steps in plain Rust.
+//!
+//! The book is checked once and its chains are read once. Weights are worked into a chain's rates
+//! before its cells are walked, every product stays within 64 bits, and all divisors are constants
+//! but those of the curve. No walk looks whether anything is still in force.
+
+use plain::check::check;
+use plain::layout::*;
+use plain::reckoning::{chains_of, differences, Totals, SETTINGS, YEARS};
+use plain::Refusal;
+
+const MILLION: u64 = 1_000_000;
+const BILLION: u64 = 1_000_000_000;
+const SHIFTED_YEARS: usize = 5;
+const FIRST_CAPPED_YEAR: usize = 5;
+
+#[derive(Clone, Copy)]
+pub struct Tuning {
+    pub projections: Projections,
+    pub walk: Walk,
+}
+
+/// How many projections serve the eight settings.
+#[derive(Clone, Copy, PartialEq)]
+pub enum Projections {
+    /// one for each setting
+    Eight,
+    /// settings 5, 6 and 7 take the base setting's, from which only their costs and claims differ
+    Five,
+}
+
+/// In which order the years of a chain's cells are reckoned.
+#[derive(Clone, Copy)]
+pub enum Walk {
+    /// all years of a cell, then the next cell; each year waits for the one before
+    CellByCell,
+    /// one year of all cells, then the next year; cells do not wait for each other
+    YearByYear,
+}
+
+/// In thousandths, for the first five years and for the later ones.
+struct Weights {
+    mortality: [[u64; 2]; 2],
+    lapse: u64,
+    costs: [u64; 2],
+    claims: [u64; 2],
+}
+
+const BASE: Weights = Weights {
+    mortality: [[870, 870], [860, 860]],
+    lapse: 1_000,
+    costs: [1_000, 1_000],
+    claims: [1_000, 1_000],
+};
+
+const WEIGHTS: [Weights; SETTINGS] = [
+    BASE,
+    Weights {
+        mortality: [[1_044, 870], [1_032, 860]],
+        ..BASE
+    },
+    Weights {
+        mortality: [[696, 870], [688, 860]],
+        ..BASE
+    },
+    Weights {
+        lapse: 1_300,
+        ..BASE
+    },
+    Weights { lapse: 700, ..BASE },
+    Weights {
+        costs: [1_200, 1_000],
+        ..BASE
+    },
+    Weights {
+        costs: [800, 1_000],
+        ..BASE
+    },
+    Weights {
+        claims: [1_050, 1_000],
+        ..BASE
+    },
+];
+
+/// A record of a chain, with the mortality of its class and sex.
+struct Record {
+    count: u64,
+    mortality: u64,
+    lapse: u64,
+    premium: u64,
+    claims: u64,
+}
+
+struct Book {
+    cost_rates: [u64; PRODUCT_GROUPS],
+    /// 1,000,000 and the rate of year k
+    divisors: [u64; YEARS],
+    chains: [Vec<Record>; CHAINS],
+}
+
+/// A record under the weights of a setting; what lives on and what stays are in billionths.
+struct Row {
+    count: u64,
+    living_first: u64,
+    living_later: u64,
+    staying: u64,
+    premium: u64,
+    claims: u64,
+}
+
+#[derive(Clone, Copy)]
+struct Sums {
+    premium: [u64; YEARS],
+    claims: [u64; YEARS],
+}
+
+pub fn totals(bytes: &[u8], tuning: Tuning) -> Result<Totals, Refusal> {
+    let n = check(bytes)?;
+    let book = read(bytes);
+    let base = project(&book, &WEIGHTS[0], tuning.walk);
+    let mut totals = [0; SETTINGS];
+    for (setting, weights) in WEIGHTS.iter().enumerate() {
+        let shared = setting == 0 || setting >= 5 && tuning.projections == Projections::Five;
+        totals[setting] = if shared {
+            settle(&book, weights, &base)
+        } else {
+            settle(&book, weights, &project(&book, weights, tuning.walk))
+        };
+    }
+    let differences = differences(&totals);
+    Ok(Totals {
+        n,
+        totals,
+        differences,
+    })
+}
+
+fn read(bytes: &[u8]) -> Book {
+    Book {
+        cost_rates: std::array::from_fn(|group| four_bytes(bytes, COST_RATES + 4 * group) as u64),
+        divisors: std::array::from_fn(|k| divisor(bytes, k)),
+        chains: std::array::from_fn(|chain| read_chain(bytes, chain)),
+    }
+}
+
+fn divisor(bytes: &[u8], k: usize) -> u64 {
+    match k {
+        0 => MILLION,
+        _ => (MILLION as i64 + signed_four_bytes(bytes, CURVE + 4 * (k - 1)) as i64) as u64,
+    }
+}
+
+fn read_chain(bytes: &[u8], chain: usize) -> Vec<Record> {
+    let mut records = Vec::with_capacity(CLASSES);
+    let mut number = two_bytes(bytes, HEADS + 2 * chain) as usize;
+    while number != 0 {
+        let start = record_start(number);
+        let field = |at| four_bytes(bytes, at) as u64;
+        let class = bytes[start + CLASS] as usize;
+        records.push(Record {
+            count: field(start + COUNT),
+            mortality: field(mortality_place(sex_of_chain(chain), class)),
+            lapse: field(start + LAPSE),
+            premium: field(start + PREMIUM),
+            claims: field(start + CLAIMS),
+        });
+        number = two_bytes(bytes, start + NEXT) as usize;
+    }
+    records
+}
+
+/// Steps 1 and 2 for every product group.
+fn project(book: &Book, weights: &Weights, walk: Walk) -> [Sums; PRODUCT_GROUPS] {
+    let mut rows = Vec::with_capacity(CLASSES);
+    std::array::from_fn(|group| {
+        let mut sums = Sums {
+            premium: [0; YEARS],
+            claims: [0; YEARS],
+        };
+        for chain in chains_of(group + 1) {
+            weigh(&book.chains[chain], sex_of_chain(chain), weights, &mut rows);
+            match walk {
+                Walk::CellByCell => add_cell_by_cell(&rows, &mut sums),
+                Walk::YearByYear => add_year_by_year(&rows, &mut sums),
+            }
+        }
+        sums
+    })
+}
+
+fn weigh(records: &[Record], sex: usize, weights: &Weights, rows: &mut Vec<Row>) {
+    let [first, later] = weights.mortality[sex];
+    rows.clear();
+    rows.extend(records.iter().map(|record| Row {
+        count: record.count,
+        living_first: one_less(record.mortality, first),
+        living_later: one_less(record.mortality, later),
+        staying: one_less(record.lapse, weights.lapse),
+        premium: record.premium,
+        claims: record.claims,
+    }));
+}
+
+fn one_less(rate: u64, weight: u64) -> u64 {
+    BILLION - (rate * weight).min(BILLION)
+}
+
+fn add_cell_by_cell(rows: &[Row], sums: &mut Sums) {
+    for own in 0..rows.len() {
+        add_cell(&rows[own..], sums);
+    }
+}
+
+/// Walks the cell of the first row up to class 120 or year 49.
+fn add_cell(rows: &[Row], sums: &mut Sums) {
+    let rows = &rows[..rows.len().min(YEARS)];
+    let (first, later) = rows.split_at(rows.len().min(SHIFTED_YEARS));
+    let (first_premium, later_premium) = sums.premium.split_at_mut(first.len());
+    let (first_claims, later_claims) = sums.claims.split_at_mut(first.len());
+    let mut in_force = rows[0].count * BILLION;
+    for ((row, premium), claims) in first.iter().zip(first_premium).zip(first_claims) {
+        in_force = add_year(in_force, row, row.living_first, premium, claims);
+    }
+    for ((row, premium), claims) in later.iter().zip(later_premium).zip(later_claims) {
+        in_force = add_year(in_force, row, row.living_later, premium, claims);
+    }
+}
+
+/// In year k the cell of row i has reached row i + k.
+fn add_year_by_year(rows: &[Row], sums: &mut Sums) {
+    let mut in_force = [0; CLASSES];
+    for (in_force, row) in in_force.iter_mut().zip(rows) {
+        *in_force = row.count * BILLION;
+    }
+    for k in 0..rows.len().min(YEARS) {
+        let (premium, claims) = (&mut sums.premium[k], &mut sums.claims[k]);
+        for (in_force, row) in in_force.iter_mut().zip(&rows[k..]) {
+            let living = if k < SHIFTED_YEARS {
+                row.living_first
+            } else {
+                row.living_later
+            };
+            *in_force = add_year(*in_force, row, living, premium, claims);
+        }
+    }
+}
+
+/// Adds one cell's year to the sums; what is in force a year later.
+#[inline]
+fn add_year(in_force: u64, row: &Row, living: u64, premium: &mut u64, claims: &mut u64) -> u64 {
+    let split = Split::new(in_force);
+    *premium += split.times(row.premium);
+    *claims += split.times(row.claims);
+    Split::new(split.times(living)).times(row.staying)
+}
+
+/// A number below 10^15 in whole billions and the rest, so that its products stay within 64 bits.
+#[derive(Clone, Copy)]
+struct Split {
+    whole: u64,
+    rest: u64,
+}
+
+impl Split {
+    #[inline]
+    fn new(number: u64) -> Split {
+        Split {
+            whole: number / BILLION,
+            rest: number % BILLION,
+        }
+    }
+
+    /// Times a number of at most 1.2 times 10^9, over 10^9.
+    #[inline]
+    fn times(self, billionths: u64) -> u64 {
+        self.whole * billionths + self.rest * billionths / BILLION
+    }
+}
+
+/// Steps 3 to 6 for every product group, added.
+fn settle(book: &Book, weights: &Weights, sums: &[Sums; PRODUCT_GROUPS]) -> i64 {
+    let mut total = 0;
+    for (sums, cost_rate) in sums.iter().zip(book.cost_rates) {
+        for k in 0..YEARS {
+            let later = (k >= SHIFTED_YEARS) as usize;
+            let premium = sums.premium[k];
+            let cost = Split::new(premium).times(cost_rate * weights.costs[later]);
+            let outgo = sums.claims[k] * weights.claims[later] / 1_000 + cost;
+            let counted = if k < FIRST_CAPPED_YEAR {
+                premium
+            } else {
+                premium.min(10 * outgo / 9)
+            };
+            let [outgo, premium] = discounted([outgo, counted], book.divisors[k], k);
+            total += outgo as i64 - premium as i64;
+        }
+    }
+    total
+}
+
+/// Step 5 for both amounts of a year at once, since their divisions do not wait for each other.
+fn discounted(mut amounts: [u64; 2], divisor: u64, k: usize) -> [u64; 2] {
+    for _ in 0..k {
+        amounts = amounts.map(|amount| step_back(amount, divisor));
+    }
+    amounts
+}
+
+/// The split is for amounts of 18 times 10^12 and above.
+#[inline]
+fn step_back(amount: u64, divisor: u64) -> u64 {
+    match amount.checked_mul(MILLION) {
+        Some(product) => product / divisor,
+        None => amount / divisor * MILLION + amount % divisor * MILLION / divisor,
+    }
+}
