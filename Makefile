@@ -1,6 +1,6 @@
-# `make` lists the targets. Only the toolchain, a POSIX shell, make and Python 3 are needed.
+# `make` lists the targets. The toolchain, a POSIX shell, make and Python 3 are needed; gcc and cargo for the callers.
 .DEFAULT_GOAL := help
-.PHONY: help test check fuzz streams samples
+.PHONY: help test check fuzz streams samples lib callers bench
 
 BOOK ?= samples/one_record.book
 N ?= 20000
@@ -25,6 +25,19 @@ streams: ## write the test programs' streams anew
 
 samples: ## write the sample books anew
 	@python3 tools/sample_books.py write
+
+lib: ## prove the C boundary and put its archive and shared library under target/lib
+	@mkdir -p target/lib && rt staticlib desk > target/lib/build.log 2>&1 || { cat target/lib/build.log; exit 1; }
+	@cp target/staticlib/libdesk.a target/lib/libxaropinto.a
+	@gcc -shared -o target/lib/libxaropinto.so -Wl,--whole-archive target/lib/libxaropinto.a -Wl,--no-whole-archive
+
+callers: ## run the tests of the callers in C, Rust and Python
+	@python3 tools/callers.py
+	@python3 tools/fuzz_calls.py
+
+bench: lib ## time Totals beside Rust and Python: make bench OPTIONS=--instructions counts instructions too
+	@CARGO_TARGET_DIR=target/cargo cargo run --quiet --offline --locked --release --package bench \
+		--manifest-path callers/rust/Cargo.toml -- $(OPTIONS)
 
 # A program is proved before it is built.
 target/bin/verdicts:

@@ -20,6 +20,8 @@ OUTSIDE = [
     ("the stream of group figures, against the fractions", PYTHON + ["tools/group_stream.py", "test"]),
     ("the sample books", PYTHON + ["tools/sample_books.py", "test"]),
     ("random books against the second check", PYTHON + ["tools/fuzz_check.py"]),
+    ("the callers in C and Rust", PYTHON + ["tools/callers.py"]),
+    ("the caller in Python, on random books", PYTHON + ["tools/fuzz_calls.py"]),
 ]
 
 
@@ -45,6 +47,9 @@ def part(name, command):
         failed = 1
     if failed:
         print(text.rstrip())
+    else:
+        # What an optional program would have tested.
+        print("".join(line + "\n" for line in lines if line.startswith("not run: ")), end="")
     print(f"{'ok' if not failed else 'FAILED'} {name}: {passed} passed, {failed} failed"
           f" ({time.monotonic() - began:.0f} s)", flush=True)
     return passed, failed
