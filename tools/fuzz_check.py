@@ -1,6 +1,5 @@
 """Random books, the built program's verdicts on them held against the independent check."""
 
-import argparse
 import random
 import sys
 from collections import Counter
@@ -9,8 +8,9 @@ from itertools import zip_longest
 from book import random_book
 from check import check
 from damage import damaged
-from program import ProgramFailed, run_program
-from stream import ROOT, Report, verdict_line
+from fuzz import cover_verdicts, keep_book, read_arguments
+from program import ProgramFailed, verdict_lines
+from stream import Report, verdict_line
 
 DEFAULT_BOOKS = 1_000
 DEFAULT_SEED = 41_876
@@ -27,18 +27,10 @@ def one_book(chooser):
     return book if chooser.random() < 0.15 else damaged(book, chooser)
 
 
-def keep_book(book, seed, number):
-    """Keep a book on which the two verdicts differ; its path."""
-    path = ROOT / "target" / f"differing-book-{seed}-{number}"
-    path.parent.mkdir(exist_ok=True)
-    path.write_bytes(book)
-    return path.relative_to(ROOT)
-
-
 def test_books(report, books, seed):
     """Compare every line; the verdicts that the check gives, counted."""
     due = [check(book) for book in books]
-    lines, code = run_program(books)
+    lines, code = verdict_lines(books)
     pairs = zip_longest(map(verdict_line, due), lines)
     differing = [(number, verdict, line)
                  for number, (verdict, line) in enumerate(pairs) if verdict != line]
@@ -51,21 +43,9 @@ def test_books(report, books, seed):
     return Counter(verdict[1] if verdict[0] == "refused" else 0 for verdict in due)
 
 
-def test_coverage(report, times):
-    """Every verdict often enough."""
-    for number in range(14):
-        words = f"refusal {number}" if number else "accepted"
-        report.test(f"{words} seen {times[number]} times", times[number] >= LEAST_TIMES,
-                    f"at least {LEAST_TIMES} are due")
-
-
 def main():
     """Run and report."""
-    parser = argparse.ArgumentParser(description=__doc__)
-    parser.add_argument("--books", type=int, default=DEFAULT_BOOKS)
-    parser.add_argument("--seed", type=int, default=DEFAULT_SEED)
-    wanted = parser.parse_args()
-    print(f"seed {wanted.seed}")
+    wanted = read_arguments(__doc__, DEFAULT_BOOKS, DEFAULT_SEED)
     chooser = random.Random(wanted.seed)
     books = [one_book(chooser) for _ in range(wanted.books)]
     report = Report()
@@ -74,10 +54,7 @@ def main():
     except ProgramFailed as trouble:
         report.test("the program gives its verdicts", False, trouble)
         return report.finish()
-    if wanted.books >= BOOKS_FOR_COVERAGE:
-        test_coverage(report, times)
-    else:
-        print("seen:", ", ".join(f"{number or 'accepted'} {times[number]}" for number in range(14)))
+    cover_verdicts(report, times, BOOKS_FOR_COVERAGE, LEAST_TIMES)
     return report.finish()
 
 

@@ -1,10 +1,9 @@
-"""The built program of verdicts, fed with a stream of books."""
+"""The built programs, run on the bytes of their input."""
 
 import subprocess
 
 from stream import ROOT, book_frame
 
-PROGRAM = ROOT / "target" / "bin" / "verdicts"
 MOST_SECONDS = 600
 
 
@@ -12,15 +11,26 @@ class ProgramFailed(Exception):
     """The program is not built, or could not be run to its end."""
 
 
-def run_program(books):
-    """The lines that the program writes for these books in their order, and its exit code."""
-    if not PROGRAM.is_file():
-        raise ProgramFailed(f"{PROGRAM.relative_to(ROOT)} is not built yet")
-    stream = b"".join(book_frame(book) for book in books)
+def program_path(name):
+    """Where a built program stands."""
+    path = ROOT / "target" / "bin" / name
+    if not path.is_file():
+        raise ProgramFailed(f"{path.relative_to(ROOT)} is not built yet")
+    return path
+
+
+def run_program(name, sent):
+    """The bytes that a program writes for those on its input, and its exit code."""
     try:
-        run = subprocess.run([PROGRAM], input=stream, stdout=subprocess.PIPE,
+        run = subprocess.run([program_path(name)], input=sent, stdout=subprocess.PIPE,
                              timeout=MOST_SECONDS, check=False)
     except (OSError, subprocess.TimeoutExpired) as trouble:
-        raise ProgramFailed(f"the program could not be run to its end: {trouble}") from trouble
+        raise ProgramFailed(f"{name} could not be run to its end: {trouble}") from trouble
+    return run.stdout, run.returncode
+
+
+def verdict_lines(books):
+    """The lines that the program of verdicts writes for these books in their order, and its exit code."""
+    written, code = run_program("verdicts", b"".join(map(book_frame, books)))
     # What follows the last byte 10 is no line.
-    return run.stdout.decode("ascii", "replace").split("\n")[:-1], run.returncode
+    return written.decode("ascii", "replace").split("\n")[:-1], code

@@ -4,7 +4,7 @@ import sys
 
 from book import one_record_book
 from layout import changed, record
-from program import run_program
+from program import verdict_lines
 from stream import ROOT, Report
 
 FOLDER = ROOT / "samples"
@@ -34,7 +34,7 @@ def write():
 def test():
     """The files are as built, nothing else lies beside them, and the built check says what is told."""
     report = Report()
-    lines, _ = run_program([book for _, book, _ in SAMPLES])
+    lines, _ = verdict_lines([book for _, book, _ in SAMPLES])
     for (name, book, verdict), line in zip(SAMPLES, lines + [""] * len(SAMPLES)):
         path = FOLDER / name
         report.test(f"samples/{name} is as built", path.is_file() and path.read_bytes() == book)

@@ -4,7 +4,7 @@ import sys
 
 from layout import (CHAINS, COST_RATES, CURVE, FIRST_RECORD_PLACE, HEADER_FIELDS,
                     MORTALITY, MOST_BYTES_TAKEN, RECORD_SIZE, record)
-from program import ProgramFailed, run_program
+from program import ProgramFailed, verdict_lines
 
 DESK = "the desk that writes the file"
 COSTS = "the insurer's cost sheet"
@@ -70,7 +70,7 @@ def main():
     try:
         with open(sys.argv[1], "rb") as file:
             book = file.read(MOST_BYTES_TAKEN)
-        (line,), code = run_program([book])
+        (line,), code = verdict_lines([book])
         if code != 0:
             raise ProgramFailed(f"the program ended with code {code}")
         print(line)
