@@ -22,6 +22,7 @@ streams: ## write the test programs' streams anew
 	@python3 tools/verdict_stream.py write
 	@python3 tools/record_stream.py write
 	@python3 tools/group_stream.py write
+	@python3 tools/listing_stream.py write
 
 samples: ## write the sample books anew
 	@python3 tools/sample_books.py write

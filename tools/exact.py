@@ -68,9 +68,8 @@ def exact_sums(values, setting, product_group):
     return [(Fraction(premium[k], SHARE**k), Fraction(claims[k], SHARE**k)) for k in YEARS]
 
 
-def exact_liability(book, setting, product_group):
-    """The exact liability of a product group of an accepted book."""
-    values = read_values(book)
+def group_liability(values, setting, product_group):
+    """The exact liability of a product group."""
     liability = Fraction(0)
     for k, (premium, claims) in enumerate(exact_sums(values, setting, product_group)):
         cost_share = values.cost_rates[product_group - 1] * MILLIONTH
@@ -81,3 +80,15 @@ def exact_liability(book, setting, product_group):
         growth = 1 + values.curve[k - 1] * MILLIONTH if k else Fraction(1)
         liability += (outgo - premium) / growth**k
     return liability
+
+
+def exact_liability(book, setting, product_group):
+    """The exact liability of a product group of an accepted book."""
+    return group_liability(read_values(book), setting, product_group)
+
+
+def exact_totals(book):
+    """The exact totals of an accepted book by setting, each its five groups added."""
+    values = read_values(book)
+    product_groups = range(1, len(GROUPS) + 1)
+    return [sum(group_liability(values, setting, each) for each in product_groups) for setting in MOVES]

@@ -18,6 +18,7 @@ OUTSIDE = [
     ("the stream of records", PYTHON + ["tools/record_stream.py", "test"]),
     ("the second reckoning, by hand-worked examples", PYTHON + ["tools/test_reckoning.py"]),
     ("the stream of group figures, against the fractions", PYTHON + ["tools/group_stream.py", "test"]),
+    ("the stream of listings, against the fractions", PYTHON + ["tools/listing_stream.py", "test"]),
     ("the sample books", PYTHON + ["tools/sample_books.py", "test"]),
     ("random books against the second check", PYTHON + ["tools/fuzz_check.py"]),
     ("the callers in C and Rust", PYTHON + ["tools/callers.py"]),

@@ -55,17 +55,22 @@ def cover_calls(report, accepted):
     report.test("two full books", sum(len(e.call.book) == LONGEST_BOOK for e in accepted) == 2)
 
 
-def cover_amounts(report, accepted):
-    """Both ends of every range that enters a figure, and cells with and without contracts."""
-    cells = {entry.name: entry.cells() for entry in accepted}
+def cover_ends(report, books, cells):
+    """Both ends of every range that enters a figure."""
     for position, amount in enumerate(record(1).amounts):
-        numbers = {cell[position] for group_cells in cells.values() for cell in group_cells}
         report.covers(f"both ends of {amount.name.split(', ')[1]}", {amount.low, amount.high},
-                      numbers)
+                      {cell[position] for cell in cells})
     for words, places in (("cost rates", COST_RATES), ("the curve", CURVE),
                           ("mortality", MORTALITY)):
-        rates = {place.read(entry.call.book) for entry in accepted for place in places}
+        rates = {place.read(book) for book in books for place in places}
         report.covers(f"both ends of {words}", {places[0].low, places[0].high}, rates)
+
+
+def cover_amounts(report, accepted):
+    """Amounts and rates at their ends, and cells with and without contracts."""
+    cells = {entry.name: entry.cells() for entry in accepted}
+    cover_ends(report, [entry.call.book for entry in accepted],
+               [cell for group_cells in cells.values() for cell in group_cells])
     thinned = [e.name for e in accepted if 0 < e.reply[3] < len(cells[e.name])]
     bare = [e.name for e in accepted if e.reply[3] == 0 and cells[e.name]]
     report.test("cells without contracts, some and all", thinned and bare)
@@ -88,21 +93,19 @@ def cover_figures(report, accepted):
             if outgo != 0:
                 (at_cap if premium == 10 * outgo // 9 else below_cap).add(k)
     report.test("no premium above the cap from k = 5", not above_cap, above_cap)
-    behind = [entry.name for entry in accepted if has_rich_subgroup_behind_poor(entry.call)]
+    behind = [entry.name for entry in accepted if entry.call.product_group == 1
+              and has_rich_subgroup_behind_poor(read_values(entry.call.book), entry.call.setting)]
     report.test("a rich subgroup of PG1 behind a poor one", behind)
     report.covers("the cap reached in every year from k = 5", range(5, 50), at_cap)
     report.covers("the cap not reached in every year from k = 5", range(5, 50), below_cap)
 
 
-def has_rich_subgroup_behind_poor(call):
+def has_rich_subgroup_behind_poor(values, setting):
     """Would the caps of PG1a, PG1b and PG1c apart cut more, beyond what rounding does?"""
-    if call.product_group != 1:
-        return False
-    values = read_values(call.book)
-    whole = year_table(values, call.setting, 1)
+    whole = year_table(values, setting, 1)
     apart = [year_table(replace(values, portfolios={
         chain: portfolio for chain, portfolio in values.portfolios.items()
-        if CHAINS[chain].code == code}), call.setting, 1) for code in (1, 2, 3)]
+        if CHAINS[chain].code == code}), setting, 1) for code in (1, 2, 3)]
     return any(year.premium > sum(part.premium for part in parts) + 10
                for year, *parts in zip(whole, *apart))
 

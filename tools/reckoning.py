@@ -132,6 +132,11 @@ def cells_with_contracts(values, product_group):
                for cell in portfolio.cells)
 
 
+def cells_by_group(values):
+    """The n of each product group."""
+    return [cells_with_contracts(values, each) for each in SUBGROUP_CODES]
+
+
 def caller_refusal(setting, product_group, table_length):
     """The first refusal that the caller causes, or 0."""
     if not 0 <= setting <= 7:
@@ -166,17 +171,22 @@ def totals(book):
     if refusal != 0:
         return refusal, place, 0, [0] * len(FIRST_YEARS), [0] * len(DIFFERENCES)
     values = read_values(book)
-    n = sum(cells_with_contracts(values, each) for each in SUBGROUP_CODES)
+    n = sum(cells_by_group(values))
     by_setting = [sum(liability_of(year_table(values, setting, each)) for each in SUBGROUP_CODES)
                   for setting in range(len(FIRST_YEARS))]
     differences = [by_setting[one] - by_setting[other] for one, other in DIFFERENCES]
     return 0, 0, n, by_setting, differences
 
 
-def listing(book):
-    """What the program writes for the bytes on its input."""
-    refusal, place, n, by_setting, _ = totals(book[:MOST_BYTES_TAKEN])
+def listing_of(reply):
+    """The lines for a reply of totals."""
+    refusal, place, n, by_setting, _ = reply
     if refusal != 0:
         return f"refused {refusal} {place}\n".encode("ascii")
     lines = [f"{setting} {total} {n}\n" for setting, total in enumerate(by_setting)]
     return "".join(lines).encode("ascii")
+
+
+def listing(book):
+    """What the program writes for the bytes on its input."""
+    return listing_of(totals(book[:MOST_BYTES_TAKEN]))

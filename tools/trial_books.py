@@ -32,10 +32,10 @@ def in_force_book(mortality, lapse):
     return one_contract_book([(10_000_000, 0)] * 21, lapse, mortality=rates)
 
 
-def rich_and_poor_book():
-    """Premium alone in PG1a, claims alone in PG1b, from the first year to the eighth."""
-    return make_book(Values(portfolios={PG1A_MEN: contract([(1_000, 0)] * 8),
-                                        PG1B_WOMEN: contract([(0, 1_000)] * 8)}))
+def rich_and_poor_book(rich=PG1A_MEN, poor=PG1B_WOMEN):
+    """Premium alone in one chain, claims alone in another, from the first year to the eighth."""
+    return make_book(Values(portfolios={rich: contract([(1_000, 0)] * 8),
+                                        poor: contract([(0, 1_000)] * 8)}))
 
 
 def richer_than_the_group_book():
@@ -69,11 +69,11 @@ def loss_in_discounting_book():
     return one_contract_book([(0, 98)] * 50, curve=FALLING_CURVE)
 
 
-def loss_in_every_step_book():
-    """A contract that all but ends in a year, then loses a whole unit at each rounding."""
+def loss_in_every_step_book(chains=(PG2_MEN,)):
+    """For each chain of men a contract that all but ends in a year, then loses a unit at each rounding."""
     mortality = [[1] * CLASSES for _ in range(2)]
     mortality[0][71] = 1_000_000
     cells = list(contract([(0, 98)] + [(0, 9_889_000)] * 49, lapse=1).cells)
     cells[0] = cells[0]._replace(lapse=999_923)
     return make_book(Values(curve=FALLING_CURVE, mortality=mortality,
-                            portfolios={PG2_MEN: Portfolio(71, tuple(cells))}))
+                            portfolios=dict.fromkeys(chains, Portfolio(71, tuple(cells)))))
