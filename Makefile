@@ -1,9 +1,9 @@
 # `make` lists the targets. The toolchain, a POSIX shell, make and Python 3 are needed; gcc and cargo for the callers.
 .DEFAULT_GOAL := help
-.PHONY: help test check fuzz streams samples lib callers bench
+.PHONY: help test check list fuzz streams samples lib callers bench
 
 BOOK ?= samples/one_record.book
-N ?= 20000
+N ?= 2000
 SEED ?= 1
 
 help: ## list the targets
@@ -15,8 +15,12 @@ test: ## prove everything from nothing and run the outside tests
 check: target/bin/verdicts ## say the verdict on a book: make check BOOK=path
 	@python3 tools/say_verdict.py $(BOOK)
 
-fuzz: target/bin/verdicts ## hold the check against the second one on random books: make fuzz N=20000 SEED=1
+list: target/bin/listing ## write the listing of a book: make list BOOK=path
+	@target/bin/listing < $(BOOK)
+
+fuzz: target/bin/verdicts target/bin/listing ## hold both programs against Python on random books: make fuzz N=2000 SEED=1
 	@python3 tools/fuzz_check.py --books $(N) --seed $(SEED)
+	@python3 tools/fuzz_listing.py --books $(N) --seed $(SEED)
 
 streams: ## write the test programs' streams anew
 	@python3 tools/verdict_stream.py write
@@ -24,7 +28,7 @@ streams: ## write the test programs' streams anew
 	@python3 tools/group_stream.py write
 	@python3 tools/listing_stream.py write
 
-samples: ## write the sample books anew
+samples: ## write the sample books and their listings anew
 	@python3 tools/sample_books.py write
 
 lib: ## prove the C boundary and put its archive and shared library under target/lib
@@ -41,5 +45,5 @@ bench: lib ## time Totals beside Rust and Python: make bench OPTIONS=--instructi
 		--manifest-path callers/rust/Cargo.toml -- $(OPTIONS)
 
 # A program is proved before it is built.
-target/bin/verdicts:
-	@mkdir -p target && rt check verdicts > target/check.log 2>&1 || { cat target/check.log; exit 1; }
+target/bin/verdicts target/bin/listing: target/bin/%:
+	@mkdir -p target && rt check $* > target/check.log 2>&1 || { cat target/check.log; exit 1; }

@@ -13,14 +13,18 @@ PYTHON = [sys.executable]
 # What runs after the proofs, in this order: a name for the line, and the command.
 OUTSIDE = [
     ("must-fail edits fit the proof files", PYTHON + ["tools/must_fail_reasons.py"]),
+    ("the documents, against the tree", PYTHON + ["tools/test_docs.py"]),
     ("the second check, by hand-worked examples", PYTHON + ["tools/test_check.py"]),
     ("the stream of verdicts", PYTHON + ["tools/verdict_stream.py", "test"]),
     ("the stream of records", PYTHON + ["tools/record_stream.py", "test"]),
     ("the second reckoning, by hand-worked examples", PYTHON + ["tools/test_reckoning.py"]),
     ("the stream of group figures, against the fractions", PYTHON + ["tools/group_stream.py", "test"]),
     ("the stream of listings, against the fractions", PYTHON + ["tools/listing_stream.py", "test"]),
+    ("the listing program, by the paper's figures", PYTHON + ["tools/test_listing.py"]),
     ("the sample books", PYTHON + ["tools/sample_books.py", "test"]),
     ("random books against the second check", PYTHON + ["tools/fuzz_check.py"]),
+    ("random listings against the second reckoning and the fractions",
+     PYTHON + ["tools/fuzz_listing.py"]),
     ("the callers in C and Rust", PYTHON + ["tools/callers.py"]),
     ("the caller in Python, on random books", PYTHON + ["tools/fuzz_calls.py"]),
 ]

@@ -1,10 +1,11 @@
-"""The sample books of samples/: written, or tested to be as built and to have the verdict that is told of them."""
+"""The sample books and their listings: written, or tested to be as built and to have the verdict told."""
 
 import sys
 
 from book import one_record_book
 from layout import changed, record
 from program import verdict_lines
+from reckoning import listing
 from stream import ROOT, Report
 
 FOLDER = ROOT / "samples"
@@ -15,32 +16,39 @@ def refused_book():
     return changed(one_record_book(), (record(1).amounts[1], 1_000_001))
 
 
-# Each sample's file, its bytes and the verdict that README or docs/BOOK tells of it.
+# Each sample's name, its bytes and the verdict that README or docs/BOOK tells of it.
 SAMPLES = [
-    ("one_record.book", one_record_book(), "accepted 1"),
-    ("lapse_too_large.book", refused_book(), "refused 12 1232"),
+    ("one_record", one_record_book(), "accepted 1"),
+    ("lapse_too_large", refused_book(), "refused 12 1232"),
 ]
+
+
+def files():
+    """Each file of samples/ by its name: the books, and beside each its listing."""
+    books = {f"{name}.book": book for name, book, _ in SAMPLES}
+    return books | {f"{name}.listing": listing(book) for name, book, _ in SAMPLES}
 
 
 def write():
     """Write every sample."""
     FOLDER.mkdir(exist_ok=True)
-    for name, book, _ in SAMPLES:
-        (FOLDER / name).write_bytes(book)
-        print(f"samples/{name}: {len(book)} bytes")
+    for name, content in files().items():
+        (FOLDER / name).write_bytes(content)
+        print(f"samples/{name}: {len(content)} bytes")
     return 0
 
 
 def test():
     """The files are as built, nothing else lies beside them, and the built check says what is told."""
     report = Report()
-    lines, _ = verdict_lines([book for _, book, _ in SAMPLES])
-    for (name, book, verdict), line in zip(SAMPLES, lines + [""] * len(SAMPLES)):
+    for name, due in files().items():
         path = FOLDER / name
-        report.test(f"samples/{name} is as built", path.is_file() and path.read_bytes() == book)
-        report.test(f"samples/{name} is {verdict}", line == verdict, line)
+        report.test(f"samples/{name} is as built", path.is_file() and path.read_bytes() == due)
     held = sorted(path.name for path in FOLDER.iterdir())
-    report.test("samples/ holds nothing else", held == sorted(name for name, _, _ in SAMPLES), held)
+    report.test("samples/ holds nothing else", held == sorted(files()), held)
+    lines, _ = verdict_lines([book for _, book, _ in SAMPLES])
+    for (name, _, verdict), line in zip(SAMPLES, lines + [""] * len(SAMPLES)):
+        report.test(f"samples/{name}.book is {verdict}", line == verdict, line)
     return report.finish()
 
 
