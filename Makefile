@@ -1,6 +1,6 @@
 # `make` lists the targets. The toolchain, a POSIX shell, make and Python 3 are needed; gcc and cargo for the callers.
 .DEFAULT_GOAL := help
-.PHONY: help test check list fuzz streams samples lib callers bench
+.PHONY: help test check list fuzz streams samples lib callers bench FORCE
 
 BOOK ?= samples/one_record.book
 N ?= 2000
@@ -44,6 +44,6 @@ bench: lib ## time Totals beside Rust and Python: make bench OPTIONS=--instructi
 	@CARGO_TARGET_DIR=target/cargo cargo run --quiet --offline --locked --release --package bench \
 		--manifest-path callers/rust/Cargo.toml -- $(OPTIONS)
 
-# A program is proved before it is built.
-target/bin/verdicts target/bin/listing: target/bin/%:
+# A program is proved before it is built; where nothing has changed since, that takes a moment.
+target/bin/verdicts target/bin/listing: target/bin/%: FORCE
 	@mkdir -p target && rt check $* > target/check.log 2>&1 || { cat target/check.log; exit 1; }

@@ -2,7 +2,8 @@
 
 import sys
 
-from book import one_record_book
+from book import PG2_MEN, Cell, Portfolio, make_book, one_record_book
+from group_books import MANY_PRODUCTS, dense_full_book, flat_values, insurer_book
 from layout import changed, record
 from program import verdict_lines
 from reckoning import listing
@@ -16,9 +17,23 @@ def refused_book():
     return changed(one_record_book(), (record(1).amounts[1], 1_000_001))
 
 
+def worked_book():
+    """The book that docs/RECKONING works through by hand."""
+    values = flat_values(150_000, 0, 0)
+    values.curve[:2] = [10_000, -5_000]
+    values.mortality[0][118:] = [400_001, 500_000, 600_000]
+    cells = (Cell(3, 70_001, 60_123, 30_456), Cell(2, 100_000, 60_321, 40_877),
+             Cell(1, 0, 60_111, 56_789))
+    values.portfolios[PG2_MEN] = Portfolio(118, cells)
+    return make_book(values)
+
+
 # Each sample's name, its bytes and the verdict that README or docs/BOOK tells of it.
 SAMPLES = [
     ("one_record", one_record_book(), "accepted 1"),
+    ("worked_example", worked_book(), "accepted 3"),
+    ("small_insurer", insurer_book(MANY_PRODUCTS, 2021), "accepted 315"),
+    ("full", dense_full_book(2021), "accepted 1694"),
     ("lapse_too_large", refused_book(), "refused 12 1232"),
 ]
 
