@@ -1,5 +1,5 @@
 -- Discounting in whole numbers: one year more, and that it fits. Assumes nothing.
-use mathlib.Core.Path.{_≡_}
+use mathlib.Core.Path.{_≡_, sym, ap, _∙_}
 use Prim.Native.Nat.{ℕ, zero, suc, _+_, _-_, _*_, _/_, _≤_, _<_}
 use native.Mathlib.Nat.{div-le-of-le-mul, mul-le-mul-right}
 use native.Mathlib.Numerals.{sub-one}
@@ -11,10 +11,14 @@ pub discounted-none : (d j x : ℕ) → j ≡ 0 → x ≡ discounted rounded d j
 unfolding discounted
 discounted-none d j x e = rw e
 
-pub discounted-more : (d j x : ℕ) → 0 < j → discounted rounded d j x ≡ discounted rounded d (j - 1) x * 1_000_000 / d
+discounted-more : (d j x : ℕ) → 0 < j → discounted rounded d j x ≡ discounted rounded d (j - 1) x * 1_000_000 / d
 unfolding discounted
 discounted-more d zero x h = omega arith
 discounted-more d (suc j) x h = rw (sub-one (suc j))
+
+-- one step on the amount discounted for one year less
+pub one-back : (d j x y r : ℕ) → 0 < j → y ≡ discounted rounded d (j - 1) x → r ≡ y * 1_000_000 / d → r ≡ discounted rounded d j x
+one-back d j x y r h e s = s ∙ ap (λ (z : ℕ). z * 1_000_000 / d) e ∙ sym (discounted-more d j x h)
 
 -- a year back at a divisor of at least 990,000 adds at most a fiftieth of the first bound
 pub back-most : (d j y : ℕ) → 990_000 ≤ d → 0 < j → j ≤ 49 → y ≤ 4_000_000_000_000_000 + 82_000_000_000_000 * (j - 1)

@@ -9,9 +9,9 @@ ghost use lib.ListN.{length, take, drop};
 ghost use Rattle.book.specs.Reading.{ValidBook};
 ghost use Rattle.settings.specs.Settings.{OutgoWeighed};
 ghost use Rattle.reckoning.specs.Arithmetic.{rounded};
-ghost use Rattle.reckoning.specs.Steps.{capped, discounted};
+ghost use Rattle.reckoning.specs.Steps.{capped};
 ghost use Rattle.reckoning.specs.Portfolio.{costRateOf, divisorOf};
-ghost use Rattle.settling.specs.Settling.{outgoOf, yearFrom, fourOf};
+ghost use Rattle.settling.specs.Settling.{Discounted, outgoOf, yearFrom, fourOf};
 use settings::Outgoings;
 
 // The cost rate of a product group, in millionths of premium.
@@ -44,15 +44,26 @@ fn step_back(x: u64, d: u64) -> u64
     arith::mul_div(x, 1_000_000, d)
 }
 
-// An amount discounted for j years with the divisor d: one step on the amount discounted for one year less.
-fn discount(d: u64, j: usize, x: u64) -> u64
-    requires { ⌜ (990000 ≤ d) × (d ≤ 1200000) × (j ≤ 49) × (x ≤ 4000000000000000) ⌝ }
-    ensures { λ r. ⌜ (r ≡ discounted rounded d j x) × (r ≤ 4000000000000000 + 82000000000000 * j) ⌝ }
+// A year's counted premium and outgo.
+pub struct Amounts {
+    pub premium: u64,
+    pub outgo: u64,
+}
+
+// Both discounted for j years with the divisor d: one step on the amounts discounted for one year less.
+// Two amounts at once, since neither's division waits for the other's.
+fn discount(d: u64, j: usize, x: Amounts) -> Amounts
+    requires { ⌜ (990000 ≤ d) × (d ≤ 1200000) × (j ≤ 49) × (x .premium ≤ 4000000000000000) × (x .outgo ≤ 4000000000000000) ⌝ }
+    ensures { λ r. ⌜ Discounted d j x r ⌝ }
 {
     if j == 0 {
         return x;
     }
-    step_back(discount(d, j - 1, x), d)
+    let y = discount(d, j - 1, x);
+    Amounts {
+        premium: step_back(y.premium, d),
+        outgo: step_back(y.outgo, d),
+    }
 }
 
 // The outgo of year k: weighted claims, and the cost of the premium before the cap.
@@ -90,11 +101,19 @@ pub fn settle_year(w: Outgoings, k: usize, rate: u64, d: u64, premium: u64, clai
 {
     let out = outgo(w, k, rate, premium, claims);
     let cap = counted(k, premium, out);
+    let then = discount(
+        d,
+        k,
+        Amounts {
+            premium: cap,
+            outgo: out,
+        },
+    );
     Year {
         premium: cap,
         outgo: out,
-        dpremium: discount(d, k, cap),
-        doutgo: discount(d, k, out),
+        dpremium: then.premium,
+        doutgo: then.outgo,
     }
 }
 

@@ -1,9 +1,8 @@
--- `settling::discount` meets its contract: each call is one step on the amount discounted for one year less. The measure is the number of years.
+-- `settling::discount` meets its contract: each call is one step on the amounts discounted for one year less. The measure is the number of years.
 -- Assumes nothing.
-use mathlib.Core.Path.{sym, ap, _∙_}
-use Prim.Native.Nat.{ℕ, _*_, _/_, _<_}
 use native.Mathlib.Omega.{arith}
-use Rattle.settling.proofs.Discounting.{discounted-none, discounted-more, back-most}
+use Rattle.settling.proofs.Discounting.{discounted-none, one-back, back-most}
+use Prim.Native.Nat.{ℕ, _<_}
 use borrow.Fn.Kinds.{In}
 use borrow.Fn.PlainCycle.{Measures, is, falls, and}
 use Rattle.settling.proofs.discount.Reads as discount
@@ -29,7 +28,14 @@ discount-returns : (t : ℕ) → discount-lts.Need-returns (
   step-back-reads.Asked,
   step-back-reads.Learnt,
 ) (discount-at t) discount.Post
-discount-returns t c = (discounted-none (c .before .args .d) (c .before .args .j) (c .before .args .x) (c .if1 .taken), omega arith)
+discount-returns t c =
+    let a = c .before .args in
+    record {
+      premium-is = discounted-none (a .d) (a .j) (a .x .premium) (c .if1 .taken);
+      outgo-is = discounted-none (a .d) (a .j) (a .x .outgo) (c .if1 .taken);
+      premium-most = omega arith;
+      outgo-most = omega arith;
+    }
 
 discount-sub-discount : (t : ℕ) → discount-lts.Need-sub-discount (
   discount-below t,
@@ -55,6 +61,14 @@ discount-step-back-requires : (t : ℕ) → discount-lts.Need-step-back-requires
 ) (discount-at t) discount.Post
 discount-step-back-requires t c κs = omega arith
 
+discount-step-back-requires-2 : (t : ℕ) → discount-lts.Need-step-back-requires-2 (
+  discount-below t,
+  discount.Post,
+  step-back-reads.Asked,
+  step-back-reads.Learnt,
+) (discount-at t) discount.Post
+discount-step-back-requires-2 t c κs = omega arith
+
 discount-returns-2 : (t : ℕ) → discount-lts.Need-returns-2 (
   discount-below t,
   discount.Post,
@@ -62,10 +76,16 @@ discount-returns-2 : (t : ℕ) → discount-lts.Need-returns-2 (
   step-back-reads.Learnt,
 ) (discount-at t) discount.Post
 discount-returns-2 t c =
-    let a = c .before .before .before .args in (
-      c .step-back .ensures ∙ ap (λ (y : ℕ). y * 1_000_000 / a .d) (c .before .discount .ensures .0) ∙ sym (discounted-more (a .d) (a .j) (a .x) (omega arith)),
-      rw (c .step-back .ensures) (back-most (a .d) (a .j) (c .before .discount .result) (omega arith) (omega arith) (omega arith) (omega arith)),
-    )
+    let y = c .before .before .discount in
+    let p = c .before .step-back in
+    let o = c .step-back2 in
+    let a = c .before .before .before .before .args in
+    record {
+      premium-is = one-back (a .d) (a .j) (a .x .premium) (y .result .premium) (p .result) (omega arith) (y .ensures .premium-is) (p .ensures);
+      outgo-is = one-back (a .d) (a .j) (a .x .outgo) (y .result .outgo) (o .result) (omega arith) (y .ensures .outgo-is) (o .ensures);
+      premium-most = rw (p .ensures) (back-most (a .d) (a .j) (y .result .premium) (omega arith) (omega arith) (omega arith) (omega (arith, y .ensures .premium-most)));
+      outgo-most = rw (o .ensures) (back-most (a .d) (a .j) (y .result .outgo) (omega arith) (omega arith) (omega arith) (omega (arith, y .ensures .outgo-most)));
+    }
 
 pub +discount-spec : {M : Type 1} → statement M
 +discount-spec = close μ-discount λ t. discount-lts.spec (
@@ -80,4 +100,5 @@ pub +discount-spec : {M : Type 1} → statement M
     (discount-sub-discount t)
     (discount-discount-requires t)
     (discount-step-back-requires t)
+    (discount-step-back-requires-2 t)
     (discount-returns-2 t)

@@ -8,7 +8,7 @@ use Rattle.settling.proofs.counted.Tie as tie
 
 returns : tie.Need-returns
 unfolding capped
-returns c = (rw (lt-leb _ _ (c .if1 .taken)), omega arith)
+returns c = (rw (lt-leb 5 (c .before .args .k) (c .if1 .taken)), omega arith)
 
 returns-2 : tie.Need-returns-2
 unfolding capped

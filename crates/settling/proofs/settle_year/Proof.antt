@@ -6,14 +6,15 @@ use Rattle.settling.proofs.settle_year.Tie as tie
 
 returns : tie.Need-returns
 returns c =
-    let o = c .before .before .before .outgo in
-    let p = c .before .before .counted in (
-      simp (c .discount2 .ensures .0, c .before .discount .ensures .0, p .ensures .0, o .ensures .0),
-      omega (arith, c .before .discount .ensures .1),
-      omega (arith, c .discount2 .ensures .1),
+    let o = c .before .before .outgo in
+    let p = c .before .counted in
+    let e = c .discount .ensures in (
+      simp (e .premium-is, e .outgo-is, p .ensures .0, o .ensures .0),
+      omega (arith, e .premium-most),
+      omega (arith, e .outgo-most),
     )
 
 pub settle-year-spec : {M : Type 1} → statement M
 settle-year-spec =
     tie.close
-    (tie.spec (search needs) (search needs) (search needs) (search needs) returns)
+    (tie.spec (search needs) (search needs) (search needs) returns)
