@@ -12,17 +12,9 @@ from layout import CURVE, LONGEST_BOOK, changed
 from program import MOST_SECONDS, program_path, run_program
 from reckoning import listing
 from stream import ROOT, run_unit_tests
+from trial_books import PAPER_LISTING
 
 PAUSE_SECONDS = 0.02
-PAPER_LISTING = b"""0 -100000 1
-1 -100000 1
-2 -100000 1
-3 -100000 1
-4 -100000 1
-5 -80000 1
-6 -120000 1
-7 -60000 1
-"""
 NOTHING_LISTED = b"0 0 0\n1 0 0\n2 0 0\n3 0 0\n4 0 0\n5 0 0\n6 0 0\n7 0 0\n"
 
 

@@ -17,15 +17,6 @@ from stream import run_unit_tests
 
 SETTINGS = range(8)
 PRODUCT_GROUPS = range(1, 6)
-PAPER_LISTING = b"""0 -100000 1
-1 -100000 1
-2 -100000 1
-3 -100000 1
-4 -100000 1
-5 -80000 1
-6 -120000 1
-7 -60000 1
-"""
 
 
 def year(book, k, setting=0, product_group=2):
@@ -103,7 +94,7 @@ class TrialFigures(unittest.TestCase):
 
     def test_rate_200000_passes(self):
         book = one_record_book()
-        self.assertEqual(listing(changed(book, (CURVE[3], 200_000))), PAPER_LISTING)
+        self.assertEqual(listing(changed(book, (CURVE[3], 200_000))), trials.PAPER_LISTING)
         self.assertEqual(listing(changed(book, (CURVE[3], 200_001))), b"refused 7 68\n")
 
     def test_no_records_give_zeros(self):
@@ -115,7 +106,7 @@ class TrialFigures(unittest.TestCase):
         self.assertEqual(listing(empty_book()), b"".join(b"%d 0 0\n" % s for s in SETTINGS))
 
     def test_paper_listing(self):
-        self.assertEqual(listing(one_record_book()), PAPER_LISTING)
+        self.assertEqual(listing(one_record_book()), trials.PAPER_LISTING)
         self.assertEqual(totals(one_record_book())[4], [0, 0, 40_000, 40_000])
 
     def test_listing_takes_41877_bytes(self):

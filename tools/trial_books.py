@@ -6,6 +6,16 @@ from layout import CLASSES, COST_RATES, CURVE
 PG1A_MEN, PG1B_WOMEN = 0, 3
 CERTAIN_DEATH = [[1_000_000] * CLASSES, [1_000_000] * CLASSES]
 FALLING_CURVE = [-10_000] * len(CURVE)
+# What the paper prints of its one-record book.
+PAPER_LISTING = b"""0 -100000 1
+1 -100000 1
+2 -100000 1
+3 -100000 1
+4 -100000 1
+5 -80000 1
+6 -120000 1
+7 -60000 1
+"""
 
 
 def contract(amounts, lapse=0, count=1):
