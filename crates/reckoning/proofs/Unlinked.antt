@@ -1,4 +1,4 @@
--- Records that no chain links have no effect on Group: neither on its reply nor on its table. Assumes nothing.
+-- Records that no chain links have no effect on Group, neither on its reply nor on its table, and none on Totals. Assumes nothing.
 use mathlib.Core.Path.{_≡_, refl, sym, ap, _∙_}
 use mathlib.Core.List.{List, [], _∷_}
 use mathlib.Core.Logic.{⊎-elim}
@@ -8,17 +8,21 @@ use native.Mathlib.Nat.{pos-of-ne-zero, eq-or-lt-of-le}
 use native.Mathlib.Omega.{arith}
 use borrow.Author.Tests.{ltb-true, eqb-false}
 use lib.Dec.{eqb, ltb}
+use lib.IntN.{ℤ}
 use lib.ListN.{length}
 use Rattle.field.specs.Verdicts.{pick}
 use Rattle.field.specs.declared.Verdict.{Verdict}
 use Rattle.field.specs.declared.Verdict.the-variants.{Accepted, Refused}
 use Rattle.field.proofs.Same.{u32-same}
 use Rattle.book.specs.Layout.{recordSize, lastClass, chains, headOf, sexOf, classOf, nextOf, fieldOf, countOffset, lapseOffset, premiumOffset, claimsOffset, curvePlace, linkFrom}
-use Rattle.book.specs.Cells.{firstChain, chainsOf, cellsOfGroup}
+use Rattle.book.specs.Cells.{firstChain, chainsOf, cellsOfGroup, cells}
+use Rattle.book.specs.Check.{checkBook}
 use Rattle.book.specs.Rules.{SameButUnlinked}
 use Rattle.book.specs.Reading.{Standing, ValidBook}
 use Rattle.book.proofs.Links.{link-next}
 use Rattle.book.proofs.Same.{SameRecord, sex-same, class-same, next-same, field-of-same, front-same, head-same, record-same}
+use Rattle.book.proofs.Valid.{valid}
+use Rattle.book.proofs.Exact.{accepted-cells}
 use Rattle.book.proofs.Unlinked.{unlinked-same}
 use Rattle.settings.specs.Settings.{mortalityWeight, decrementsOf, lapseIn}
 use Rattle.settings.specs.declared.Decrements.{Decrements}
@@ -26,6 +30,7 @@ use Rattle.reckoning.specs.Arithmetic.{rounded}
 use Rattle.reckoning.specs.Steps.{Cell, Terms, held, outgo, countedPremium, discountedOutgo, discountedPremium, sumYears, totalOutgo, totalPremium, liability}
 use Rattle.reckoning.specs.Portfolio.{mortalityOf, costRateOf, divisorOf, oneLess, onward, rowAt, cellOf, linksFrom, chainLinks, linksOf, cellsOf, groupCells, termsOf}
 use Rattle.reckoning.specs.Replies.{groupCheck, groupLiability, replyOf, groupReply, yearTable, tableOf, groupTable}
+use Rattle.reckoning.specs.Totals.{sumGroups, totalOf, totalsOf, differencesOf, totalsFor, totalsReply}
 use Rattle.reckoning.proofs.Rows.{chain-standing, next-standing}
 use Rattle.reckoning.proofs.Members.{cells-append, held-group}
 use Rattle.reckoning.proofs.Accepted.{group-range, group-valid, chains-few}
@@ -193,30 +198,31 @@ module _ (b b′ : List ℕ) (s : SameButUnlinked b b′) where
             chains-same left (k + 1) (omega arith),
           )
 
--- Reply and table.
+-- A group of an accepted book.
+module _ (b b′ : List ℕ) (s : SameButUnlinked b b′) (setting g : ℕ) (v : ValidBook 1 b) (range : (1 ≤ g) × (g ≤ 5)) where
+  group-terms-same : SameTerms (termsOf b setting g) (termsOf b′ setting g)
+  group-terms-same = terms-same b b′ s setting g (range .1)
+
+  group-cells-same : groupCells b (decrementsOf b setting) g ≡ groupCells b′ (decrementsOf b′ setting) g
+  group-cells-same =
+      rw (decrements-same b b′ s setting)
+      (chains-same b b′ s (decrementsOf b′ setting) v (chainsOf g) (firstChain g) (chains-few g (range .1)))
+
+  group-liability-same : groupLiability b setting g ≡ groupLiability b′ setting g
+  unfolding groupLiability
+  group-liability-same = rw group-cells-same (liability-same _ _ (groupCells b′ (decrementsOf b′ setting) g) group-terms-same)
+
+  group-years-same : yearTable (termsOf b setting g) (groupCells b (decrementsOf b setting) g) 50 ≡ yearTable (termsOf b′ setting g) (groupCells b′ (decrementsOf b′ setting) g) 50
+  group-years-same = rw group-cells-same (years-same _ _ (groupCells b′ (decrementsOf b′ setting) g) group-terms-same 50 (omega arith))
+
+  group-held-same : cellsOfGroup b (lastClass 1) g ≡ cellsOfGroup b′ (lastClass 1) g
+  group-held-same = sym (held-group b (decrementsOf b setting) g) ∙ ap held group-cells-same ∙ held-group b′ (decrementsOf b′ setting) g
+
+-- Group's reply and table.
 module _ (b b′ : List ℕ) (s : SameButUnlinked b b′) (setting g numbers : ℕ) where
   verdict-same : groupCheck b setting g numbers ≡ groupCheck b′ setting g numbers
   unfolding groupCheck
   verdict-same = rw (unlinked-same b b′ s 1)
-
-  module _ (n : ℕ) (e : groupCheck b setting g numbers ≡ Accepted n) where
-    group-terms-same : SameTerms (termsOf b setting g) (termsOf b′ setting g)
-    group-terms-same = terms-same b b′ s setting g (group-range b setting g numbers n e .1)
-
-    group-cells-same : groupCells b (decrementsOf b setting) g ≡ groupCells b′ (decrementsOf b′ setting) g
-    group-cells-same =
-        rw (decrements-same b b′ s setting)
-        (chains-same b b′ s (decrementsOf b′ setting) (group-valid b setting g numbers n e) (chainsOf g) (firstChain g) (chains-few g (group-range b setting g numbers n e .1)))
-
-    group-liability-same : groupLiability b setting g ≡ groupLiability b′ setting g
-    unfolding groupLiability
-    group-liability-same = rw group-cells-same (liability-same _ _ (groupCells b′ (decrementsOf b′ setting) g) group-terms-same)
-
-    group-years-same : yearTable (termsOf b setting g) (groupCells b (decrementsOf b setting) g) 50 ≡ yearTable (termsOf b′ setting g) (groupCells b′ (decrementsOf b′ setting) g) 50
-    group-years-same = rw group-cells-same (years-same _ _ (groupCells b′ (decrementsOf b′ setting) g) group-terms-same 50 (omega arith))
-
-    group-held-same : cellsOfGroup b (lastClass 1) g ≡ cellsOfGroup b′ (lastClass 1) g
-    group-held-same = sym (held-group b (decrementsOf b setting) g) ∙ ap held group-cells-same ∙ held-group b′ (decrementsOf b′ setting) g
 
   pub reply-same : groupReply b setting g numbers ≡ groupReply b′ setting g numbers
   unfolding groupReply
@@ -224,7 +230,10 @@ module _ (b b′ : List ℕ) (s : SameButUnlinked b b′) (setting g numbers : �
     where
       by-verdict : (v : Verdict) → groupCheck b setting g numbers ≡ v
           → replyOf v (groupLiability b setting g) (cellsOfGroup b (lastClass 1) g) ≡ replyOf v (groupLiability b′ setting g) (cellsOfGroup b′ (lastClass 1) g)
-      by-verdict (Accepted n) e = rw (group-liability-same n e, group-held-same n e)
+      by-verdict (Accepted n) e =
+          let v = group-valid b setting g numbers n e in
+          let range = group-range b setting g numbers n e in
+          rw (group-liability-same b b′ s setting g v range, group-held-same b b′ s setting g v range)
       by-verdict (Refused q p) e = refl
 
 pub table-same : (b b′ : List ℕ) → SameButUnlinked b b′ → (setting g : ℕ) (before : List ℕ) → groupTable b setting g before ≡ groupTable b′ setting g before
@@ -235,5 +244,39 @@ table-same b b′ s setting g before = rw (← verdict-same b b′ s setting g (
     years c = yearTable (termsOf c setting g) (groupCells c (decrementsOf c setting) g) 50
 
     by-verdict : (v : Verdict) → groupCheck b setting g (length before) ≡ v → tableOf v (years b) before ≡ tableOf v (years b′) before
-    by-verdict (Accepted n) e = rw (group-years-same b b′ s setting g (length before) n e)
+    by-verdict (Accepted n) e =
+        rw (group-years-same b b′ s setting g (group-valid b setting g (length before) n e) (group-range b setting g (length before) n e))
     by-verdict (Refused q p) e = refl
+
+-- Totals' reply.
+groups-same : (f h : ℕ → ℤ) (j : ℕ) → ((g : ℕ) → 1 ≤ g → g ≤ j → f g ≡ h g) → sumGroups f j ≡ sumGroups h j
+unfolding sumGroups
+groups-same f h zero each = refl
+groups-same f h (suc j) each = rw (groups-same f h j (λ g lo hi. each g lo (omega arith)), each (suc j) (omega arith) (omega arith))
+
+module _ (b b′ : List ℕ) (s : SameButUnlinked b b′) where
+  total-same : ValidBook 1 b → (setting : ℕ) → totalOf b setting ≡ totalOf b′ setting
+  unfolding totalOf
+  total-same v setting = groups-same _ _ 5 (λ g lo hi. group-liability-same b b′ s setting g v (lo, hi))
+
+  pub totals-same : totalsReply b ≡ totalsReply b′
+  unfolding totalsReply
+  totals-same = rw (← (unlinked-same b b′ s 1)) (by-verdict (checkBook 1 b) refl)
+    where
+      by-verdict : (v : Verdict) → checkBook 1 b ≡ v
+          → totalsFor v (cells b (lastClass 1)) (totalsOf b) (differencesOf b) ≡ totalsFor v (cells b′ (lastClass 1)) (totalsOf b′) (differencesOf b′)
+      by-verdict (Accepted n) e =
+          let t = total-same (valid 1 b n e) in
+          rw (
+            ← (accepted-cells 1 b n e),
+            ← (accepted-cells 1 b′ n (sym (unlinked-same b b′ s 1) ∙ e)),
+            t 0,
+            t 1,
+            t 2,
+            t 3,
+            t 4,
+            t 5,
+            t 6,
+            t 7,
+          )
+      by-verdict (Refused q p) e = refl
