@@ -46,4 +46,5 @@ bench: lib ## time Totals beside Rust and Python: make bench OPTIONS=--instructi
 
 # A program is proved before it is built; where nothing has changed since, that takes a moment.
 target/bin/verdicts target/bin/listing: target/bin/%: FORCE
+	@[ -f $@ ] || echo "proving and building $*: the first time takes a minute or two" >&2
 	@mkdir -p target && rt check $* > target/check.log 2>&1 || { cat target/check.log; exit 1; }
