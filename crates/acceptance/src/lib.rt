@@ -49,7 +49,7 @@ fn check_chain(b: &[u8], last: usize, k: usize) -> Verdict
         return Verdict::Accepted(0);
     }
     if count < head {
-        return Verdict::Refused(9, 8 + 2 * k);
+        return Verdict::Refused(9, book::HEADS_PLACE + 2 * k);
     }
     let left = classes_above(last, book::class_of(b, head));
     check_from(b, last, k, left, head)
@@ -90,7 +90,6 @@ fn check_on(b: &[u8], basis: usize) -> Verdict
     check_chains(b, book::last_class(basis))
 }
 
-// The check of a book.
 pub fn check(book: &[u8]) -> Verdict
     ensures { λ r. ⌜ r ≡ checkBook 1 (now (book .entry)) ⌝ }
 {

@@ -8,7 +8,7 @@ use borrow.Author.Tests.{ne-eqb}
 use lib.Dec.{eqb}
 use Rattle.field.specs.Verdicts.{pick}
 use Rattle.book.specs.Layout.{fieldOf, countOffset}
-use Rattle.book.specs.Cells.{holds, cellsFrom, sumOf, cellsOfGroup, cells}
+use Rattle.book.specs.Cells.{holds, heldFrom, sumOf, heldOfGroup, heldInAll}
 
 pub holds-some : (b : List ℕ) (i : ℕ) → 0 < i → holds b i ≡ pick (eqb (fieldOf b i countOffset) 0) 0 1
 unfolding holds
@@ -24,12 +24,12 @@ unfolding holds
 holds-one b i = pick-one (eqb i 0) (eqb (fieldOf b i countOffset) 0)
 
 -- past the end of a chain nothing is counted
-pub cells-none : (b : List ℕ) (m : ℕ) → cellsFrom b 0 m ≡ 0
-unfolding cellsFrom holds
-cells-none b zero = refl
-cells-none b (suc m) = rw (cells-none b m)
+pub held-none : (b : List ℕ) (m : ℕ) → heldFrom b 0 m ≡ 0
+unfolding heldFrom holds
+held-none b zero = refl
+held-none b (suc m) = rw (held-none b m)
 
 -- the five groups' n together are n over all groups
-pub groups-cells : (b : List ℕ) (last : ℕ) → sumOf (cellsOfGroup b last) 1 5 ≡ cells b last
-unfolding sumOf cellsOfGroup cells
-groups-cells b last = omega arith
+pub groups-held : (b : List ℕ) (last : ℕ) → sumOf (heldOfGroup b last) 1 5 ≡ heldInAll b last
+unfolding sumOf heldOfGroup heldInAll
+groups-held b last = omega arith

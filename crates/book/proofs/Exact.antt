@@ -16,10 +16,10 @@ use Rattle.field.proofs.Verdicts.{need-good, then-good}
 use Rattle.field.proofs.Ranges.{within-good, field-good, fields-good}
 use Rattle.book.specs.Layout.{headerSize, lastClass, chains, records, headPlace, headOf, recordAt, classOf, nextOf, fieldOf, linkFrom, linkAt}
 use Rattle.book.specs.Check.{checkSpare, checkHeader, checkTables, checkOwner, checkClass, checkAmounts, endsRight, checkLink, checkFrom, checkChain, checkChains, checkBook}
-use Rattle.book.specs.Cells.{cellsFrom, cellsIn, sumOf, cells}
+use Rattle.book.specs.Cells.{heldFrom, heldIn, sumOf, heldInAll}
 use Rattle.book.specs.Rules.{HeaderRules, TableRules, RecordRules, ChainRules, Rules}
 use Rattle.book.specs.Reading.{ChainFrom, ValidBook}
-use Rattle.book.proofs.Cells.{cells-none}
+use Rattle.book.proofs.Cells.{held-none}
 use Rattle.book.proofs.Links.{after-some, link-none, link-next}
 use Rattle.book.proofs.Valid.{valid, chain-here, chain-class, chain-end, chain-next}
 
@@ -139,32 +139,32 @@ module _ (b : List ℕ) (last k : ℕ) where
   from-good : (left i m : ℕ) → 0 < i → left + classOf b i ≡ last → left < m
       → ((j : ℕ) → 0 < linkFrom b i j → RecordRules b last k (linkFrom b i j))
       → ((j : ℕ) → 0 < linkFrom b i j → classOf b (linkFrom b i j) ≡ classOf b i + j)
-      → checkFrom b last k left i ≡ Accepted (cellsFrom b i m)
-  unfolding checkFrom cellsFrom linkFrom
+      → checkFrom b last k left i ≡ Accepted (heldFrom b i m)
+  unfolding checkFrom heldFrom linkFrom
   from-good left i zero some c h linked rising = absurd (omega arith)
   from-good zero i (suc m) some c h linked rising =
       let r : RecordRules b last k i = linked 0 some in
       let end : nextOf b i ≡ 0 = r .ends (omega arith) in
-      then-good _ _ _ _ (link-good 0 i r c (rw end zero-le)) (rw (after-some b i some, end, cells-none b m, add-zero))
+      then-good _ _ _ _ (link-good 0 i r c (rw end zero-le)) (rw (after-some b i some, end, held-none b m, add-zero))
   from-good (suc left) i (suc m) some c h linked rising =
       let r : RecordRules b last k i = linked 0 some in
       let more : 0 < nextOf b i = pos-of-ne-zero (λ z. let e = r .goes-on z in absurd (omega arith)) in
       let next : RecordRules b last k (nextOf b i) = rw (link-next b i 0 some) at (linked 1 (rw (link-next b i 0 some) more)) in
       let class : classOf b (nextOf b i) ≡ classOf b i + 1 = rw (link-next b i 0 some) at (rising 1 (rw (link-next b i 0 some) more)) in
-      let rest : checkFrom b last k left (nextOf b i) ≡ Accepted (cellsFrom b (nextOf b i) m)
+      let rest : checkFrom b last k left (nextOf b i) ≡ Accepted (heldFrom b (nextOf b i) m)
       = from-good left (nextOf b i) m more (omega arith) (omega arith)
       (λ j l. rw (link-next b i j some) at (linked (suc j) (rw (link-next b i j some) l)))
       (λ j l. let e = rw (link-next b i j some) at (rising (suc j) (rw (link-next b i j some) l)) in omega arith) in
       then-good _ _ _ _ (link-good (suc left) i r c (next .inside)) (rw (rest, after-some b i some))
 
-  chain-good : ChainRules b last k → checkChain b last k ≡ Accepted (cellsIn b last k)
-  unfolding checkChain cellsIn linkFrom
+  chain-good : ChainRules b last k → checkChain b last k ≡ Accepted (heldIn b last k)
+  unfolding checkChain heldIn linkFrom
   chain-good c = by-head (eqb (headOf b k) 0) refl
     where
       by-head : (t : Bool) → eqb (headOf b k) 0 ≡ t
           → pick t (Accepted 0) (need (leb (headOf b k) (records b)) 9 (headPlace k) andThen checkFrom b last k (last - classOf b (headOf b k)) (headOf b k))
-          ≡ Accepted (cellsFrom b (headOf b k) (last + 1))
-      by-head true e = let none : headOf b k ≡ 0 = eqb-true _ _ e in rw (none, cells-none b (last + 1))
+          ≡ Accepted (heldFrom b (headOf b k) (last + 1))
+      by-head true e = let none : headOf b k ≡ 0 = eqb-true _ _ e in rw (none, held-none b (last + 1))
       by-head false e =
           let some : 0 < headOf b k = pos-of-ne-zero (eqb-false _ _ e) in
           let r : RecordRules b last k (headOf b k) = c .linked 0 some in
@@ -179,8 +179,8 @@ all-counted f g (suc left) k each =
     rw (each k (omega arith) (omega arith), all-counted f g left (k + 1) (λ j lo hi. each j (omega arith) (omega arith)))
 
 -- a book that keeps the rules is accepted, and n is as defined
-pub rules-accepted : (basis : ℕ) (b : List ℕ) → Rules basis b → checkBook basis b ≡ Accepted (cells b (lastClass basis))
-unfolding checkBook checkChains cells
+pub rules-accepted : (basis : ℕ) (b : List ℕ) → Rules basis b → checkBook basis b ≡ Accepted (heldInAll b (lastClass basis))
+unfolding checkBook checkChains heldInAll
 rules-accepted basis b r =
     let long : headerSize ≤ length b = omega (arith, r .header .size) in
     then-good _ _ _ _
@@ -190,8 +190,8 @@ rules-accepted basis b r =
     (all-counted _ _ chains 0 (λ k lo hi. chain-good b (lastClass basis) k (r .chain k (omega arith))))
 
 -- n of an accepted book is the number of its linked records that hold contracts
-pub accepted-cells : (basis : ℕ) (b : List ℕ) (n : ℕ) → checkBook basis b ≡ Accepted n → n ≡ cells b (lastClass basis)
-accepted-cells basis b n e = let f = rules-accepted basis b (accepted-rules basis b n e) in cc
+pub accepted-held : (basis : ℕ) (b : List ℕ) (n : ℕ) → checkBook basis b ≡ Accepted n → n ≡ heldInAll b (lastClass basis)
+accepted-held basis b n e = let f = rules-accepted basis b (accepted-rules basis b n e) in cc
 
 -- A record is linked at most once: equal numbers are the same place of the same chain. So n counts no record twice.
 module _ (basis : ℕ) (b : List ℕ) (r : Rules basis b) (k k′ j j′ : ℕ) (few : k < chains) (few′ : k′ < chains)

@@ -10,13 +10,13 @@ unfoldable pub holds : List ℕ → ℕ → ℕ
 holds b i = pick (eqb i 0) 0 (pick (eqb (fieldOf b i countOffset) 0) 0 1)
 
 -- of the first m records along the chain from record i
-unfoldable pub cellsFrom : List ℕ → ℕ → ℕ → ℕ
-cellsFrom b i zero = 0
-cellsFrom b i (suc m) = holds b i + cellsFrom b (after b i) m
+unfoldable pub heldFrom : List ℕ → ℕ → ℕ → ℕ
+heldFrom b i zero = 0
+heldFrom b i (suc m) = holds b i + heldFrom b (after b i) m
 
 -- n of chain k, which has at most one record for each class from 0 to last
-unfoldable pub cellsIn : List ℕ → ℕ → ℕ → ℕ
-cellsIn b last k = cellsFrom b (headOf b k) (last + 1)
+unfoldable pub heldIn : List ℕ → ℕ → ℕ → ℕ
+heldIn b last k = heldFrom b (headOf b k) (last + 1)
 
 -- what f gives for k, k + 1 and so on, left of them, added
 unfoldable pub sumOf : (ℕ → ℕ) → ℕ → ℕ → ℕ
@@ -31,9 +31,9 @@ abbrev pub chainsOf : ℕ → ℕ
 chainsOf g = pick (eqb g 1) 6 2
 
 -- n of product group g
-unfoldable pub cellsOfGroup : List ℕ → ℕ → ℕ → ℕ
-cellsOfGroup b last g = sumOf (cellsIn b last) (firstChain g) (chainsOf g)
+unfoldable pub heldOfGroup : List ℕ → ℕ → ℕ → ℕ
+heldOfGroup b last g = sumOf (heldIn b last) (firstChain g) (chainsOf g)
 
 -- n over all groups
-unfoldable pub cells : List ℕ → ℕ → ℕ
-cells b last = sumOf (cellsIn b last) 0 chains
+unfoldable pub heldInAll : List ℕ → ℕ → ℕ
+heldInAll b last = sumOf (heldIn b last) 0 chains

@@ -62,6 +62,10 @@ curvePlace = 56
 abbrev pub mortalityPlace : ℕ
 mortalityPlace = 252
 
+-- the bytes of one sex
+abbrev pub mortalitySize : ℕ
+mortalitySize = 484
+
 -- a cost rate, mortality or lapse is from 0 to this
 abbrev pub mostRate : ℕ
 mostRate = 1000000

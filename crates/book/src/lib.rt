@@ -17,11 +17,19 @@ pub const MOST_RECORDS: usize = 1694;
 
 pub const CHAINS: usize = 14;
 
+pub const HEADS_PLACE: usize = 8;
+
 pub const COST_PLACE: usize = 36;
 
 pub const CURVE_PLACE: usize = 56;
 
 pub const MORTALITY_PLACE: usize = 252;
+
+// The bytes of one sex.
+pub const MORTALITY_SIZE: usize = 484;
+
+// Of age basis 1.
+pub const LAST_CLASS: usize = 120;
 
 pub const MOST_RATE: u64 = 1_000_000;
 
@@ -62,7 +70,7 @@ pub fn head_of(b: &[u8], k: usize) -> usize
     requires { ⌜ (k < 14) × (headerSize ≤ length (now b)) ⌝ }
     ensures { λ r. ⌜ (r ≡ headOf (now (b .entry)) k) × (r < 65536) ⌝ }
 {
-    field::read_u16(b, 8 + 2 * k)
+    field::read_u16(b, HEADS_PLACE + 2 * k)
 }
 
 // Where record i starts.

@@ -17,7 +17,7 @@ abbrev pub pickCell : Bool → Cell → Cell → Cell
 pickCell true a b = a
 pickCell false a b = b
 
--- in force after year k: times one less mortality, rounded, then times one less lapse, rounded
+-- what lives on from year k, rounded down, and of that what stays, rounded down
 unfoldable pub survivors : List ℕ → Decrements → ℕ → Cell → ℕ
 survivors b w k c =
     c .inforce * oneLess (mortalityOf b (chainSex (c .chain)) (c .class)) (mortalityIn w (chainSex (c .chain)) k) / 1_000_000_000

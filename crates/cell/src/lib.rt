@@ -13,7 +13,10 @@ fn mortality_of(book: &[u8], sex: usize, class: usize) -> u64
     requires { ⌜ ValidBook 1 (now book) × (sex ≤ 1) × (class ≤ 120) ⌝ }
     ensures { λ r. ⌜ (r ≡ mortalityOf (now (book .entry)) sex class) × (r ≤ 1000000) ⌝ }
 {
-    field::read_u32(book, book::MORTALITY_PLACE + 484 * sex + 4 * class)
+    field::read_u32(
+        book,
+        book::MORTALITY_PLACE + book::MORTALITY_SIZE * sex + 4 * class,
+    )
 }
 
 // One less a rate in millionths at a weight in thousandths, in billionths: none where the weighted rate is one or more.
@@ -73,7 +76,7 @@ impl Cell {
         let chain = self.chain;
         let row = self.row;
         let class = self.class;
-        if class < 120 {
+        if class < book::LAST_CLASS {
             Cell {
                 chain,
                 row: book::next_of(book, row),

@@ -18,7 +18,6 @@ fn check_group(book: &[u8], setting: usize, group: usize, numbers: usize) -> Ver
     acceptance::check(book)
 }
 
-// The call Group: liability and n of a product group in a setting, and its year table.
 pub fn group(book: &[u8], setting: usize, group: usize, table: &mut [u64]) -> GroupReply
     ensures { λ r. ⌜ GroupPromised (now (book .entry)) setting group (now (table .entry)) (now (table .exit)) r ⌝ }
 {

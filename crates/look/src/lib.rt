@@ -67,7 +67,6 @@ pub fn part(book: &[u8], start: usize, len: usize) -> &[u8]
     }
 }
 
-// The looker's call.
 pub fn look<'a>(book: &'a [u8], number: usize) -> Shown<'a>
     ensures { λ r. ⌜ Shows (book .entry) number r ⌝ }
 {

@@ -9,9 +9,9 @@ use borrow.Author.Tests.{eqb-true, eqb-false}
 use lib.Dec.{eqb}
 use lib.ListN.{length, getD, replicate, length-replicate, getD-replicate}
 use Rattle.book.specs.Layout.{headOf, classOf, nextOf}
-use Rattle.book.specs.Cells.{holds, cellsFrom, cellsIn, sumOf}
+use Rattle.book.specs.Cells.{holds, heldFrom, heldIn, sumOf}
 use Rattle.book.specs.Reading.{ChainFrom, Standing, ValidBook}
-use Rattle.book.proofs.Cells.{cells-none}
+use Rattle.book.proofs.Cells.{held-none}
 use Rattle.book.proofs.Links.{after-some}
 use Rattle.book.proofs.Valid.{chain-next}
 use Rattle.settings.specs.declared.Decrements.{Decrements}
@@ -84,18 +84,18 @@ module _ (f : ℕ → ℕ → ℕ) (b : List ℕ) (left head : ℕ) (t₀ : List
   carry-end above i t u z c e = e ∙ (rw z at (c .0))
 
 -- n along a chain
-pub cells-more : (b : List ℕ) (n above rest i m : ℕ) → above ≡ rest + 1 → 0 < i → m ≡ holds b i → n + cellsFrom b i (above + 1) ≡ (n + m) + cellsFrom b (nextOf b i) (rest + 1)
-unfolding cellsFrom
+pub cells-more : (b : List ℕ) (n above rest i m : ℕ) → above ≡ rest + 1 → 0 < i → m ≡ holds b i → n + heldFrom b i (above + 1) ≡ (n + m) + heldFrom b (nextOf b i) (rest + 1)
+unfolding heldFrom
 cells-more b n above rest i m s some e =
     rw (add-one above, s, add-one rest, after-some b i some, e) (omega arith)
 
-pub cells-end : (b : List ℕ) (n above i m : ℕ) → above ≡ 0 → m ≡ holds b i → n + cellsFrom b i (above + 1) ≡ n + m
-unfolding cellsFrom
+pub cells-end : (b : List ℕ) (n above i m : ℕ) → above ≡ 0 → m ≡ holds b i → n + heldFrom b i (above + 1) ≡ n + m
+unfolding heldFrom
 cells-end b n above i m z e = rw (z, e) (omega arith)
 
 -- a chain's n is that of its records, and at most one for each class
-pub chain-cells : (b : List ℕ) (w : Decrements) (k left : ℕ) → ChainFrom b 120 k left (headOf b k) → left ≤ 120 → cellsFrom b (headOf b k) (left + 1) ≡ cellsIn b 120 k
-unfolding cellsIn
+pub chain-cells : (b : List ℕ) (w : Decrements) (k left : ℕ) → ChainFrom b 120 k left (headOf b k) → left ≤ 120 → heldFrom b (headOf b k) (left + 1) ≡ heldIn b 120 k
+unfolding heldIn
 chain-cells b w k left c h =
     sym (held-links b w (left + 1) (headOf b k))
     ∙ ap (λ (l : List ℕ). held (cellsOf b w l)) (links-counted b k left (headOf b k) (left + 1) c (omega arith) ∙ sym (links-counted b k left (headOf b k) 121 c (omega arith)))
@@ -106,9 +106,9 @@ pub links-empty : (b : List ℕ) (k : ℕ) → headOf b k ≡ 0 → chainLinks b
 unfolding linksFrom
 links-empty b k e = rw e
 
-pub cells-empty : (b : List ℕ) (k : ℕ) → headOf b k ≡ 0 → cellsIn b 120 k ≡ 0
-unfolding cellsIn
-cells-empty b k e = rw (e, cells-none b 121)
+pub cells-empty : (b : List ℕ) (k : ℕ) → headOf b k ≡ 0 → heldIn b 120 k ≡ 0
+unfolding heldIn
+cells-empty b k e = rw (e, held-none b 121)
 
 module _ (b : List ℕ) (v : ValidBook 1 b) (k : ℕ) (few : k < 14) (head class : ℕ) (head-is : head ≡ headOf b k) (some : head ≡ 0 → ⊥) (class-is : class ≡ classOf b head) where
   pub head-chain : ChainFrom b 120 k (120 - class) head
@@ -117,7 +117,7 @@ module _ (b : List ℕ) (v : ValidBook 1 b) (k : ℕ) (few : k < 14) (head class
   pub head-links : chainLinks b k ≡ counted b (120 - class) head
   head-links = rw (← head-is) (links-counted b k (120 - class) head 121 head-chain (omega arith))
 
-  pub head-cells : Decrements → cellsFrom b head (120 - class + 1) ≡ cellsIn b 120 k
+  pub head-cells : Decrements → heldFrom b head (120 - class + 1) ≡ heldIn b 120 k
   head-cells w = rw head-is (chain-cells b w k (120 - class) (rw head-is at head-chain) (omega arith))
 
 -- f is bounded at every linked record
@@ -171,14 +171,14 @@ module _ (f : ℕ → ℕ → ℕ) (b : List ℕ) (small : Small f b) (v : Valid
       rw z at (rw e at (g .0))
 
 -- n over the chains of a group
-pub group-cells-more : (b : List ℕ) (n k to m : ℕ) → k < to → m ≡ cellsIn b 120 k
-    → n + sumOf (cellsIn b 120) k (to - k) ≡ (n + m) + sumOf (cellsIn b 120) (k + 1) (to - (k + 1))
+pub group-cells-more : (b : List ℕ) (n k to m : ℕ) → k < to → m ≡ heldIn b 120 k
+    → n + sumOf (heldIn b 120) k (to - k) ≡ (n + m) + sumOf (heldIn b 120) (k + 1) (to - (k + 1))
 unfolding sumOf
 group-cells-more b n k to m h e =
     let s : to - k ≡ suc (to - (k + 1)) = omega arith in
     rw (s, e) (omega arith)
 
-pub group-cells-end : (b : List ℕ) (n k to : ℕ) → k ≡ to → n + sumOf (cellsIn b 120) k (to - k) ≡ n
+pub group-cells-end : (b : List ℕ) (n k to : ℕ) → k ≡ to → n + sumOf (heldIn b 120) k (to - k) ≡ n
 unfolding sumOf
 group-cells-end b n k to e =
     let z : to - k ≡ 0 = omega arith in

@@ -4,7 +4,7 @@ use mathlib.Core.Path.{_≡_}
 use Prim.Native.Nat.{ℕ, _<_, _≤_}
 use lib.ListN.{getD}
 use Rattle.book.specs.Layout.{lastClass}
-use Rattle.book.specs.Cells.{cellsIn, cellsOfGroup}
+use Rattle.book.specs.Cells.{heldIn, heldOfGroup}
 use Rattle.settings.specs.declared.Decrements.{Decrements}
 use Rattle.reckoning.specs.Arithmetic.{rounded}
 use Rattle.reckoning.specs.Steps.{premiumSum, claimsSum}
@@ -22,7 +22,7 @@ pub record Walked (b : List ℕ) (w : Decrements) (i : ℕ) (p p′ c c′ : Lis
 pub record ChainAdded (b : List ℕ) (w : Decrements) (k n : ℕ) (p p′ c c′ : List ℕ) : Type 0 where
   pub premium : p′ ≡ addedAll (premiumAt b w) (chainLinks b k) p
   pub claims : c′ ≡ addedAll (claimsAt b w) (chainLinks b k) c
-  pub n-is : n ≡ cellsIn b (lastClass 1) k
+  pub n-is : n ≡ heldIn b (lastClass 1) k
   pub few : n ≤ 121
 
 -- the year sums of product group g, and its n
@@ -31,4 +31,4 @@ pub record YearSums (b : List ℕ) (w : Decrements) (g : ℕ) (s : Sums) : Type 
   pub claims-is : (k : ℕ) → k < 50 → getD (s .claims) k 0 ≡ claimsSum rounded (groupCells b w g) k
   pub premium-most : AtMost 726_000_000_000_000 (s .premium)
   pub claims-most : AtMost 726_000_000_000_000 (s .claims)
-  pub n-is : s .n ≡ cellsOfGroup b (lastClass 1) g
+  pub n-is : s .n ≡ heldOfGroup b (lastClass 1) g

@@ -64,7 +64,7 @@ fn add_chain(
         return 0;
     }
     let mut i = head;
-    let mut above = 120 - book::class_of(book, head);
+    let mut above = book::LAST_CLASS - book::class_of(book, head);
     let mut n: u64 = 0;
     loop {
         walk(book, w, k, i, premium, claims);

@@ -8,7 +8,7 @@ use native.Mathlib.Omega.{arith}
 use lib.Dec.{T, leb, eqb, eqb→eq, lit≤}
 use lib.IntN.{ℤ, pos, _-ℤ_, _*ℤ_}
 use Rattle.reckoning.specs.Arithmetic.{rounded, exact, Fraction, partFraction}
-use Rattle.reckoning.specs.Steps.{Cell, Terms, held, oneUnless, inForce, cellPremium, cellClaims, sumCells, premiumSum, claimsSum, outgo, capped, countedPremium, discounted, discountedOutgo, discountedPremium, sumYears, totalOutgo, totalPremium, liability, exactLiability, less}
+use Rattle.reckoning.specs.Steps.{Cell, Terms, held, oneUnless, inForce, cellPremium, cellClaims, sumCells, premiumSum, claimsSum, outgo, cappedIf, capped, countedPremium, discounted, discountedOutgo, discountedPremium, sumYears, totalOutgo, totalPremium, liability, exactLiability, less}
 use Rattle.reckoning.specs.Promises.{GroupDistance}
 use Rattle.reckoning.specs.Bounds.{GoodCell, GoodCells, GoodTerms, Within}
 use Rattle.reckoning.proofs.Near.{Near, near-whole, near-part, near-plus, near-more}
@@ -130,10 +130,10 @@ module _ (D : ℕ) (D-positive : 0 < D) (t : Terms) (good-t : GoodTerms D t) (cs
       (near-part-err (held cs) (sumErr k) (t .costRate * t .costWeight k) 1_000_000_000 1_200_000_000 1_000_000_000 (mul-le-mul (good-t .costRate-most) (good-t .costWeight-most k year)) (omega arith) (omega arith) near-premiumSum)
 
   near-countedPremium : Near (countedPremium rounded t cs k) (countedPremium exact t cs k) (at (premiumErr k) (held cs))
-  unfolding countedPremium capped
+  unfolding countedPremium capped cappedIf
   near-countedPremium = go (leb 5 k)
     where
-      go : (b : Bool) → Near (capped rounded b (premiumSum rounded cs k) (outgo rounded t cs k)) (capped exact b (premiumSum exact cs k) (outgo exact t cs k)) (at (cappedErr b (sumErr k) (outgoErr k)) (held cs))
+      go : (b : Bool) → Near (cappedIf rounded b (premiumSum rounded cs k) (outgo rounded t cs k)) (cappedIf exact b (premiumSum exact cs k) (outgo exact t cs k)) (at (cappedErr b (sumErr k) (outgoErr k)) (held cs))
       go true = near-lesser-err (held cs) (sumErr k) (partErr (outgoErr k) 10 9) near-premiumSum (near-part-err (held cs) (outgoErr k) 10 9 10 9 (omega arith) (omega arith) (omega arith) near-outgo)
       go false = near-premiumSum
 

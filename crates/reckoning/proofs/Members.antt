@@ -8,9 +8,9 @@ use borrow.Author.Tests.{ne-eqb}
 use lib.Dec.{eqb}
 use Rattle.field.specs.Verdicts.{pick}
 use Rattle.book.specs.Layout.{lastClass, headOf, nextOf, fieldOf, countOffset}
-use Rattle.book.specs.Cells.{holds, cellsFrom, cellsIn, sumOf, cellsOfGroup, firstChain, chainsOf}
+use Rattle.book.specs.Cells.{holds, heldFrom, heldIn, sumOf, heldOfGroup, firstChain, chainsOf}
 use Rattle.book.specs.Reading.{ChainFrom}
-use Rattle.book.proofs.Cells.{cells-none}
+use Rattle.book.proofs.Cells.{held-none}
 use Rattle.book.proofs.Valid.{chain-here, chain-end, chain-next}
 use Rattle.settings.specs.declared.Decrements.{Decrements}
 use Rattle.reckoning.specs.Steps.{Cell, held, oneUnless}
@@ -53,8 +53,8 @@ module _ (b : List ℕ) (w : Decrements) where
   cells-append [] ys = refl
   cells-append (x ∷ xs) ys = ap (λ (cs : List Cell). cellOf b w x ∷ cs) (cells-append xs ys)
 
-  pub held-links : (m i : ℕ) → held (cellsOf b w (linksFrom b i m)) ≡ cellsFrom b i m
-  unfolding held cellsOf cellOf linksFrom cellsFrom holds
+  pub held-links : (m i : ℕ) → held (cellsOf b w (linksFrom b i m)) ≡ heldFrom b i m
+  unfolding held cellsOf cellOf linksFrom heldFrom holds
   held-links zero i = refl
   held-links (suc m) i = by-end (eqb i 0) (held-links m (nextOf b i))
     where
@@ -63,18 +63,18 @@ module _ (b : List ℕ) (w : Decrements) where
       one false = refl
 
       by-end : (t : Bool)
-          → held (cellsOf b w (linksFrom b (nextOf b i) m)) ≡ cellsFrom b (nextOf b i) m
+          → held (cellsOf b w (linksFrom b (nextOf b i) m)) ≡ heldFrom b (nextOf b i) m
           → held (cellsOf b w (pick t [] (i ∷ linksFrom b (nextOf b i) m)))
-          ≡ pick t 0 (pick (eqb (fieldOf b i countOffset) 0) 0 1) + cellsFrom b (pick t 0 (nextOf b i)) m
-      by-end true rest = rw (cells-none b m)
+          ≡ pick t 0 (pick (eqb (fieldOf b i countOffset) 0) 0 1) + heldFrom b (pick t 0 (nextOf b i)) m
+      by-end true rest = rw (held-none b m)
       by-end false rest = rw (one (eqb (fieldOf b i countOffset) 0), rest)
 
-  held-chains : (left k : ℕ) → held (cellsOf b w (linksOf b k left)) ≡ sumOf (cellsIn b (lastClass 1)) k left
-  unfolding held cellsOf linksOf sumOf cellsIn
+  held-chains : (left k : ℕ) → held (cellsOf b w (linksOf b k left)) ≡ sumOf (heldIn b (lastClass 1)) k left
+  unfolding held cellsOf linksOf sumOf heldIn
   held-chains zero k = refl
   held-chains (suc left) k =
       rw (cells-append (chainLinks b k) (linksOf b (k + 1) left), held-append, held-links _ (headOf b k), held-chains left (k + 1))
 
-  pub held-group : (g : ℕ) → held (groupCells b w g) ≡ cellsOfGroup b (lastClass 1) g
-  unfolding cellsOfGroup
+  pub held-group : (g : ℕ) → held (groupCells b w g) ≡ heldOfGroup b (lastClass 1) g
+  unfolding heldOfGroup
   held-group g = held-chains (chainsOf g) (firstChain g)

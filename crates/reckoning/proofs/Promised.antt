@@ -13,11 +13,11 @@ use Rattle.field.specs.Verdicts.{countOf}
 use Rattle.field.specs.declared.Verdict.{Verdict}
 use Rattle.field.specs.declared.Verdict.the-variants.{Accepted, Refused}
 use Rattle.book.specs.Layout.{lastClass}
-use Rattle.book.specs.Cells.{cellsOfGroup}
+use Rattle.book.specs.Cells.{heldOfGroup}
 use Rattle.book.specs.Reading.{ValidBook}
 use Rattle.settings.specs.Settings.{decrementsOf}
 use Rattle.reckoning.specs.Arithmetic.{rounded}
-use Rattle.reckoning.specs.Steps.{Cell, Terms, outgo, capped, countedPremium}
+use Rattle.reckoning.specs.Steps.{Cell, Terms, outgo, cappedIf, capped, countedPremium}
 use Rattle.reckoning.specs.Portfolio.{groupCells, termsOf}
 use Rattle.reckoning.specs.Bounds.{Within}
 use Rattle.reckoning.specs.Promises.{distanceOf}
@@ -30,7 +30,7 @@ use Rattle.reckoning.proofs.Accepted.{group-range, group-valid, good-te
 
 module _ (t : Terms) (cs : List Cell) where
   pub cap-holds : (k : ℕ) → 5 ≤ k → 9 * countedPremium rounded t cs k ≤ 10 * outgo rounded t cs k
-  unfolding countedPremium capped
+  unfolding countedPremium capped cappedIf
   cap-holds k late = rw (le-leb _ _ late) (omega arith)
 
   pub length-years : (j : ℕ) → length (yearTable t cs j) ≡ 4 * j
@@ -70,7 +70,7 @@ reckoned (Refused q p) l m n o e = let z : _≡_ {A = ℕ} 0 1 = cc in absurd (o
 
 -- of an accepted book
 pub group-distance : (b : List ℕ) (setting g : ℕ) → ValidBook 1 b → (1 ≤ g) × (g ≤ 5)
-    → Within (distanceOf (cellsOfGroup b (lastClass 1) g)) (groupLiability b setting g) (exactGroupLiability b setting g)
+    → Within (distanceOf (heldOfGroup b (lastClass 1) g)) (groupLiability b setting g) (exactGroupLiability b setting g)
 unfolding groupLiability exactGroupLiability
 group-distance b setting g v range =
     let w = decrementsOf b setting in
@@ -79,7 +79,7 @@ group-distance b setting g v range =
 
 -- where Group accepts
 module _ (b : List ℕ) (setting g : ℕ) (before : List ℕ) (n : ℕ) (e : groupCheck b setting g (length before) ≡ Accepted n) where
-  accepted-distance : Within (distanceOf (cellsOfGroup b (lastClass 1) g)) (groupLiability b setting g) (exactGroupLiability b setting g)
+  accepted-distance : Within (distanceOf (heldOfGroup b (lastClass 1) g)) (groupLiability b setting g) (exactGroupLiability b setting g)
   accepted-distance = group-distance b setting g (group-valid b setting g (length before) n e) (group-range b setting g (length before) n e)
 
   group-cap : (k : ℕ) → 5 ≤ k → k < 50 → 9 * getD (groupTable b setting g before) (4 * k) 0 ≤ 10 * getD (groupTable b setting g before) (4 * k + 1) 0

@@ -11,9 +11,9 @@ use Rattle.field.specs.declared.Verdict.{Verdict}
 use Rattle.field.specs.declared.Verdict.the-variants.{Accepted, Refused}
 use Rattle.book.specs.Layout.{lastClass}
 use Rattle.book.specs.Check.{checkBook}
-use Rattle.book.specs.Cells.{sumOf, cellsOfGroup, cells}
+use Rattle.book.specs.Cells.{sumOf, heldOfGroup, heldInAll}
 use Rattle.book.specs.Reading.{ValidBook}
-use Rattle.book.proofs.Cells.{groups-cells}
+use Rattle.book.proofs.Cells.{groups-held}
 use Rattle.book.proofs.Numbers.{zero-accepted}
 use Rattle.book.proofs.Valid.{valid}
 use Rattle.reckoning.specs.Steps.{SignedFraction}
@@ -69,15 +69,15 @@ groups-within n l x (suc j) each =
     (within-plus (groups-within n l x j (λ g lo hi. each g lo (omega arith))) (each (suc j) (omega arith) (omega arith)))
 
 module _ (b : List ℕ) where
-  first-cells : sumFirst (cellsOfGroup b (lastClass 1)) 5 ≡ cells b (lastClass 1)
+  first-cells : sumFirst (heldOfGroup b (lastClass 1)) 5 ≡ heldInAll b (lastClass 1)
   unfolding sumFirst sumOf
-  first-cells = omega (arith, groups-cells b (lastClass 1))
+  first-cells = omega (arith, groups-held b (lastClass 1))
 
-  pub total-distance : (setting : ℕ) → ValidBook 1 b → Within (totalDistanceOf (cells b (lastClass 1))) (totalOf b setting) (exactTotalOf b setting)
+  pub total-distance : (setting : ℕ) → ValidBook 1 b → Within (totalDistanceOf (heldInAll b (lastClass 1))) (totalOf b setting) (exactTotalOf b setting)
   unfolding totalOf exactTotalOf
   total-distance setting v =
       within-more (omega (arith, first-cells))
-      (groups-within (cellsOfGroup b (lastClass 1)) (groupLiability b setting) (exactGroupLiability b setting) 5 (λ g lo hi. group-distance b setting g v (lo, hi)))
+      (groups-within (heldOfGroup b (lastClass 1)) (groupLiability b setting) (exactGroupLiability b setting) 5 (λ g lo hi. group-distance b setting g v (lo, hi)))
 
   each-total : (setting : ℕ) → setting < 8 → getD (totalsOf b) setting (pos 0) ≡ totalOf b setting
   each-total zero h = refl

@@ -9,8 +9,8 @@ use Rattle.book.proofs.Trials.{t11, t12}
 use Rattle.settings.specs.Settings.{weightOf, mortalityWeight, decrementsOf}
 use Rattle.settings.specs.declared.Decrements.{Decrements}
 use Rattle.reckoning.specs.Arithmetic.{rounded}
-use Rattle.reckoning.specs.Steps.{inForce, capped, discounted}
-use Rattle.reckoning.specs.Portfolio.{oneLess, rowAt, cellOf}
+use Rattle.reckoning.specs.Steps.{inForce, cappedIf, capped, discounted}
+use Rattle.reckoning.specs.Portfolio.{divisorOf, oneLess, rowAt, cellOf}
 use Rattle.reckoning.specs.Trials.{OneMan, Trials}
 
 module _ (b : List ℕ) (i mortality lapse : ℕ) (o : OneMan b i mortality lapse) (w : Decrements) where
@@ -41,10 +41,10 @@ module _ (b : List ℕ) (i mortality lapse : ℕ) (o : OneMan b i mortality laps
   first = year 0 1_000_000_000 (omega arith) (rw (o .one))
 
 pub trials : Trials
-unfolding discounted capped oneLess weightOf mortalityWeight decrementsOf
+unfolding discounted divisorOf capped cappedIf oneLess weightOf mortalityWeight decrementsOf
 trials = record {
-  t1 = refl;
-  t2 = refl;
+  t1 = λ b rate. rw rate;
+  t2 = λ b rate. rw rate;
   t3 = refl;
   t4 = refl;
   t5 = refl;

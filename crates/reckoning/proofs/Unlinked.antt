@@ -15,14 +15,14 @@ use Rattle.field.specs.declared.Verdict.{Verdict}
 use Rattle.field.specs.declared.Verdict.the-variants.{Accepted, Refused}
 use Rattle.field.proofs.Same.{u32-same}
 use Rattle.book.specs.Layout.{recordSize, lastClass, chains, headOf, sexOf, classOf, nextOf, fieldOf, countOffset, lapseOffset, premiumOffset, claimsOffset, curvePlace, linkFrom}
-use Rattle.book.specs.Cells.{firstChain, chainsOf, cellsOfGroup, cells}
+use Rattle.book.specs.Cells.{firstChain, chainsOf, heldOfGroup, heldInAll}
 use Rattle.book.specs.Check.{checkBook}
 use Rattle.book.specs.Rules.{SameButUnlinked}
 use Rattle.book.specs.Reading.{Standing, ValidBook}
 use Rattle.book.proofs.Links.{link-next}
 use Rattle.book.proofs.Same.{SameRecord, sex-same, class-same, next-same, field-of-same, front-same, head-same, record-same}
 use Rattle.book.proofs.Valid.{valid}
-use Rattle.book.proofs.Exact.{accepted-cells}
+use Rattle.book.proofs.Exact.{accepted-held}
 use Rattle.book.proofs.Unlinked.{unlinked-same}
 use Rattle.settings.specs.Settings.{mortalityWeight, decrementsOf, lapseIn}
 use Rattle.settings.specs.declared.Decrements.{Decrements}
@@ -215,7 +215,7 @@ module _ (b b′ : List ℕ) (s : SameButUnlinked b b′) (setting g : ℕ) (v :
   group-years-same : yearTable (termsOf b setting g) (groupCells b (decrementsOf b setting) g) 50 ≡ yearTable (termsOf b′ setting g) (groupCells b′ (decrementsOf b′ setting) g) 50
   group-years-same = rw group-cells-same (years-same _ _ (groupCells b′ (decrementsOf b′ setting) g) group-terms-same 50 (omega arith))
 
-  group-held-same : cellsOfGroup b (lastClass 1) g ≡ cellsOfGroup b′ (lastClass 1) g
+  group-held-same : heldOfGroup b (lastClass 1) g ≡ heldOfGroup b′ (lastClass 1) g
   group-held-same = sym (held-group b (decrementsOf b setting) g) ∙ ap held group-cells-same ∙ held-group b′ (decrementsOf b′ setting) g
 
 -- Group's reply and table.
@@ -229,7 +229,7 @@ module _ (b b′ : List ℕ) (s : SameButUnlinked b b′) (setting g numbers : �
   reply-same = rw (← verdict-same) (by-verdict (groupCheck b setting g numbers) refl)
     where
       by-verdict : (v : Verdict) → groupCheck b setting g numbers ≡ v
-          → replyOf v (groupLiability b setting g) (cellsOfGroup b (lastClass 1) g) ≡ replyOf v (groupLiability b′ setting g) (cellsOfGroup b′ (lastClass 1) g)
+          → replyOf v (groupLiability b setting g) (heldOfGroup b (lastClass 1) g) ≡ replyOf v (groupLiability b′ setting g) (heldOfGroup b′ (lastClass 1) g)
       by-verdict (Accepted n) e =
           let v = group-valid b setting g numbers n e in
           let range = group-range b setting g numbers n e in
@@ -264,12 +264,12 @@ module _ (b b′ : List ℕ) (s : SameButUnlinked b b′) where
   totals-same = rw (← (unlinked-same b b′ s 1)) (by-verdict (checkBook 1 b) refl)
     where
       by-verdict : (v : Verdict) → checkBook 1 b ≡ v
-          → totalsFor v (cells b (lastClass 1)) (totalsOf b) (differencesOf b) ≡ totalsFor v (cells b′ (lastClass 1)) (totalsOf b′) (differencesOf b′)
+          → totalsFor v (heldInAll b (lastClass 1)) (totalsOf b) (differencesOf b) ≡ totalsFor v (heldInAll b′ (lastClass 1)) (totalsOf b′) (differencesOf b′)
       by-verdict (Accepted n) e =
           let t = total-same (valid 1 b n e) in
           rw (
-            ← (accepted-cells 1 b n e),
-            ← (accepted-cells 1 b′ n (sym (unlinked-same b b′ s 1) ∙ e)),
+            ← (accepted-held 1 b n e),
+            ← (accepted-held 1 b′ n (sym (unlinked-same b b′ s 1) ∙ e)),
             t 0,
             t 1,
             t 2,

@@ -4,7 +4,7 @@ use mathlib.Core.List.{List, [], _∷_, _++_}
 use lib.Dec.{ltb, eqb}
 use Rattle.field.specs.Bytes.{readU32}
 use Rattle.field.specs.Verdicts.{pick}
-use Rattle.book.specs.Layout.{lastClass, headOf, sexOf, classOf, nextOf, fieldOf, countOffset, lapseOffset, premiumOffset, claimsOffset, costPlace, curvePlace, mortalityPlace}
+use Rattle.book.specs.Layout.{lastClass, headOf, sexOf, classOf, nextOf, fieldOf, countOffset, lapseOffset, premiumOffset, claimsOffset, costPlace, curvePlace, mortalityPlace, mortalitySize}
 use Rattle.book.specs.Cells.{firstChain, chainsOf}
 use Rattle.settings.specs.Settings.{outgoingsOf, mortalityIn, lapseIn, costsIn, claimsIn}
 use Rattle.settings.specs.declared.Decrements.{Decrements}
@@ -12,7 +12,7 @@ use Rattle.reckoning.specs.Steps.{Cell, Terms}
 
 -- Tables: the mortality of a sex and class, the cost rate of product group g, and 1,000,000 more than the rate of year k.
 unfoldable pub mortalityOf : List ℕ → ℕ → ℕ → ℕ
-mortalityOf b sex class = readU32 b (mortalityPlace + 484 * sex + 4 * class)
+mortalityOf b sex class = readU32 b (mortalityPlace + mortalitySize * sex + 4 * class)
 
 unfoldable pub costRateOf : List ℕ → ℕ → ℕ
 costRateOf b g = readU32 b (costPlace + 4 * (g - 1))

@@ -10,7 +10,7 @@ use Rattle.field.specs.Fields.{within}
 use Rattle.field.specs.declared.Verdict.{Verdict}
 use Rattle.field.specs.declared.Verdict.the-variants.{Accepted, Refused}
 use Rattle.book.specs.Layout.{lastClass}
-use Rattle.book.specs.Cells.{cellsOfGroup}
+use Rattle.book.specs.Cells.{heldOfGroup}
 use Rattle.book.specs.Check.{checkBook}
 use Rattle.settings.specs.Settings.{decrementsOf}
 use Rattle.reckoning.specs.Arithmetic.{rounded}
@@ -19,7 +19,7 @@ use Rattle.reckoning.specs.Portfolio.{groupCells, termsOf}
 use Rattle.reckoning.specs.Bounds.{Within}
 use Rattle.reckoning.specs.Promises.{distanceOf}
 use Rattle.reckoning.specs.declared.GroupReply.{GroupReply}
-use Rattle.reckoning.specs.declared.GroupReply.the-variants.{Reckoned, Refused as Not}
+use Rattle.reckoning.specs.declared.GroupReply.the-variants.{Reckoned, Refused as GroupRefused}
 
 -- 14 setting, 15 product group, 16 a table of under 200 numbers; then the book's own refusals
 unfoldable pub groupCheck : List ℕ → ℕ → ℕ → ℕ → Verdict
@@ -39,27 +39,27 @@ exactGroupLiability b setting g = exactLiability (termsOf b setting g) (groupCel
 -- The paper's values of a reply: the refusal's number and its place, 0 and 0 where there is none; liability and n, 0 and 0 where refused.
 abbrev pub refusalIn : GroupReply → ℕ
 refusalIn (Reckoned l n) = 0
-refusalIn (Not number place) = number
+refusalIn (GroupRefused number place) = number
 
 abbrev pub placeIn : GroupReply → ℕ
 placeIn (Reckoned l n) = 0
-placeIn (Not number place) = place
+placeIn (GroupRefused number place) = place
 
 abbrev pub liabilityIn : GroupReply → ℤ
 liabilityIn (Reckoned l n) = l
-liabilityIn (Not number place) = pos 0
+liabilityIn (GroupRefused number place) = pos 0
 
 abbrev pub countIn : GroupReply → ℕ
 countIn (Reckoned l n) = n
-countIn (Not number place) = 0
+countIn (GroupRefused number place) = 0
 
 -- the reply: liability and n, or the first refusal
 abbrev pub replyOf : Verdict → ℤ → ℕ → GroupReply
 replyOf (Accepted m) l n = Reckoned l n
-replyOf (Refused number place) l n = Not number place
+replyOf (Refused number place) l n = GroupRefused number place
 
 unfoldable pub groupReply : List ℕ → ℕ → ℕ → ℕ → GroupReply
-groupReply b setting g numbers = replyOf (groupCheck b setting g numbers) (groupLiability b setting g) (cellsOfGroup b (lastClass 1) g)
+groupReply b setting g numbers = replyOf (groupCheck b setting g numbers) (groupLiability b setting g) (heldOfGroup b (lastClass 1) g)
 
 -- the four numbers of year k: premium after cap, outgo, both discounted
 abbrev pub yearNumbers : Terms → List Cell → ℕ → List ℕ

@@ -65,12 +65,15 @@ module _ (A : Arithmetic) where
       (A .part (premiumSum cs k) (t .costRate * t .costWeight k) 1_000_000_000)
 
   -- step 4: the cap, from the sixth year (k = 5) on: at most ten ninths of the outgo
-  unfoldable pub capped : Bool → A .Number → A .Number → A .Number
-  capped true p o = A .lesser p (A .part o 10 9)
-  capped false p o = p
+  unfoldable pub cappedIf : Bool → A .Number → A .Number → A .Number
+  cappedIf true p o = A .lesser p (A .part o 10 9)
+  cappedIf false p o = p
+
+  unfoldable pub capped : ℕ → A .Number → A .Number → A .Number
+  capped k p o = cappedIf (leb 5 k) p o
 
   unfoldable pub countedPremium : Terms → List Cell → ℕ → A .Number
-  countedPremium t cs k = capped (leb 5 k) (premiumSum cs k) (outgo t cs k)
+  countedPremium t cs k = capped k (premiumSum cs k) (outgo t cs k)
 
   -- step 5: discounted for j years with the divisor d, each year one step on the amount of one year less
   unfoldable pub discounted : ℕ → ℕ → A .Number → A .Number

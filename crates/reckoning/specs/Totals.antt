@@ -7,7 +7,7 @@ use lib.ListN.{getD}
 use Rattle.field.specs.declared.Verdict.{Verdict}
 use Rattle.field.specs.declared.Verdict.the-variants.{Accepted, Refused}
 use Rattle.book.specs.Layout.{lastClass}
-use Rattle.book.specs.Cells.{cells}
+use Rattle.book.specs.Cells.{heldInAll}
 use Rattle.book.specs.Check.{checkBook}
 use Rattle.reckoning.specs.Steps.{SignedFraction}
 use Rattle.reckoning.specs.Bounds.{Within}
@@ -56,7 +56,7 @@ totalsFor (Accepted m) n ts ds = record { refusal = 0; place = 0; n = n; totals 
 totalsFor (Refused number place) n ts ds = record { refusal = number; place = place; n = 0; totals = nothing 8; differences = nothing 4 }
 
 unfoldable pub totalsReply : List ℕ → TotalsReply
-totalsReply b = totalsFor (checkBook 1 b) (cells b (lastClass 1)) (totalsOf b) (differencesOf b)
+totalsReply b = totalsFor (checkBook 1 b) (heldInAll b (lastClass 1)) (totalsOf b) (differencesOf b)
 
 -- What Totals' call promises: its reply equals its definition; and, where it reckons, demand 3 for each total.
 pub record TotalsPromised (b : List ℕ) (reply : TotalsReply) : Type 0 where

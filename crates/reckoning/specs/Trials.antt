@@ -2,15 +2,15 @@
 use mathlib.Core.Path.{_≡_}
 use mathlib.Core.List.{List}
 use Prim.Native.Nat.{ℕ, _+_, _<_, _≤_}
-use lib.Dec.{leb}
 use lib.ListN.{length, replicate}
 use Rattle.field.specs.declared.Verdict.the-variants.{Refused}
-use Rattle.book.specs.Layout.{lastClass, sexOf, classOf, nextOf, fieldOf, countOffset, lapseOffset}
+use Rattle.field.specs.Bytes.{readU32}
+use Rattle.book.specs.Layout.{curvePlace, lastClass, sexOf, classOf, nextOf, fieldOf, countOffset, lapseOffset}
 use Rattle.book.specs.Check.{checkBook}
 use Rattle.settings.specs.Settings.{decrementsOf}
 use Rattle.reckoning.specs.Arithmetic.{rounded}
 use Rattle.reckoning.specs.Steps.{inForce, capped, discounted}
-use Rattle.reckoning.specs.Portfolio.{mortalityOf, rowAt, cellOf}
+use Rattle.reckoning.specs.Portfolio.{mortalityOf, divisorOf, rowAt, cellOf}
 
 -- record i has one man below class 119, with the same mortality at every class and the same lapse in every year
 pub record OneMan (b : List ℕ) (i mortality lapse : ℕ) : Type 0 where
@@ -26,12 +26,13 @@ abbrev pub inForceAfter : List ℕ → ℕ → ℕ → ℕ → ℕ
 inForceAfter b setting i k = inForce rounded (cellOf b (decrementsOf b setting) i) k
 
 pub record Trials : Type 0 where
-  pub t1 : discounted rounded 990_000 1 99 ≡ 100
-  pub t2 : discounted rounded 1_010_000 2 100 ≡ 98
-  pub t3 : capped rounded (leb 5 5) 1001 900 ≡ 1000
-  pub t4 : capped rounded (leb 5 4) 1001 900 ≡ 1001
-  pub t5 : capped rounded (leb 5 5) 1000 899 ≡ 998
-  pub t6 : (premium : ℕ) → capped rounded (leb 5 5) premium 0 ≡ 0
+  -- the rates that a book stores for k = 1 and k = 2: -10,000 in two's complement, and 10,000
+  pub t1 : (b : List ℕ) → readU32 b curvePlace ≡ 4_294_957_296 → discounted rounded (divisorOf b 1) 1 99 ≡ 100
+  pub t2 : (b : List ℕ) → readU32 b (curvePlace + 4) ≡ 10_000 → discounted rounded (divisorOf b 2) 2 100 ≡ 98
+  pub t3 : capped rounded 5 1001 900 ≡ 1000
+  pub t4 : capped rounded 4 1001 900 ≡ 1001
+  pub t5 : capped rounded 5 1000 899 ≡ 998
+  pub t6 : (premium : ℕ) → capped rounded 5 premium 0 ≡ 0
   pub t7 : (b : List ℕ) (i : ℕ) → OneMan b i 1_000_000 0 → inForceAfter b 0 i 1 ≡ 130_000_000
   pub t8 : (b : List ℕ) (i : ℕ) → OneMan b i 1_000_000 0 → inForceAfter b 1 i 1 ≡ 0
   pub t9 : (b : List ℕ) (i : ℕ) → OneMan b i 1_000_000 0 → inForceAfter b 2 i 1 ≡ 304_000_000

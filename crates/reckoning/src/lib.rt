@@ -1,4 +1,5 @@
-// The reckoning: what the calls answer.
+// What the calls Group and Totals answer.
+
 pub enum GroupReply {
     Reckoned(i64, u64),
     Refused(u64, usize),

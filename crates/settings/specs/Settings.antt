@@ -55,6 +55,7 @@ outgoAt setting k = record { costs = weightOf setting 3 k; claims = weightOf set
 unfoldable pub outgoingsOf : ℕ → Outgoings
 outgoingsOf setting = record { first = outgoAt setting 0; later = outgoAt setting 5 }
 
+-- What is read here for a year is `weightOf` of that year: laws `mortality-is`, `lapse-is`, `costs-is`, `claims-is` (proofs/Laws).
 -- of the weights of a year, that of the mortality of a sex
 abbrev pub ofSex : ℕ → DecrementWeights → ℕ
 ofSex sex w = pick (eqb sex 0) (w .men) (w .women)

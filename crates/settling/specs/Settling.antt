@@ -2,7 +2,6 @@
 use mathlib.Core.Path.{_≡_}
 use mathlib.Core.List.{List, [], _∷_}
 use Prim.Native.Nat.{ℕ, _+_, _*_, _/_, _≤_}
-use lib.Dec.{leb}
 use Rattle.settings.specs.Settings.{costsIn, claimsIn}
 use Rattle.settings.specs.declared.Outgoings.{Outgoings}
 use Rattle.reckoning.specs.Arithmetic.{rounded}
@@ -24,9 +23,9 @@ pub record Discounted (d j : ℕ) (x r : Amounts) : Type 0 where
 -- steps 4 and 5 of a premium sum and an outgo
 abbrev pub settled : ℕ → ℕ → ℕ → ℕ → Year
 settled k d premium outgo = record {
-  premium = capped rounded (leb 5 k) premium outgo;
+  premium = capped rounded k premium outgo;
   outgo = outgo;
-  dpremium = discounted rounded d k (capped rounded (leb 5 k) premium outgo);
+  dpremium = discounted rounded d k (capped rounded k premium outgo);
   doutgo = discounted rounded d k outgo;
 }
 

@@ -3,7 +3,6 @@
 ghost use mathlib.Core.Path.{_≡_};
 ghost use mathlib.Core.List.{_++_};
 ghost use Prim.Native.Nat.{_+_, _*_, _/_, _<_, _≤_};
-ghost use lib.Dec.{leb};
 ghost use lib.IntN.{pos, _-ℤ_};
 ghost use lib.ListN.{length, take, drop};
 ghost use Rattle.book.specs.Reading.{ValidBook};
@@ -77,7 +76,7 @@ fn outgo(w: Outgoings, k: usize, rate: u64, premium: u64, claims: u64) -> u64
 // The premium that counts in year k: from the sixth year on at most ten ninths of the outgo.
 fn counted(k: usize, premium: u64, outgo: u64) -> u64
     requires { ⌜ outgo ≤ 2000000000000000 ⌝ }
-    ensures { λ r. ⌜ (r ≡ capped rounded (leb 5 k) premium outgo) × (r ≤ premium) ⌝ }
+    ensures { λ r. ⌜ (r ≡ capped rounded k premium outgo) × (r ≤ premium) ⌝ }
 {
     if k < 5 {
         return premium;
@@ -99,21 +98,21 @@ pub fn settle_year(w: Outgoings, k: usize, rate: u64, d: u64, premium: u64, clai
     requires { ⌜ OutgoWeighed w × (k ≤ 49) × (rate ≤ 1000000) × (990000 ≤ d) × (d ≤ 1200000) × (premium ≤ 726000000000000) × (claims ≤ 726000000000000) ⌝ }
     ensures { λ r. ⌜ (r ≡ yearFrom w k rate d premium claims) × (r .dpremium ≤ 9000000000000000) × (r .doutgo ≤ 9000000000000000) ⌝ }
 {
-    let out = outgo(w, k, rate, premium, claims);
-    let cap = counted(k, premium, out);
-    let then = discount(
+    let spent = outgo(w, k, rate, premium, claims);
+    let due = counted(k, premium, spent);
+    let discounted = discount(
         d,
         k,
         Amounts {
-            premium: cap,
-            outgo: out,
+            premium: due,
+            outgo: spent,
         },
     );
     Year {
-        premium: cap,
-        outgo: out,
-        dpremium: then.premium,
-        doutgo: then.outgo,
+        premium: due,
+        outgo: spent,
+        dpremium: discounted.premium,
+        doutgo: discounted.outgo,
     }
 }
 

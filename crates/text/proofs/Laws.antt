@@ -17,7 +17,7 @@ use mir.Val.{SFits, toZ, ofZ}
 use mir.ValLaws.{toZ-ofZ}
 use lib.ListN.{length, length-append, set, drop, take, getD}
 use lib.Seq.{sets, sets-eq, length-sets, take-suc, take-all, length-take-le}
-use Rattle.text.specs.Text.{spelled, decimal, counted, digits, signed, Wrote, Delivered, delivered, told, joined}
+use Rattle.text.specs.Text.{spelled, decimal, signed, Wrote, Delivered, delivered, told, joined}
 
 pub le-or-lt : (a b : ℕ) → (a ≤ b) ⊎ (b < a)
 le-or-lt zero b = inl (omega arith)
@@ -44,25 +44,16 @@ decimal-more zero h = absurd (not-suc-le-zero h)
 decimal-more (suc n) h =
     rw (le-ltb (suc n) 10 h) (ap (λ (l : List ℕ). l ++ ((48 + suc n % 10) ∷ [])) (spelled-same n (suc n / 10) (suc n / 10) (omega arith) (omega arith)))
 
--- as many as the count says
-length-spelled : (f n : ℕ) → length (spelled f n) ≡ counted f n
-unfolding spelled counted
-length-spelled zero n = refl
-length-spelled (suc f) n =
-    ⊎-elim (λ h. rw (le-ltb n 10 h) (length-append (spelled f (n / 10)) ((48 + n % 10) ∷ []) ∙ ap (λ (k : ℕ). k + 1) (length-spelled f (n / 10)))) (λ h. rw (lt-ltb n 10 h)) (le-or-lt 10 n)
-
-pub length-decimal : (n : ℕ) → length (decimal n) ≡ digits n
-unfolding decimal digits
-length-decimal n = length-spelled n n
-
--- no more than k where n has no more
-counted-most : (f k n : ℕ) → n < 10 ^ (k + 1) → counted f n ≤ k + 1
-unfolding counted
-counted-most zero k n h = omega arith
-counted-most (suc f) zero n h = rw (lt-ltb n 10 h) (omega arith)
-counted-most (suc f) (suc k) n h =
+-- no more digits than k + 1 where n has no more
+spelled-most : (f k n : ℕ) → n < 10 ^ (k + 1) → length (spelled f n) ≤ k + 1
+unfolding spelled
+spelled-most zero k n h = omega arith
+spelled-most (suc f) zero n h = rw (lt-ltb n 10 h) (omega arith)
+spelled-most (suc f) (suc k) n h =
     let more : 10 ^ (suc k + 1) ≡ 10 ^ (k + 1) * 10 = rw (suc-add k 1) (pow-suc 10 (k + 1)) in
-    ⊎-elim (λ p. rw (le-ltb n 10 p) (omega (arith, counted-most f k (n / 10) (omega arith)))) (λ p. rw (lt-ltb n 10 p) (omega arith)) (le-or-lt 10 n)
+    ⊎-elim
+    (λ p. rw (le-ltb n 10 p) (omega (arith, length-append (spelled f (n / 10)) ((48 + n % 10) ∷ []), spelled-most f k (n / 10) (omega arith))))
+    (λ p. rw (lt-ltb n 10 p) (omega arith)) (le-or-lt 10 n)
 
 -- ---- one text after another
 
@@ -93,8 +84,8 @@ from-start {e} {t} {x} {r} w h =
     w .bytes ∙ sets-eq t e 0 (omega arith) ∙ rw (zero-add (length t))
 
 pub digits-most : (k n : ℕ) → n < 10 ^ (k + 1) → length (decimal n) ≤ k + 1
-unfolding digits
-digits-most k n h = omega (arith, length-decimal n, counted-most n k n h)
+unfolding decimal
+digits-most k n h = spelled-most n k n h
 
 -- a trial run tells the length
 pub trial : {o t p : List ℕ} {want : ℕ} → Wrote o 0 t p want → want ≡ length t

@@ -7,8 +7,13 @@ use native.Mathlib.Omega.{arith}
 use borrow.Author.Tests.{lt-ltb, le-ltb}
 use lib.IntN.{negsuc}
 use lib.ListN.{length, length-append, getD, List·getD-append}
-use Rattle.text.specs.Text.{spelled, decimal, read, signed}
+use Rattle.text.specs.Text.{spelled, decimal, signed}
 use Rattle.text.proofs.Laws.{le-or-lt}
+
+-- the number that a list of digits spells, read from the left
+unfoldable pub read : ℕ → List ℕ → ℕ
+read so [] = so
+read so (d ∷ ds) = read (so * 10 + (d - 48)) ds
 
 read-more : (so d : ℕ) (ds : List ℕ) → read so (ds ++ (d ∷ [])) ≡ read so ds * 10 + (d - 48)
 unfolding read

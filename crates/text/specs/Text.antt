@@ -2,7 +2,7 @@
 use mathlib.Core.Bool.{cond}
 use mathlib.Core.List.{List, [], _∷_, _++_}
 use mathlib.Core.Path.{_≡_}
-use Prim.Native.Nat.{ℕ, zero, suc, _+_, _-_, _*_, _/_, _%_, _≤_}
+use Prim.Native.Nat.{ℕ, zero, suc, _+_, _/_, _%_, _≤_}
 use lib.Dec.{ltb, leb}
 use lib.IntN.{ℤ, pos, negsuc}
 use lib.ListN.{length, take, drop}
@@ -15,19 +15,6 @@ spelled (suc left) n = cond (ltb n 10) ((48 + n) ∷ []) (spelled left (n / 10) 
 
 unfoldable pub decimal : ℕ → List ℕ
 decimal n = spelled n n
-
--- the number that a list of digits spells, read from the left; it says of `decimal` that it is right (decimal-read of the laws)
-unfoldable pub read : ℕ → List ℕ → ℕ
-read so [] = so
-read so (d ∷ ds) = read (so * 10 + (d - 48)) ds
-
--- how many they are
-unfoldable pub counted : ℕ → ℕ → ℕ
-counted zero n = 1
-counted (suc left) n = cond (ltb n 10) 1 (counted left (n / 10) + 1)
-
-unfoldable pub digits : ℕ → ℕ
-digits n = counted n n
 
 -- a whole number, with a minus sign (45) below 0
 unfoldable pub signed : ℤ → List ℕ

@@ -50,16 +50,6 @@ pub fn put_bytes(out: &mut [u8], at: usize, s: &[u8]) -> usize
     next
 }
 
-// The number of digits.
-pub fn digits(n: u64) -> usize
-    ensures { λ r. ⌜ (r ≡ length (decimal n)) × (r ≤ 20) ⌝ }
-{
-    if n < 10 {
-        return 1;
-    }
-    digits(n / 10) + 1
-}
-
 // The size of a number below 0.
 fn size_below(v: i64) -> u64
     requires { ⌜ v <ℤ pos 0 ⌝ }

@@ -14,7 +14,6 @@ use projection::Sums;
 use reckoning::TotalsReply;
 use settings::Decrements;
 
-// a and b added.
 fn plus(a: i64, b: i64) -> i64
     requires { ⌜ mag a + mag b < 9223372036854775807 ⌝ }
     ensures { λ r. ⌜ (r ≡ a +ℤ b) × (mag r ≤ mag a + mag b + 1) ⌝ }
@@ -22,7 +21,6 @@ fn plus(a: i64, b: i64) -> i64
     a + b
 }
 
-// a less b.
 fn minus(a: i64, b: i64) -> i64
     requires { ⌜ mag a + mag b < 9223372036854775806 ⌝ }
     ensures { λ r. ⌜ r ≡ a -ℤ b ⌝ }

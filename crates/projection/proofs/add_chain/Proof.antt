@@ -4,7 +4,7 @@ use mathlib.Core.Path.{_≡_, refl, sym, ap, _∙_}
 use mathlib.Core.List.{List}
 use Prim.Native.Nat.{ℕ, _+_, _-_, _≤_}
 use native.Mathlib.Omega.{arith}
-use Rattle.book.specs.Cells.{cellsFrom}
+use Rattle.book.specs.Cells.{heldFrom}
 use Rattle.book.specs.Rules.{RecordRules}
 use Rattle.book.specs.Reading.{ChainFrom}
 use Rattle.book.proofs.Valid.{chain-here, chain-next}
@@ -21,7 +21,7 @@ Inv-loop book w k premium₀ claims₀ head i₀ above₀ n₀ premium claims i 
     (above ≤ above₀) × (above₀ ≤ 120) × (n + above ≤ above₀) × ChainFrom book 120 k above i
     × Carry (premiumAt book w) book above₀ head premium₀ above i premium
     × Carry (claimsAt book w) book above₀ head claims₀ above i claims
-    × (n + cellsFrom book i (above + 1) ≡ cellsFrom book head (above₀ + 1))
+    × (n + heldFrom book i (above + 1) ≡ heldFrom book head (above₀ + 1))
 
 abbrev μ-loop : tie.MeasureT-loop
 μ-loop book w k premium₀ claims₀ head i₀ above₀ n₀ premium claims i above n = above

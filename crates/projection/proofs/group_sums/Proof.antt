@@ -6,7 +6,7 @@ use Prim.Native.Nat.{ℕ, _+_, _-_, _*_, _≤_}
 use native.Mathlib.Omega.{arith}
 use borrow.Author.Needs.{needs}
 use lib.ListN.{replicate}
-use Rattle.book.specs.Cells.{cellsIn, sumOf, chainsOf, cellsOfGroup}
+use Rattle.book.specs.Cells.{heldIn, sumOf, chainsOf, heldOfGroup}
 use Rattle.reckoning.specs.Portfolio.{groupLinks}
 use Rattle.cell.specs.States.{premiumAt, claimsAt}
 use Rattle.cell.proofs.Cells.{premium-at-le, claims-at-le}
@@ -22,7 +22,7 @@ Inv-loop book w group premium₀ claims₀ n₀ from to k₀ premium claims n k 
     (from ≤ k) × (k ≤ to) × (n ≤ 121 * (k - from))
     × Gather (premiumAt book w) book from to zeros k premium
     × Gather (claimsAt book w) book from to zeros k claims
-    × (n + sumOf (cellsIn book 120) k (to - k) ≡ sumOf (cellsIn book 120) from (to - from))
+    × (n + sumOf (heldIn book 120) k (to - k) ≡ sumOf (heldIn book 120) from (to - from))
 
 abbrev μ-loop : tie.MeasureT-loop
 μ-loop book w group premium₀ claims₀ n₀ from to k₀ premium claims n k = to - k
@@ -67,7 +67,7 @@ loop-again c =
     )
 
 returns : tie.Need-returns Inv-loop μ-loop
-unfolding zeros cellsOfGroup
+unfolding zeros heldOfGroup
 returns c =
     let m = c .before in
     let l = m .loop in

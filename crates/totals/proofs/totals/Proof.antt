@@ -2,7 +2,7 @@
 use mathlib.Core.Path.{sym, _∙_}
 use borrow.Author.Needs.{needs}
 use Rattle.book.proofs.Valid.{valid}
-use Rattle.book.proofs.Exact.{accepted-cells}
+use Rattle.book.proofs.Exact.{accepted-held}
 use Rattle.reckoning.specs.Totals.{totalsReply}
 use Rattle.reckoning.proofs.Total.{totals-promised}
 use Rattle.totals.proofs.totals.Statement.{statement}
@@ -15,7 +15,7 @@ returns : tie.Need-returns
 unfolding totalsReply
 returns c =
     let e = sym (c .before .before .before .before .check .ensures) ∙ c .before .before .v .given .1 in
-    totals-promised _ _ (c .reckoned .ensures ∙ rw (e, ← (accepted-cells 1 _ _ e)))
+    totals-promised _ _ (c .reckoned .ensures ∙ rw (e, ← (accepted-held 1 _ _ e)))
 
 returns-2 : tie.Need-returns-2
 unfolding totalsReply
