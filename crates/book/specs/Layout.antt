@@ -15,7 +15,7 @@ recordSize = 24
 abbrev pub mostRecords : ℕ
 mostRecords = 1694
 
--- the last class of an age basis: 120 on basis 1
+-- the last class of an age basis: 120 on basis 1, whose class is the SST year less birth year less 1 (FINMA 4.3)
 abbrev pub lastClass : ℕ → ℕ
 lastClass basis = 119 + basis
 

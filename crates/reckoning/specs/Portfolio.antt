@@ -21,7 +21,7 @@ costRateOf b g = readU32 b (costPlace + 4 * (g - 1))
 unfoldable pub divisorOf : List ℕ → ℕ → ℕ
 divisorOf b k = pick (eqb k 0) 1_000_000 ((readU32 b (curvePlace + 4 * (k - 1)) + 1_000_000) % 4_294_967_296)
 
--- one less a rate in millionths at a weight in thousandths, in billionths; the weighted rate is cut to one
+-- one less a rate in millionths at a weight in thousandths, in billionths; the weighted rate is cut to one (house rule)
 unfoldable pub oneLess : ℕ → ℕ → ℕ
 oneLess rate weight = 1_000_000_000 - min (rate * weight) 1_000_000_000
 
@@ -34,7 +34,7 @@ unfoldable pub rowAt : List ℕ → ℕ → ℕ → ℕ
 rowAt b i zero = i
 rowAt b i (suc k) = onward b (rowAt b i k)
 
--- The cell of record i at the weights w. Nothing goes on from the last class.
+-- The cell of record i at the weights w. Nothing goes on from the last class (house rule).
 unfoldable pub cellOf : List ℕ → Decrements → ℕ → Cell
 cellOf b w i = record {
   count = fieldOf b i countOffset;

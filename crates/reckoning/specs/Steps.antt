@@ -58,13 +58,13 @@ module _ (A : Arithmetic) where
   unfoldable pub claimsSum : List Cell → ℕ → A .Number
   claimsSum cs k = sumCells (cellClaims k) cs
 
-  -- step 3: the outgo is the weighted claims and the cost, of the premium before the cap
+  -- step 3: the outgo is the weighted claims and the cost (FINMA 4.4.8), of the premium before the cap (house rule)
   unfoldable pub outgo : Terms → List Cell → ℕ → A .Number
   outgo t cs k =
       A .plus (A .part (claimsSum cs k) (t .claimsWeight k) 1000)
       (A .part (premiumSum cs k) (t .costRate * t .costWeight k) 1_000_000_000)
 
-  -- step 4: the cap, from the sixth year (k = 5) on: at most ten ninths of the outgo
+  -- step 4: the cap (FINMA 4.5), from the sixth year (k = 5) on: at most ten ninths of the outgo
   unfoldable pub cappedIf : Bool → A .Number → A .Number → A .Number
   cappedIf true p o = A .lesser p (A .part o 10 9)
   cappedIf false p o = p

@@ -10,11 +10,11 @@ use Rattle.settings.specs.declared.Decrements.{Decrements}
 use Rattle.settings.specs.declared.OutgoWeights.{OutgoWeights}
 use Rattle.settings.specs.declared.Outgoings.{Outgoings}
 
--- the base, setting 0
+-- the base, setting 0 (FINMA 4.4.3)
 abbrev pub baseWeight : ℕ → ℕ
 baseWeight kind = pick (eqb kind 0) 870 (pick (eqb kind 1) 860 1000)
 
--- what a setting makes of the base weight of a kind, in percent
+-- what a setting makes of the base weight of a kind, in percent (FINMA 5.2.2)
 abbrev pub shift : ℕ → ℕ → ℕ
 shift setting kind =
     pick (ltb kind 2) (pick (eqb setting 1) 120 (pick (eqb setting 2) 80 100))
