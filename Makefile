@@ -1,4 +1,4 @@
-# `make` lists the targets. The toolchain, a POSIX shell, make and Python 3 are needed; gcc and cargo for the callers.
+# `make` lists the targets. The toolchain, a POSIX shell, make and Python 3.10 or later are needed; gcc and cargo for the callers.
 .DEFAULT_GOAL := help
 .PHONY: help test check list fuzz streams samples lib callers bench FORCE
 

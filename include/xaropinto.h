@@ -6,10 +6,13 @@
  * numbers 0 to 199 of the table. No call keeps a pointer after it returns, and none allocates.
  *
  * Pointers. Each must be valid for its length and must not be null, also where the length is 0. The table must be
- * aligned for uint64_t and must not overlap the book.
+ * aligned for uint64_t, and must overlap neither the book nor anything else that is lent at the time.
  *
- * Threads. Calls may run at the same time in several threads. They may share a book that no thread writes to; each
- * Group call needs a table of its own.
+ * Threads. Calls may run at the same time in several threads. While a call runs, no other thread may write to its
+ * book or to its table. Calls may share a book; each Group call needs a table of its own.
+ *
+ * Stack. A call takes what it needs from the caller's stack, and no proof says how much. A process that runs out of
+ * stack stops. The most that a call was measured to take is STACKFIGURE.
  *
  * Replies. A refusal of 0 means accepted. Otherwise `refusal` says which rule is broken and `place` where; every
  * other field of the reply is 0, and the table is as it was. No earlier call is trusted: each checks the whole book.
@@ -32,7 +35,9 @@
  *   15       the product group is 1 to 5                 0                           caller
  *   16       the table has at least 200 numbers          0                           caller
  *
- * The first that applies is given: 14, 15, 16, then 1 to 8 by number and by place, then the chains one by one.
+ * Where several rules are broken, the reply names one. 14 to 16 are tested first, in this order; then 1 to 8, also in
+ * order, and where a number has several places it is given with the lowest. 9 to 13 come last, chain by chain and
+ * record by record: docs/BOOK.md has their order.
  */
 #ifndef XAROPINTO_H
 #define XAROPINTO_H
