@@ -12,7 +12,7 @@
  * book or to its table. Calls may share a book; each Group call needs a table of its own.
  *
  * Stack. A call takes what it needs from the caller's stack, and no proof says how much. A process that runs out of
- * stack stops. The most that a call was measured to take is STACKFIGURE.
+ * stack stops. Measured: Totals 16 KiB, Group 6 KiB, the others under 1 KiB.
  *
  * Replies. A refusal of 0 means accepted. Otherwise `refusal` says which rule is broken and `place` where; every
  * other field of the reply is 0, and the table is as it was. No earlier call is trusted: each checks the whole book.

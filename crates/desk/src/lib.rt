@@ -1,5 +1,5 @@
 // The C boundary: the four calls under their plain names, for C, Rust and Python; include/xaropinto.h declares them.
-// A slice is a pointer and a length there. No call asks anything of its caller, and a refusal changes nothing that is lent.
+// A slice is a pointer and a length there. No call leans on an earlier one, and a refusal changes nothing that is lent.
 ghost use mathlib.Core.Path.{_≡_};
 ghost use Rattle.book.specs.Check.{checkBook};
 ghost use Rattle.look.specs.Looker.{locatedIn};

@@ -1,4 +1,4 @@
-// The weights of the eight settings, in thousandths: one table, read once for a projection.
+// The weights of the eight settings, in thousandths: one table, from which structs by value are read outside the loops.
 ghost use mathlib.Core.Path.{_≡_};
 ghost use Prim.Native.Nat.{_<_, _≤_};
 ghost use Rattle.settings.specs.Settings.{weightOf, mortalityWeight, decrementsAt, decrementsOf, outgoAt, outgoingsOf};
