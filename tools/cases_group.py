@@ -8,10 +8,8 @@ import trial_books as trials
 from book import PG2_MEN, empty_book, one_record_book, random_book
 from cases_header import base_book
 from cases_order import spoiled
-from layout import CHAINS, CURVE
+from layout import CHAINS, CURVE, PRODUCT_GROUPS, SETTINGS
 
-SETTINGS = range(8)
-PRODUCT_GROUPS = range(1, 6)
 PG1C_WOMEN, PG3_MEN = 5, 8
 FAR_NUMBERS = (2**32, 2**63, 2**64 - 1)
 

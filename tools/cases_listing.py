@@ -2,10 +2,10 @@
 
 import group_books as books
 import trial_books as trials
-from cases_group import (PRODUCT_GROUPS, class_calls, curve_calls, end_calls, group_of,
-                         insurer_calls, refused_calls, size_calls, trial_calls)
+from cases_group import (class_calls, curve_calls, end_calls, group_of, insurer_calls, refused_calls,
+                         size_calls, trial_calls)
 from cases_header import Case, base_book, length_cases
-from layout import CHAINS, MOST_BYTES_TAKEN
+from layout import CHAINS, MOST_BYTES_TAKEN, PRODUCT_GROUPS
 
 MEN_OF_EACH_GROUP = (0, 6, 8, 10, 12)
 # Of one product group, which has one cap, or of two, which have two.

@@ -21,10 +21,10 @@ def record_spoils(number):
             12: (lapse, lapse.high + 1), 13: (linked.next, 0)}
 
 
-def spoiled(numbers):
-    """The base book with all these refusals caused, those of a record in record 2."""
+def spoiled(numbers, base=None):
+    """The base book, or one linked like it, with all these refusals caused, those of a record in record 2."""
     spoils = HEADER_SPOILS | record_spoils(2)
-    book = changed(base_book(), *(spoils[number] for number in numbers if number in spoils))
+    book = changed(base or base_book(), *(spoils[number] for number in numbers if number in spoils))
     if 5 in numbers:
         book += b"\0"
     if 1 in numbers:

@@ -3,7 +3,7 @@
 from fractions import Fraction
 
 from book import read_values
-from layout import CHAINS, GROUPS, SUBGROUPS
+from layout import CHAINS, GROUPS, PRODUCT_GROUPS, SUBGROUPS
 
 YEARS = range(50)
 MILLIONTH = Fraction(1, 10**6)
@@ -90,5 +90,4 @@ def exact_liability(book, setting, product_group):
 def exact_totals(book):
     """The exact totals of an accepted book by setting, each its five groups added."""
     values = read_values(book)
-    product_groups = range(1, len(GROUPS) + 1)
-    return [sum(group_liability(values, setting, each) for each in product_groups) for setting in MOVES]
+    return [sum(group_liability(values, setting, each) for each in PRODUCT_GROUPS) for setting in MOVES]

@@ -4,20 +4,31 @@ import argparse
 
 from stream import ROOT
 
+# At the top, since the gate empties target/.
+KEPT_FOLDER = ROOT / "differing"
+
+
+def book_count(word):
+    """A number of books; with none, nothing would be tested."""
+    count = int(word)
+    if count < 1:
+        raise argparse.ArgumentTypeError("at least one book is needed")
+    return count
+
 
 def read_arguments(words, books, seed):
     """How many books are wanted and the seed they are drawn with, which is printed."""
     parser = argparse.ArgumentParser(description=words)
-    parser.add_argument("--books", type=int, default=books)
+    parser.add_argument("--books", type=book_count, default=books)
     parser.add_argument("--seed", type=int, default=seed)
     wanted = parser.parse_args()
     print(f"seed {wanted.seed}")
     return wanted
 
 
-def keep_book(book, seed, number):
-    """Keep a book on which a program is wrong; its path."""
-    path = ROOT / "target" / f"differing-book-{seed}-{number}"
+def keep_book(book, test, seed, number):
+    """Keep a book on which a test fails; its path."""
+    path = KEPT_FOLDER / f"{test}-{seed}-{number}.book"
     path.parent.mkdir(exist_ok=True)
     path.write_bytes(book)
     return path.relative_to(ROOT)

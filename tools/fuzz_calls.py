@@ -1,17 +1,18 @@
 """Random books, the shared library's replies to all four calls held against the second check and reckoning."""
 
-import argparse
 import random
 import sys
 from array import array
 from collections import Counter
+from itertools import product
 from typing import NamedTuple
 
 from book import empty_book, random_book
 from check import check, look
-from fuzz_check import keep_book, one_book
+from fuzz import keep_book, read_arguments
+from fuzz_check import one_book
 from group_books import MANY_PRODUCTS, dense_full_book, highest_full_book, insurer_book
-from layout import RECORD_COUNT, record_start
+from layout import PRODUCT_GROUPS, RECORD_COUNT, SETTINGS, record_start
 from reckoning import group, totals
 from stream import ROOT, Report
 
@@ -19,13 +20,12 @@ sys.path.insert(0, str(ROOT / "callers" / "python"))
 
 DEFAULT_BOOKS = 2_000
 DEFAULT_SEED = 1_694
-# Below so many books a refusal may be missed by chance.
-BOOKS_FOR_COVERAGE = 1_000
+# Below so many books a refusal may be missed by chance, or totals be too few.
+BOOKS_FOR_COVERAGE = 2_000
 LEAST_TIMES = 3
+LEAST_TOTALS_WITH_CONTRACTS = 100
 MOST_DIFFERENCES_SHOWN = 5
 
-SETTINGS = range(8)
-PRODUCT_GROUPS = range(1, 6)
 # Numbers out of range, and some that would be in range if they lost their high bits.
 ODD_NUMBERS = (8, 0, 6, 2**32 + 1, 2**63, 2**64 - 1)
 FAR_RECORDS = (2**16 + 1, 2**32 + 1, 2**61 + 1, 2**64 - 1)
@@ -40,12 +40,16 @@ BOOKS_FOR_ALL_GROUPS = 60
 
 
 class Call(NamedTuple):
-    """A call on one book: its name, what else was asked, the reply that is due, and the library's."""
+    """A call on one book: its name, what else was asked, the reply that is due, and the library's.
+
+    A call of Group has its setting and product group as a pair too.
+    """
 
     name: str
     asked: str
     due: tuple
     given: tuple
+    pair: tuple = None
 
 
 def check_calls(library, book):
@@ -79,7 +83,7 @@ def group_call(library, book, setting, product_group, lent, chooser):
     if numbers is not None:
         marks[:len(numbers)] = numbers
     asked = f"{product_group} in setting {setting} with {lent} numbers"
-    return Call("group", asked, (*due, marks), (*reply, table.tolist()))
+    return Call("group", asked, (*due, marks), (*reply, table.tolist()), (setting, product_group))
 
 
 def random_group_call(library, book, chooser):
@@ -164,19 +168,30 @@ class Tally:
         self.calls = Counter()
         self.differences = Counter()
         self.refusals = Counter()
+        # Where there are contracts: the pairs that Group was asked for, and how often Totals was called.
+        self.pairs = set()
+        self.totals_with_contracts = 0
 
     def add(self, name, book, call):
         """One call."""
         self.calls[call.name] += 1
         self.refusals[call.name, call.due[0]] += 1
+        self.count_contracts(call)
         if call.given != call.due:
             self.differences[call.name] += 1
             if self.differences.total() <= MOST_DIFFERENCES_SHOWN:
                 self.show(name, book, call)
 
+    def count_contracts(self, call):
+        """A call of Group or Totals whose n is not 0; no refusal has one."""
+        if call.name == "group" and call.due[3] != 0:
+            self.pairs.add(call.pair)
+        if call.name == "totals" and call.due[2] != 0:
+            self.totals_with_contracts += 1
+
     def show(self, name, book, call):
         """Keep the book and say what differs."""
-        print(f"difference: {keep_book(book, self.seed, name)}: {call.name} {call.asked}", end=" ")
+        print(f"difference: {keep_book(book, 'calls', self.seed, name)}: {call.name} {call.asked}", end=" ")
         if call.name == "group":
             numbers = [at for at, (one, other) in enumerate(zip(call.due[4], call.given[4])) if one != other]
             print(f"gives {call.given[:4]}, due is {call.due[:4]}; in the table differ {numbers[:8]}")
@@ -190,10 +205,14 @@ class Tally:
             report.test(f"{times} replies to {name} agree", differing == 0, f"{differing} differ")
 
     def test_coverage(self, report):
-        """Every refusal of every call often enough."""
+        """Every refusal of every call often enough, and figures of every setting and group."""
         for name, last in (("check", 13), ("record", 13), ("group", 16), ("totals", 13)):
             rare = [number for number in range(last + 1) if self.refusals[name, number] < LEAST_TIMES]
             report.test(f"every refusal of {name} is seen", not rare, f"rare: {rare}")
+        pairs = product(SETTINGS, PRODUCT_GROUPS)
+        report.covers("every setting with every group, with contracts", pairs, self.pairs)
+        report.test(f"{self.totals_with_contracts} totals with contracts",
+                    self.totals_with_contracts >= LEAST_TOTALS_WITH_CONTRACTS)
 
 
 def raises(error, function, *arguments):
@@ -218,11 +237,7 @@ def test_arguments(report, library):
 
 def main():
     """Run and report."""
-    parser = argparse.ArgumentParser(description=__doc__)
-    parser.add_argument("--books", type=int, default=DEFAULT_BOOKS)
-    parser.add_argument("--seed", type=int, default=DEFAULT_SEED)
-    wanted = parser.parse_args()
-    print(f"seed {wanted.seed}")
+    wanted = read_arguments(__doc__, DEFAULT_BOOKS, DEFAULT_SEED)
     report = Report()
     try:
         import xaropinto as library

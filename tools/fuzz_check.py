@@ -35,7 +35,7 @@ def test_books(report, books, seed):
     differing = [(number, verdict, line)
                  for number, (verdict, line) in enumerate(pairs) if verdict != line]
     for number, verdict, line in differing[:5]:
-        path = keep_book(books[number], seed, number) if number < len(books) else "no book"
+        path = keep_book(books[number], "check", seed, number) if number < len(books) else "no book"
         print(f"difference: {path}: the program says {line!r}, the check {verdict!r}")
     report.test(f"the verdicts on {len(books)} books agree", not differing,
                 f"{len(differing)} differ")

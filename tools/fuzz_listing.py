@@ -1,27 +1,33 @@
 """Random inputs, the built program's listing of each held against the second reckoning and the fractions."""
 
+import hashlib
 import random
 import sys
 from collections import Counter
 
 from book import full_book, make_book, random_book, random_values, read_values
+from cases_header import base_book
 from cases_order import spoiled
 from damage import damaged
 from fuzz import cover_verdicts, keep_book, read_arguments
 from group_books import dense_full_book
-from layout import FIRST_RECORD_PLACE, LONGEST_BOOK, MOST_BYTES_TAKEN
+from layout import (COST_RATES, CURVE, FIRST_RECORD_PLACE, LONGEST_BOOK, MORTALITY, MOST_BYTES_TAKEN,
+                    changed)
 from listing_coverage import distance_share
 from program import ProgramFailed, program_path, run_program
 from reckoning import cells_by_group, listing_of, totals
 from stream import Report
 
-DEFAULT_BOOKS = 400
+DEFAULT_BOOKS = 450
 DEFAULT_SEED = 41_877
 # Below so many books a verdict may be missed by chance.
-BOOKS_FOR_COVERAGE = 400
+BOOKS_FOR_COVERAGE = 450
+LEAST_DIFFERENT = 400
 LEAST_TIMES = 1
 LEAST_WITH_SEVERAL_GROUPS = 40
 MOST_KEPT = 5
+# One line of progress for so many inputs.
+INPUTS_A_LINE = 500
 
 
 def small_book(chooser):
@@ -36,8 +42,9 @@ def damaged_book(chooser):
 
 
 def spoiled_book(chooser):
-    """Each refusal as likely as another."""
-    return spoiled((chooser.randint(1, 13),))
+    """Each refusal as likely as another, in a book whose rates are drawn from their whole ranges."""
+    rates = [(rate, chooser.randint(rate.low, rate.high)) for rate in (*COST_RATES, *CURVE, *MORTALITY)]
+    return spoiled((chooser.randint(1, 13),), changed(base_book(), *rates))
 
 
 def mixed_book(chooser):
@@ -77,68 +84,101 @@ MIX = {damaged_book: 40, spoiled_book: 12, small_book: 10, mixed_book: 22, extre
 def random_inputs(count, seed):
     """So many inputs, drawn with a seed."""
     chooser = random.Random(seed)
-    makers = chooser.choices(list(MIX), weights=MIX.values(), k=count)
-    return [make(chooser) for make in makers]
+    for make in chooser.choices(list(MIX), weights=MIX.values(), k=count):
+        yield make(chooser)
 
 
-def found_listing(book, seed, number):
-    """The program's listing of an input and its exit code; an input that it cannot end on is kept."""
-    try:
-        return run_program("listing", book)
-    except ProgramFailed as trouble:
-        raise ProgramFailed(f"{keep_book(book, seed, number)}: {trouble}") from trouble
+class Tally:
+    """Runs the program input by input, and counts what differs and what the inputs cover."""
 
+    def __init__(self, seed):
+        self.seed = seed
+        self.differing = 0
+        self.beyond = 0
+        self.largest_share = 0
+        # Digests, since all inputs together may be long.
+        self.different = set()
+        self.longest = 0
+        self.refusals = Counter()
+        # Accepted books by how many product groups have contracts.
+        self.groups = Counter()
 
-def test_listings(report, inputs, replies, seed):
-    """One run of the program for each input: its listing to the byte, and its exit code."""
-    differing = 0
-    for number, (book, reply) in enumerate(zip(inputs, replies)):
-        found, due = found_listing(book, seed, number), (listing_of(reply), 0)
-        differing += found != due
-        if found != due and differing <= MOST_KEPT:
-            print(f"difference: {keep_book(book, seed, number)}: the program gives {found}, due is {due}")
-    report.test(f"the listings of {len(inputs)} inputs agree", differing == 0, f"{differing} differ")
+    def add(self, number, book):
+        """One input: its listing to the byte, and each total's distance from its exact value."""
+        reply = totals(book[:MOST_BYTES_TAKEN])
+        self.different.add(hashlib.sha256(book).digest())
+        self.longest = max(self.longest, len(book))
+        self.refusals[reply[0]] += 1
+        self.compare(number, book, (listing_of(reply), 0))
+        if reply[0] == 0:
+            self.groups[sum(map(bool, cells_by_group(read_values(book))))] += 1
+            self.measure(number, book, reply)
 
+    def compare(self, number, book, due):
+        """One run of the program: what it writes, and its exit code."""
+        found = self.found_listing(number, book)
+        if found != due:
+            self.differing += 1
+            self.keep(self.differing, number, book, f"the program gives {found}, due is {due}")
 
-def test_distance(report, accepted, seed):
-    """Every total within the distance of its exact value; the largest share is told."""
-    shares = {number: distance_share(book, reply) for number, (book, reply) in accepted.items()}
-    beyond = [number for number, share in shares.items() if share > 1]
-    for number in beyond[:MOST_KEPT]:
-        print(f"beyond the distance: {keep_book(accepted[number][0], seed, number)}")
-    print(f"largest share of the distance: {float(100 * max(shares.values(), default=0)):.2f} percent")
-    report.test(f"the totals of {len(shares)} books within the distance of the exact value", not beyond)
+    def found_listing(self, number, book):
+        """The program's listing and its exit code; an input that it cannot end on is kept."""
+        try:
+            return run_program("listing", book)
+        except ProgramFailed as trouble:
+            path = keep_book(book, "listing", self.seed, number)
+            raise ProgramFailed(f"{path}: {trouble}") from trouble
 
+    def measure(self, number, book, reply):
+        """What share of the distance an accepted book uses."""
+        share = distance_share(book, reply)
+        self.largest_share = max(self.largest_share, share)
+        if share > 1:
+            self.beyond += 1
+            self.keep(self.beyond, number, book, f"{float(100 * share):.2f} percent of the distance")
 
-def test_coverage(report, inputs, replies, accepted):
-    """Every verdict, a quarter accepted, contracts in any number of groups, and inputs that run on."""
-    cover_verdicts(report, Counter(reply[0] for reply in replies), BOOKS_FOR_COVERAGE, LEAST_TIMES)
-    if len(inputs) < BOOKS_FOR_COVERAGE:
-        return
-    report.test(f"{len(accepted)} books of {len(inputs)} accepted", 4 * len(accepted) >= len(inputs))
-    groups = [sum(map(bool, cells_by_group(read_values(book)))) for book, _ in accepted.values()]
-    several = sum(count > 1 for count in groups)
-    report.test(f"{several} books with contracts in several groups", several >= LEAST_WITH_SEVERAL_GROUPS)
-    report.covers("contracts in any number of groups", range(6), groups)
-    report.test("inputs longer than what is taken", max(map(len, inputs)) > MOST_BYTES_TAKEN)
+    def keep(self, times, number, book, words):
+        """Keep the first inputs that are wrong in some way, and say what is."""
+        if times <= MOST_KEPT:
+            print(f"difference: {keep_book(book, 'listing', self.seed, number)}: {words}")
+
+    def test_agreement(self, report):
+        """Every listing agrees, and every total is within the distance; the largest share is told."""
+        report.test(f"the listings of {self.refusals.total()} inputs agree", self.differing == 0,
+                    f"{self.differing} differ")
+        print(f"largest share of the distance: {float(100 * self.largest_share):.2f} percent")
+        report.test(f"the totals of {self.refusals[0]} books within the distance of the exact value",
+                    self.beyond == 0, f"{self.beyond} are not")
+
+    def test_coverage(self, report):
+        """Inputs that differ, every verdict, contracts in any number of groups, inputs that run on."""
+        inputs, accepted = self.refusals.total(), self.refusals[0]
+        cover_verdicts(report, self.refusals, BOOKS_FOR_COVERAGE, LEAST_TIMES)
+        if inputs < BOOKS_FOR_COVERAGE:
+            return
+        report.test(f"{len(self.different)} different inputs", len(self.different) >= LEAST_DIFFERENT)
+        report.test(f"{accepted} books of {inputs} accepted", 4 * accepted >= inputs)
+        several = accepted - self.groups[0] - self.groups[1]
+        report.test(f"{several} books with contracts in several groups", several >= LEAST_WITH_SEVERAL_GROUPS)
+        report.covers("contracts in any number of groups", range(6), self.groups)
+        report.test("inputs longer than what is taken", self.longest > MOST_BYTES_TAKEN)
 
 
 def main():
     """Run and report."""
     wanted = read_arguments(__doc__, DEFAULT_BOOKS, DEFAULT_SEED)
-    inputs = random_inputs(wanted.books, wanted.seed)
-    replies = [totals(book[:MOST_BYTES_TAKEN]) for book in inputs]
-    accepted = {number: (book, reply) for number, (book, reply) in enumerate(zip(inputs, replies))
-                if reply[0] == 0}
-    report = Report()
+    report, tally = Report(), Tally(wanted.seed)
     try:
         program_path("listing")
-        test_listings(report, inputs, replies, wanted.seed)
+        for number, book in enumerate(random_inputs(wanted.books, wanted.seed)):
+            if number % INPUTS_A_LINE == 0 and number != 0:
+                print(f"{number} inputs, {tally.differing} differ", flush=True)
+            tally.add(number, book)
     except ProgramFailed as trouble:
         report.test("the program gives its listings", False, trouble)
         return report.finish()
-    test_distance(report, accepted, wanted.seed)
-    test_coverage(report, inputs, replies, accepted)
+    tally.test_agreement(report)
+    tally.test_coverage(report)
     return report.finish()
 
 

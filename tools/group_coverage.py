@@ -4,9 +4,10 @@ from dataclasses import replace
 from fractions import Fraction
 
 from book import read_values
-from cases_group import PRODUCT_GROUPS, SETTINGS, Call
+from cases_group import Call
 from exact import exact_liability
-from layout import CHAINS, COST_RATES, CURVE, LONGEST_BOOK, MORTALITY, record
+from layout import (CHAINS, COST_RATES, CURVE, LONGEST_BOOK, MORTALITY, PRODUCT_GROUPS, SETTINGS,
+                    record)
 from reckoning import year_table
 
 MOST_STDIN_BYTES, MOST_STDOUT_BYTES = 3_000_000, 1_000_000

@@ -1,4 +1,4 @@
-"""Where every field of a parameter book stands, and the range each must keep."""
+"""Where every field of a parameter book stands and the range each must keep; what Group can be asked for."""
 
 from functools import lru_cache
 from typing import NamedTuple
@@ -16,6 +16,8 @@ ONE_IN_MILLIONTHS = 1_000_000
 SUBGROUPS = ("PG1a", "PG1b", "PG1c", "PG2", "PG3", "PG4", "PG5")
 GROUPS = ("PG1", "PG2", "PG3", "PG4", "PG5")
 SEXES = ("men", "women")
+SETTINGS = range(8)
+PRODUCT_GROUPS = range(1, len(GROUPS) + 1)
 
 
 class Field(NamedTuple):

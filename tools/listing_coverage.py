@@ -1,11 +1,10 @@
 """What the listing stream covers, counted from its books and replies, and every distance in it."""
 
 from book import one_record_book
-from cases_group import PRODUCT_GROUPS
 from check import check
 from exact import exact_totals
 from group_coverage import cover_ends, has_rich_subgroup_behind_poor
-from layout import LONGEST_BOOK, MOST_BYTES_TAKEN, MOST_RECORDS
+from layout import LONGEST_BOOK, MOST_BYTES_TAKEN, MOST_RECORDS, PRODUCT_GROUPS
 from reckoning import FIRST_CAPPED_YEAR, liability_of, year_sums, year_table
 
 MOST_STDIN_BYTES = 600_000

@@ -10,13 +10,10 @@ from book import (PG2_MEN, Cell, Portfolio, Values, empty_book, full_book, make_
                   one_record_book, random_book, random_values, read_values)
 from check import check
 from exact import exact_liability
-from layout import CHAINS, CLASSES, CURVE, changed
+from layout import CHAINS, CLASSES, CURVE, PRODUCT_GROUPS, SETTINGS, changed
 from reckoning import (capped, discounted, group, in_force_by_year, listing, next_in_force,
                        outgo_of, totals, weighted, weights_of)
 from stream import run_unit_tests
-
-SETTINGS = range(8)
-PRODUCT_GROUPS = range(1, 6)
 
 
 def year(book, k, setting=0, product_group=2):
