@@ -8,6 +8,7 @@ from itertools import product
 from typing import NamedTuple
 
 from book import empty_book, random_book
+from call_arguments import test_arguments
 from check import check, look
 from fuzz import keep_book, read_arguments
 from fuzz_check import one_book
@@ -213,26 +214,6 @@ class Tally:
         report.covers("every setting with every group, with contracts", pairs, self.pairs)
         report.test(f"{self.totals_with_contracts} totals with contracts",
                     self.totals_with_contracts >= LEAST_TOTALS_WITH_CONTRACTS)
-
-
-def raises(error, function, *arguments):
-    """Does the call end with this error?"""
-    try:
-        function(*arguments)
-    except error:
-        return True
-    return False
-
-
-def test_arguments(report, library):
-    """What the module itself turns away, since no 64-bit word or table could be made of it."""
-    book = empty_book()
-    report.test("a number above 64 bits is turned away", raises(ValueError, library.record, book, 2**64))
-    report.test("a number below 0 is turned away", raises(ValueError, library.group, book, -1, 1, array("Q")))
-    report.test("a table of signed numbers is turned away",
-                raises(TypeError, library.group, book, 0, 1, array("q", [0] * 200)))
-    report.test("a table that cannot be written is turned away",
-                raises(TypeError, library.group, book, 0, 1, memoryview(bytes(1_600)).cast("Q")))
 
 
 def main():

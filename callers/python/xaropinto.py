@@ -1,7 +1,9 @@
 """The proved check and reckoning of a parameter book, called through ctypes.
 
-`make lib` links the shared library. `include/xaropinto.h` says what each call answers and which refusals it gives.
-A book is `bytes` or anything with writable bytes, such as a `bytearray`; neither is copied, any other view is.
+`make lib` links the shared library. `include/xaropinto.h` says what each call answers and which refusals it
+gives. A book is `bytes`, which nothing can change and which is lent as it is, or anything else with bytes, such
+as a `bytearray`, which is copied first: other threads run during a call and may write to it. A table is lent as
+it is.
 """
 
 import ctypes
@@ -9,7 +11,6 @@ from pathlib import Path
 from typing import NamedTuple
 
 LIBRARY_PATH = Path(__file__).resolve().parents[2] / "target" / "lib" / "libxaropinto.so"
-TABLE_NUMBERS = 200
 WORD_LIMIT = 2**64
 
 
@@ -69,6 +70,8 @@ class _RecordReply(ctypes.Structure):
 
 
 _BOOK = [ctypes.c_char_p, ctypes.c_size_t]
+# How a buffer names numbers that may be unsigned and of 64 bits; its item size tells.
+_UNSIGNED = {order + letter for order in ("", "@", "=", "<") for letter in "QL"}
 
 
 def _declared(name, reply, *more):
@@ -96,8 +99,9 @@ def check(book):
 def group(book, setting, product_group, table):
     """The liability of a product group in a setting.
 
-    The table has writable 64-bit numbers, as `array.array("Q")` has. Where accepted, its first 200 become the fifty
-    years; all others stay as they were.
+    The table is one row of unsigned 64-bit numbers that can be written, such as an `array.array("Q")` or a
+    `(ctypes.c_uint64 * 200)()`, and starts at a multiple of 8 bytes. Where accepted, its first 200 become the
+    fifty years; all others stay as they were.
     """
     numbers = _lent_table(table)
     reply = _GROUP(*_lent_book(book), _word(setting), _word(product_group), numbers, len(numbers))
@@ -117,21 +121,24 @@ def record(book, number):
 
 
 def _lent_book(book):
-    """The book's bytes as an argument, and how many they are."""
-    if isinstance(book, bytes):
-        return book, len(book)
-    view = memoryview(book).cast("B")
-    if view.readonly:
-        return bytes(view), len(view)
-    return (ctypes.c_char * len(view)).from_buffer(view), len(view)
+    """Bytes that stay as they are during a call, and how many they are."""
+    if not isinstance(book, bytes):
+        book = bytes(memoryview(book))
+    return book, len(book)
 
 
 def _lent_table(table):
     """The table's own numbers."""
     view = memoryview(table)
-    if view.itemsize != 8 or view.format not in ("Q", "L", "@Q", "@L") or view.ndim != 1:
-        raise TypeError("the table must have unsigned 64-bit numbers")
-    return (ctypes.c_uint64 * len(view)).from_buffer(view)
+    if view.ndim != 1 or view.itemsize != 8 or view.format not in _UNSIGNED:
+        raise TypeError("the table must be one row of unsigned 64-bit numbers")
+    if len(view) == 0:
+        # An empty buffer may stand anywhere.
+        return (ctypes.c_uint64 * 0)()
+    numbers = (ctypes.c_uint64 * len(view)).from_buffer(view)
+    if ctypes.addressof(numbers) % 8 != 0:
+        raise ValueError("the table must start at a multiple of 8 bytes")
+    return numbers
 
 
 def _word(number):
