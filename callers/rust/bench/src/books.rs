@@ -1,14 +1,10 @@
-//! The books that are timed.
+//! The books that are timed, but for the sample that is read from its file.
 
 use plain::book::{full_book, make_shuffled_book, random_book, Cell, Kind, Values};
 use plain::chooser::Chooser;
 use plain::layout::{CHAINS, CLASSES, CURVE_YEARS, LAST_CLASS};
 
 const SEED: u64 = 2_021;
-
-/// Six chains: an ambulant product in PG1b, a hospital one in PG4, one for the young in PG5.
-const INSURER_CHAINS: [(usize, usize); 6] =
-    [(2, 20), (3, 20), (10, 28), (11, 26), (12, 41), (13, 45)];
 
 /// Books that no one times: numbers anywhere in their ranges, and at their ends.
 pub fn untimed() -> Vec<Vec<u8>> {
@@ -28,24 +24,6 @@ pub fn dense(chains: usize) -> Vec<u8> {
             .collect();
     }
     make_shuffled_book(&values, 0, &mut chooser)
-}
-
-/// A small insurer, with nobody in some classes and in most of the highest, and a few unlinked records.
-pub fn small_insurer() -> Vec<u8> {
-    let mut chooser = Chooser::new(SEED);
-    let mut values = tables();
-    for (chain, first_class) in INSURER_CHAINS {
-        values.chains[chain] = (first_class..CLASSES)
-            .map(|class| thinned(cell(class, &mut chooser), class, &mut chooser))
-            .collect();
-    }
-    make_shuffled_book(&values, 5, &mut chooser)
-}
-
-fn thinned(cell: Cell, class: usize, chooser: &mut Chooser) -> Cell {
-    let empty = chooser.percent(if class > 100 { 80 } else { 10 });
-    let count = if empty { 0 } else { cell.count / 8 + 1 };
-    Cell { count, ..cell }
 }
 
 /// Premiums from some 300 to 7,000 francs a year, claims that outgrow them, a lapse of 2 to 12 percent.

@@ -1,6 +1,6 @@
 //! Times Totals of the archive beside plain and tuned Rust and the Python integers, on the same books.
 //!
-//! It is run from the repository's top. `--instructions` counts instructions too.
+//! `--instructions` counts instructions too.
 
 mod books;
 mod instructions;
@@ -8,30 +8,34 @@ mod python;
 mod timing;
 mod tuned;
 
-use std::fs;
-use std::path::{Path, PathBuf};
+use std::path::Path;
 use std::process::ExitCode;
+use std::{env, fs, slice};
 
-use plain::layout::record_count;
-use plain::reckoning::Totals;
+use plain::layout::{record_count, CHAINS};
 
 use timing::{agreed_totals, least_times, CONTENDERS};
 
+/// The repository's top; all paths below start there.
+const TOP: &str = concat!(env!("CARGO_MANIFEST_DIR"), "/../../..");
 const FOLDER: &str = "target/bench";
+const DENSE_BOOK: &str = "target/bench/dense_full.book";
+const INSURER_BOOK: &str = "samples/small_insurer.book";
 const CHAIN_COUNTS: [usize; 6] = [0, 1, 2, 4, 7, 14];
 // Among the contenders.
 const ARCHIVE: usize = 0;
-const TUNED: usize = 1;
+const TUNED_EIGHT: usize = 1;
+const TUNED_FIVE: usize = 2;
 
 fn main() -> ExitCode {
-    let words: Vec<String> = std::env::args().skip(1).collect();
+    let words: Vec<String> = env::args().skip(1).collect();
     let words: Vec<&str> = words.iter().map(String::as_str).collect();
-    let done = match words[..] {
+    let done = go_to_the_top().and_then(|()| match words[..] {
         [] => compare(false),
         ["--instructions"] => compare(true),
         [instructions::ONE_CALL, contender, book] => instructions::make_one_call(contender, book),
         _ => Err("usage: bench [--instructions]".to_string()),
-    };
+    });
     match done {
         Ok(()) => ExitCode::SUCCESS,
         Err(trouble) => {
@@ -39,6 +43,11 @@ fn main() -> ExitCode {
             ExitCode::FAILURE
         }
     }
+}
+
+/// Cargo runs a program wherever cargo was called.
+fn go_to_the_top() -> Result<(), String> {
+    env::set_current_dir(TOP).map_err(|trouble| format!("{TOP}: {trouble}"))
 }
 
 fn compare(with_instructions: bool) -> Result<(), String> {
@@ -53,42 +62,40 @@ fn compare(with_instructions: bool) -> Result<(), String> {
     for book in books::untimed() {
         agreed_totals(&book)?;
     }
-    compare_on("Dense full book", &books::dense(14), with_instructions)?;
-    compare_on("Small insurer", &books::small_insurer(), with_instructions)?;
+    write_dense_book()?;
+    compare_on("Dense full book", DENSE_BOOK, with_instructions)?;
+    compare_on("Small insurer", INSURER_BOOK, with_instructions)?;
     compare_by_chains()
 }
 
+/// For the programs that are run on it.
+fn write_dense_book() -> Result<(), String> {
+    fs::create_dir_all(FOLDER)
+        .and_then(|()| fs::write(DENSE_BOOK, books::dense(CHAINS)))
+        .map_err(|trouble| format!("{DENSE_BOOK}: {trouble}"))
+}
+
 /// One book: figures are compared before anything is timed.
-fn compare_on(name: &str, book: &[u8], with_instructions: bool) -> Result<(), String> {
-    let due = agreed_totals(book)?;
-    let file = kept(name, book)?;
-    let python = python::least_time(&file, &due)?;
-    let times = least_times(&[book.to_vec()]).remove(0);
-    print_times(name, book, &due, &times, python);
+fn compare_on(name: &str, file: &str, with_instructions: bool) -> Result<(), String> {
+    let book = fs::read(file).map_err(|trouble| format!("{file}: {trouble}"))?;
+    let due = agreed_totals(&book)?;
+    let python = python::least_time(Path::new(file), &due)?;
+    let times = least_times(slice::from_ref(&book)).remove(0);
+    println!();
+    println!(
+        "{name}, {file}: {} records, {} with contracts; all figures agree",
+        record_count(&book),
+        due.n
+    );
+    print_times(&times, python);
     if with_instructions {
-        print_instructions(&instructions::count(&file)?);
+        print_instructions(&instructions::count(Path::new(file))?);
     }
     Ok(())
 }
 
-/// Keeps a book in a file, for the programs that are run on it.
-fn kept(name: &str, book: &[u8]) -> Result<PathBuf, String> {
-    let file = name.to_lowercase().replace(' ', "_") + ".book";
-    let path = Path::new(FOLDER).join(file);
-    fs::create_dir_all(FOLDER)
-        .and_then(|()| fs::write(&path, book))
-        .map_err(|trouble| format!("{}: {trouble}", path.display()))?;
-    Ok(path)
-}
-
-fn print_times(name: &str, book: &[u8], due: &Totals, times: &[f64], python: f64) {
-    let records = record_count(book);
+fn print_times(times: &[f64], python: f64) {
     let archive = times[ARCHIVE];
-    println!();
-    println!(
-        "{name}: {records} records, {} with contracts; all figures agree",
-        due.n
-    );
     println!("{:<40} {:>10} {:>16}", "", "ms", "archive over it");
     for (contender, time) in CONTENDERS.iter().zip(times) {
         let ratio = archive / time;
@@ -116,23 +123,31 @@ fn compare_by_chains() -> Result<(), String> {
     let times = least_times(&books);
     println!();
     println!(
-        "Dense book by its chains; `a chain` is the time above that without any, over the chains"
+        "Dense book by its chains; `a chain` is the time above that without any, over the chains."
     );
     println!(
-        "{:>6} {:>8} {:>12} {:>12} {:>12} {:>12} {:>16}",
-        "chains", "records", "archive ms", "a chain", "tuned ms", "a chain", "archive / tuned"
+        "`eight` is the tuned Rust with eight projections, the baseline; `five` is that with five."
+    );
+    println!(
+        "chains records  archive ms  a chain  eight ms  a chain   five ms  a chain  \
+         archive / eight  archive / five"
     );
     for ((chains, book), row) in CHAIN_COUNTS.iter().zip(&books).zip(&times) {
-        let a_chain = |which: usize| (row[which] - times[0][which]) / (*chains).max(1) as f64;
-        println!(
-            "{chains:>6} {:>8} {:>12.3} {:>12.3} {:>12.3} {:>12.3} {:>16.2}",
-            record_count(book),
-            row[ARCHIVE],
-            a_chain(ARCHIVE),
-            row[TUNED],
-            a_chain(TUNED),
-            row[ARCHIVE] / row[TUNED]
-        );
+        print_chains(*chains, record_count(book), row, &times[0]);
     }
     Ok(())
+}
+
+/// One line: each time, and what a chain adds to the time without any.
+fn print_chains(chains: usize, records: usize, times: &[f64], without: &[f64]) {
+    let a_chain = |which: usize| (times[which] - without[which]) / chains.max(1) as f64;
+    print!("{chains:>6} {records:>7}");
+    for (which, width) in [(ARCHIVE, 11), (TUNED_EIGHT, 9), (TUNED_FIVE, 9)] {
+        print!(" {:>width$.3} {:>8.3}", times[which], a_chain(which));
+    }
+    println!(
+        " {:>16.2} {:>15.2}",
+        times[ARCHIVE] / times[TUNED_EIGHT],
+        times[ARCHIVE] / times[TUNED_FIVE]
+    );
 }

@@ -1,8 +1,9 @@
 //! Totals in 64 bits, as a good engineer would tune the paper's steps in plain Rust.
 //!
 //! The book is checked once and its chains are read once. Weights are worked into a chain's rates
-//! before its cells are walked, every product stays within 64 bits, and all divisors are constants
-//! but those of the curve. No walk looks whether anything is still in force.
+//! before its cells are walked, cells without contracts are skipped, every product stays within 64
+//! bits, and all divisors are constants but those of the curve. No walk looks whether anything is
+//! still in force.
 
 use plain::check::check;
 use plain::layout::*;
@@ -207,7 +208,9 @@ fn one_less(rate: u64, weight: u64) -> u64 {
 
 fn add_cell_by_cell(rows: &[Row], sums: &mut Sums) {
     for own in 0..rows.len() {
-        add_cell(&rows[own..], sums);
+        if rows[own].count != 0 {
+            add_cell(&rows[own..], sums);
+        }
     }
 }
 
@@ -226,21 +229,34 @@ fn add_cell(rows: &[Row], sums: &mut Sums) {
     }
 }
 
-/// In year k the cell of row i has reached row i + k.
+/// A cell with contracts: the row that it starts at, and what is in force of it.
+#[derive(Clone, Copy)]
+struct Cell {
+    own: usize,
+    in_force: u64,
+}
+
+/// In year k a cell has reached the row that is k rows after its own.
 fn add_year_by_year(rows: &[Row], sums: &mut Sums) {
-    let mut in_force = [0; CLASSES];
-    for (in_force, row) in in_force.iter_mut().zip(rows) {
-        *in_force = row.count * BILLION;
+    let mut cells = Vec::with_capacity(CLASSES);
+    for (own, row) in rows.iter().enumerate().filter(|(_, row)| row.count != 0) {
+        let in_force = row.count * BILLION;
+        cells.push(Cell { own, in_force });
     }
     for k in 0..rows.len().min(YEARS) {
         let (premium, claims) = (&mut sums.premium[k], &mut sums.claims[k]);
-        for (in_force, row) in in_force.iter_mut().zip(&rows[k..]) {
+        let rows = &rows[k..];
+        for cell in &mut cells {
+            // The later cells have passed class 120 too.
+            let Some(row) = rows.get(cell.own) else {
+                break;
+            };
             let living = if k < SHIFTED_YEARS {
                 row.living_first
             } else {
                 row.living_later
             };
-            *in_force = add_year(*in_force, row, living, premium, claims);
+            cell.in_force = add_year(cell.in_force, row, living, premium, claims);
         }
     }
 }
