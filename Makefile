@@ -1,4 +1,5 @@
-# `make` lists the targets. The toolchain, a POSIX shell, make and Python 3.10 or later are needed; gcc and cargo for the callers.
+# `make` lists the targets. The toolchain, a POSIX shell, make and Python 3.10 or later are needed; gcc for the
+# library and what calls it, cargo and valgrind for the callers' tests.
 .DEFAULT_GOAL := help
 .PHONY: help test check list fuzz streams samples lib callers bench FORCE
 
@@ -13,13 +14,14 @@ test: ## prove everything from nothing and run the outside tests
 	@python3 tools/gate.py
 
 check: target/bin/verdicts ## say the verdict on a book: make check BOOK=path
-	@python3 tools/say_verdict.py $(BOOK)
+	@python3 tools/say_verdict.py "$(BOOK)"
 
 list: target/bin/listing ## write the listing of a book: make list BOOK=path
-	@target/bin/listing < $(BOOK)
+	@target/bin/listing < "$(BOOK)"
 
-fuzz: target/bin/verdicts target/bin/listing ## hold both programs against Python on random books: make fuzz N=2000 SEED=1
+fuzz: target/bin/verdicts target/bin/listing lib ## hold programs and calls against Python: make fuzz N=2000 SEED=1
 	@python3 tools/fuzz_check.py --books $(N) --seed $(SEED)
+	@python3 tools/fuzz_calls.py --books $(N) --seed $(SEED)
 	@python3 tools/fuzz_listing.py --books $(N) --seed $(SEED)
 
 streams: ## write the test programs' streams anew
@@ -32,7 +34,8 @@ samples: ## write the sample books and their listings anew
 	@python3 tools/sample_books.py write
 
 lib: ## prove the C boundary and put its archive and shared library under target/lib
-	@mkdir -p target/lib && rt staticlib desk > target/lib/build.log 2>&1 || { cat target/lib/build.log; exit 1; }
+	@rm -rf target/lib && mkdir -p target/lib
+	@rt staticlib desk > target/lib/build.log 2>&1 || { cat target/lib/build.log; exit 1; }
 	@cp target/staticlib/libdesk.a target/lib/libxaropinto.a
 	@gcc -shared -o target/lib/libxaropinto.so -Wl,--whole-archive target/lib/libxaropinto.a -Wl,--no-whole-archive
 
@@ -41,10 +44,9 @@ callers: ## run the tests of the callers in C, Rust and Python
 	@python3 tools/fuzz_calls.py
 
 bench: lib ## time Totals beside Rust and Python: make bench OPTIONS=--instructions counts instructions too
-	@CARGO_TARGET_DIR=target/cargo cargo run --quiet --offline --locked --release --package bench \
-		--manifest-path callers/rust/Cargo.toml -- $(OPTIONS)
+	@cd callers/rust && cargo run --quiet --offline --locked --release --package bench -- $(OPTIONS)
 
 # A program is proved before it is built; where nothing has changed since, that takes a moment.
 target/bin/verdicts target/bin/listing: target/bin/%: FORCE
 	@[ -f $@ ] || echo "proving and building $*: the first time takes a minute or two" >&2
-	@mkdir -p target && rt check $* > target/check.log 2>&1 || { cat target/check.log; exit 1; }
+	@mkdir -p target && rt check $* > target/check-$*.log 2>&1 || { cat target/check-$*.log; exit 1; }

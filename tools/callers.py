@@ -1,48 +1,41 @@
 """Builds the archive, then builds and runs its callers in C and Rust. The last line is the tally of their tests."""
 
-import os
 import re
 import shutil
-import subprocess
 import sys
 
+from command import run
 from stream import ROOT, Report
 
 BUILT = "target/callers/caller"
 C_CALLER = ["gcc", "-std=c99", "-Wall", "-Wextra", "-Werror", "-O2", "-Iinclude", "-o", BUILT,
             "callers/c/caller.c", "target/lib/libxaropinto.a"]
-HEADER_IN_CPP = ["g++", "-std=c++11", "-Wall", "-Wextra", "-Werror", "-fsyntax-only", "-x", "c++", "include/xaropinto.h"]
+HEADER_IN_CPP = ["g++", "-std=c++11", "-Wall", "-Wextra", "-Werror", "-fsyntax-only", "-x", "c++",
+                 "include/xaropinto.h"]
 WATCHED_MEMORY = ["valgrind", "--error-exitcode=9", "-q"]
-RUST_TESTS = ["cargo", "test", "--offline", "--locked", "--manifest-path", "callers/rust/Cargo.toml"]
-CARGO_FOLDER = ROOT / "target" / "cargo"
+# All packages, so that the timing program is compiled too.
+RUST_TESTS = ["cargo", "test", "--offline", "--locked", "--workspace"]
+# Where cargo is run: it takes its settings from here, such as where it builds.
+RUST_FOLDER = ROOT / "callers" / "rust"
+# For each command; all together stay below what the gate allows.
+MOST_SECONDS = 1_800
 
 C_TALLY = re.compile(r"^(\d+) passed, (\d+) failed$", re.MULTILINE)
 RUST_TALLY = re.compile(r"^test result: \w+\. (\d+) passed; (\d+) failed", re.MULTILINE)
 
 
-def run(command):
-    """The exit code of a command and what it wrote, errors included."""
-    environment = dict(os.environ, CARGO_TARGET_DIR=str(CARGO_FOLDER))
-    try:
-        done = subprocess.run(command, cwd=ROOT, env=environment, stdin=subprocess.DEVNULL,
-                              stdout=subprocess.PIPE, stderr=subprocess.STDOUT, check=False)
-    except OSError as trouble:
-        return 127, str(trouble)
-    return done.returncode, done.stdout.decode("utf-8", "replace")
-
-
 def test_command(report, name, command):
     """One test: the command ends well."""
-    code, text = run(command)
+    code, text = run(command, MOST_SECONDS)
     if code != 0:
         print(text.rstrip())
     report.test(name, code == 0, f"{command[0]} ended with {code}")
     return code == 0
 
 
-def count_tests(report, name, command, tally):
+def count_tests(report, name, command, tally, folder=ROOT):
     """The tests that a command runs, by the tallies in what it writes; one has failed where it ends badly."""
-    code, text = run(command)
+    code, text = run(command, MOST_SECONDS, folder)
     counts = [(int(passed), int(failed)) for passed, failed in tally.findall(text)]
     passed, failed = sum(each[0] for each in counts), sum(each[1] for each in counts)
     if failed == 0 and (code != 0 or passed == 0):
@@ -68,8 +61,7 @@ def test_c(report):
     if not test_command(report, "the caller in C is built", C_CALLER):
         return
     count_tests(report, "the caller in C", [BUILT], C_TALLY)
-    if is_here("valgrind", "the caller in C with its memory watched"):
-        test_command(report, "the caller in C with its memory watched", WATCHED_MEMORY + [BUILT])
+    test_command(report, "the caller in C with its memory watched", WATCHED_MEMORY + [BUILT])
 
 
 def main():
@@ -79,7 +71,7 @@ def main():
         test_c(report)
         if is_here("g++", "the header in C++"):
             test_command(report, "the header is C++ too", HEADER_IN_CPP)
-        count_tests(report, "the caller in Rust", RUST_TESTS, RUST_TALLY)
+        count_tests(report, "the caller in Rust", RUST_TESTS, RUST_TALLY, RUST_FOLDER)
     return report.finish()
 
 

@@ -1,14 +1,17 @@
 """The gate: proves every crate from nothing, then runs the outside tests. Its last line is the tally of both."""
 
 import re
-import subprocess
 import sys
 import time
 
-from stream import ROOT
+from command import run
 
 TALLY = re.compile(r"^(\d+) passed, (\d+) failed$")
 PYTHON = [sys.executable]
+# More than any part needs, proofs from nothing included: a part that takes longer hangs.
+MOST_SECONDS = 4 * 3_600
+# What is told of a part that passes: what was left out, the seed, and the largest distance.
+TOLD = ("not run: ", "seed ", "largest share")
 
 # What runs after the proofs, in this order: a name for the line, and the command.
 OUTSIDE = [
@@ -30,20 +33,10 @@ OUTSIDE = [
 ]
 
 
-def run(command):
-    """The exit code of a command and what it wrote, errors included."""
-    done = subprocess.run(command, cwd=ROOT, stdin=subprocess.DEVNULL, stdout=subprocess.PIPE,
-                          stderr=subprocess.STDOUT, check=False)
-    return done.returncode, done.stdout.decode("utf-8", "replace")
-
-
 def part(name, command):
     """Run one part, print its line and what it wrote where it failed; how many tests passed and failed."""
     began = time.monotonic()
-    try:
-        code, text = run(command)
-    except OSError as trouble:
-        code, text = 127, str(trouble)
+    code, text = run(command, MOST_SECONDS)
     lines = text.rstrip().splitlines()
     tally = TALLY.match(lines[-1]) if lines else None
     passed, failed = (int(tally[1]), int(tally[2])) if tally else (0, 0)
@@ -53,8 +46,7 @@ def part(name, command):
     if failed:
         print(text.rstrip())
     else:
-        # What an optional program would have tested.
-        print("".join(line + "\n" for line in lines if line.startswith("not run: ")), end="")
+        print("".join(line + "\n" for line in lines if line.startswith(TOLD)), end="")
     print(f"{'ok' if not failed else 'FAILED'} {name}: {passed} passed, {failed} failed"
           f" ({time.monotonic() - began:.0f} s)", flush=True)
     return passed, failed

@@ -146,7 +146,7 @@ static parameter_book full_book(void)
 
 /* ---- year tables ---- */
 
-enum { LENT = 300 };
+enum { TABLE_SIZE = 300 };
 
 static uint64_t mark(size_t number)
 {
@@ -207,14 +207,14 @@ static int group_is(parameter_book book, size_t setting, size_t group, int64_t l
     return reply.refusal == 0 && reply.place == 0 && reply.liability == liability && reply.n == n;
 }
 
-/* The refusal is given, and of a table that has LENT numbers, not all of them lent, each is as it was. */
+/* The refusal is given, and of a table that has TABLE_SIZE numbers, not all of them lent, each is as it was. */
 static int group_refused(parameter_book book, size_t setting, size_t group, size_t numbers, uint64_t refusal,
                          uint64_t place)
 {
-    uint64_t *table = marked_table(LENT);
+    uint64_t *table = marked_table(TABLE_SIZE);
     xaropinto_group_reply reply = xaropinto_group(book.bytes, book.length, setting, group, table, numbers);
     xaropinto_group_reply due = {refusal, place, 0, 0};
-    int holds = memcmp(&reply, &due, sizeof due) == 0 && marks_stand(table, 0, LENT);
+    int holds = memcmp(&reply, &due, sizeof due) == 0 && marks_stand(table, 0, TABLE_SIZE);
     free(table);
     return holds;
 }
@@ -261,15 +261,15 @@ static void test_one_record(void)
 static void test_year_table(void)
 {
     parameter_book book = one_record_book();
-    uint64_t *table = marked_table(LENT);
-    xaropinto_group(book.bytes, book.length, 0, PG2, table, LENT);
+    uint64_t *table = marked_table(TABLE_SIZE);
+    xaropinto_group(book.bytes, book.length, 0, PG2, table, TABLE_SIZE);
     int later_years = 1;
     for (size_t i = 4; i < XAROPINTO_TABLE_NUMBERS; i++)
         later_years &= table[i] == 0;
     test("year_0_has_premium_and_outgo_twice",
          table[0] == 1000000 && table[1] == 900000 && table[2] == 1000000 && table[3] == 900000);
     test("years_after_class_120_are_0", later_years);
-    test("numbers_past_200_stay", marks_stand(table, XAROPINTO_TABLE_NUMBERS, LENT));
+    test("numbers_past_200_stay", marks_stand(table, XAROPINTO_TABLE_NUMBERS, TABLE_SIZE));
     free(table);
     free(book.bytes);
 }
@@ -279,15 +279,15 @@ static void test_group_refusals(void)
     parameter_book book = one_record_book();
     parameter_book refused = one_record_book();
     put(refused, record_start(1) + LAPSE, 4, 1000001);
-    test("setting_8_is_refused", group_refused(book, 8, PG2, LENT, 14, 0));
-    test("setting_above_32_bits_is_refused", group_refused(book, HIGH_BIT, PG2, LENT, 14, 0));
-    test("largest_setting_is_refused", group_refused(book, (size_t)-1, PG2, LENT, 14, 0));
-    test("group_0_is_refused", group_refused(book, 0, 0, LENT, 15, 0));
-    test("group_6_is_refused", group_refused(book, 0, 6, LENT, 15, 0));
-    test("group_above_32_bits_is_refused", group_refused(book, 0, HIGH_BIT + PG2, LENT, 15, 0));
+    test("setting_8_is_refused", group_refused(book, 8, PG2, TABLE_SIZE, 14, 0));
+    test("setting_above_32_bits_is_refused", group_refused(book, HIGH_BIT, PG2, TABLE_SIZE, 14, 0));
+    test("largest_setting_is_refused", group_refused(book, (size_t)-1, PG2, TABLE_SIZE, 14, 0));
+    test("group_0_is_refused", group_refused(book, 0, 0, TABLE_SIZE, 15, 0));
+    test("group_6_is_refused", group_refused(book, 0, 6, TABLE_SIZE, 15, 0));
+    test("group_above_32_bits_is_refused", group_refused(book, 0, HIGH_BIT + PG2, TABLE_SIZE, 15, 0));
     test("table_of_199_numbers_is_refused", group_refused(book, 0, PG2, 199, 16, 0));
     test("table_of_no_numbers_is_refused", group_refused(book, 0, PG2, 0, 16, 0));
-    test("refused_book_leaves_the_table", group_refused(refused, 0, PG2, LENT, 12, 1232));
+    test("refused_book_leaves_the_table", group_refused(refused, 0, PG2, TABLE_SIZE, 12, 1232));
     test("setting_comes_before_group_and_table_and_book", group_refused(refused, 8, 6, 0, 14, 0));
     test("group_comes_before_table_and_book", group_refused(refused, 7, 6, 0, 15, 0));
     test("table_comes_before_book", group_refused(refused, 7, 5, 199, 16, 0));
@@ -299,7 +299,7 @@ static int all_calls_refuse(parameter_book book, uint64_t refusal, uint64_t plac
 {
     xaropinto_record_reply due = {refusal, place, 0, 0};
     return verdict_is(book, refusal, place, 0) && totals_refused(book, refusal, place) && record_is(book, 1, due) &&
-           group_refused(book, 0, PG2, LENT, refusal, place);
+           group_refused(book, 0, PG2, TABLE_SIZE, refusal, place);
 }
 
 /* A book of this length whose header asks for so many records. */

@@ -1,7 +1,14 @@
-//! Replies of both sides in one form, so that they can be compared.
+//! Replies of both sides in one form, so that they can be compared; a book on which they differ is kept.
+
+use std::fmt::Debug;
+use std::fs;
+use std::path::Path;
 
 use plain::reckoning::{Group, Totals};
 use plain::{check, reckoning, Refusal};
+
+/// At the repository's top, as the books that the other tests keep.
+const KEPT_FOLDER: &str = concat!(env!("CARGO_MANIFEST_DIR"), "/../../differing");
 
 fn refusal_of(refusal: xaropinto::Refusal) -> Refusal {
     (refusal.number, refusal.place)
@@ -53,21 +60,46 @@ pub fn plain_group(book: &[u8], setting: usize, group: usize, numbers: usize) ->
     (reply, table)
 }
 
-/// The verdict on which both sides agree.
-pub fn agreed_check(book: &[u8], name: &str) -> Result<u64, Refusal> {
-    let due = check::check(book);
-    assert_eq!(archive_check(book), due, "{name}");
+/// The name of a drawn book: its test, its seed and its number.
+pub fn drawn(test: &str, seed: u64, number: usize) -> String {
+    format!("{test}-{seed}-{number}")
+}
+
+/// Keeps a book under its name; where it cannot be kept, the message says so.
+fn keep(book: &[u8], name: &str) -> String {
+    let file = format!("{}.book", name.replace(' ', "_"));
+    let kept = fs::create_dir_all(KEPT_FOLDER)
+        .and_then(|()| fs::write(Path::new(KEPT_FOLDER).join(&file), book));
+    match kept {
+        Ok(()) => format!("kept as differing/{file}"),
+        Err(trouble) => format!("could not be kept: {trouble}"),
+    }
+}
+
+/// The reply on which both sides agree; a book on which they do not is kept first.
+fn agreed<T: PartialEq + Debug>(book: &[u8], name: &str, asked: &str, given: T, due: T) -> T {
+    if given != due {
+        let kept = keep(book, name);
+        assert_eq!(given, due, "{name}, {asked}: the book is {kept}");
+    }
     due
 }
 
-/// The totals on which both sides agree.
+pub fn agreed_check(book: &[u8], name: &str) -> Result<u64, Refusal> {
+    agreed(book, name, "check", archive_check(book), check::check(book))
+}
+
 pub fn agreed_totals(book: &[u8], name: &str) -> Result<Totals, Refusal> {
     let due = reckoning::totals(book);
-    assert_eq!(archive_totals(book), due, "{name}");
-    due
+    agreed(book, name, "totals", archive_totals(book), due)
 }
 
-/// The reply and the table on which both sides agree.
+pub fn agreed_record(book: &[u8], number: usize, name: &str) -> Result<usize, Refusal> {
+    let due = check::record(book, number);
+    let asked = format!("record {number}");
+    agreed(book, name, &asked, archive_record(book, number), due)
+}
+
 pub fn agreed_group(
     book: &[u8],
     setting: usize,
@@ -76,10 +108,7 @@ pub fn agreed_group(
     name: &str,
 ) -> GroupAndTable {
     let due = plain_group(book, setting, group, numbers);
-    let reply = archive_group(book, setting, group, numbers);
-    assert_eq!(
-        reply, due,
-        "{name}, setting {setting}, group {group}, table of {numbers}"
-    );
-    due
+    let given = archive_group(book, setting, group, numbers);
+    let asked = format!("setting {setting}, group {group}, table of {numbers}");
+    agreed(book, name, &asked, given, due)
 }
