@@ -5,7 +5,7 @@ import sys
 from book import PG2_MEN, Cell, Portfolio, make_book, one_record_book
 from group_books import MANY_PRODUCTS, dense_full_book, flat_values, insurer_book
 from layout import changed, record
-from program import verdict_lines
+from program import ProgramFailed, verdict_lines
 from reckoning import listing
 from stream import ROOT, Report
 
@@ -61,10 +61,20 @@ def test():
         report.test(f"samples/{name} is as built", path.is_file() and path.read_bytes() == due)
     held = sorted(path.name for path in FOLDER.iterdir())
     report.test("samples/ holds nothing else", held == sorted(files()), held)
-    lines, _ = verdict_lines([book for _, book, _ in SAMPLES])
+    test_verdicts(report)
+    return report.finish()
+
+
+def test_verdicts(report):
+    """The built check says what is told of each book, and ends well."""
+    try:
+        lines, code = verdict_lines([book for _, book, _ in SAMPLES])
+    except ProgramFailed as trouble:
+        report.test("the program gives its verdicts", False, trouble)
+        return
+    report.test("the program ends with code 0", code == 0, f"it ended with {code}")
     for (name, _, verdict), line in zip(SAMPLES, lines + [""] * len(SAMPLES)):
         report.test(f"samples/{name}.book is {verdict}", line == verdict, line)
-    return report.finish()
 
 
 if __name__ == "__main__":

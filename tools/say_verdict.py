@@ -10,7 +10,6 @@ DESK = "the desk that writes the file"
 COSTS = "the insurer's cost sheet"
 TABLES = "the keeper of the supervisor's tables"
 PORTFOLIO = "the portfolio desk"
-CALLER = "the caller"
 
 RULES = {
     1: (DESK, "a book has at least 1,220 bytes"),
@@ -28,9 +27,6 @@ RULES = {
     12: (PORTFOLIO, "the count is at most 100,000, the lapse at most 1,000,000 millionths, "
                     "premium and claims each at most 10,000,000 centimes"),
     13: (PORTFOLIO, "a chain ends at class 120 and nowhere else"),
-    14: (CALLER, "the setting is 0 to 7"),
-    15: (CALLER, "the product group is 1 to 5"),
-    16: (CALLER, "the year table has at least 200 numbers"),
 }
 
 
@@ -38,8 +34,6 @@ def name_place(number, place):
     """The name of the field that a refusal's place points at."""
     if number in (1, 5):
         return f"length of {place:,} bytes"
-    if number >= 14:
-        return "no place"
     before_records = (*HEADER_FIELDS, *(chain.head for chain in CHAINS),
                       *COST_RATES, *CURVE, *MORTALITY)
     for field in before_records:

@@ -1,16 +1,22 @@
-"""Tests that the documents stay true to the tree: what README and docs/ name is there, and is as they say.
+"""Tests that the documents stay true to the tree: what they name and show is there, and is as they say.
 
 A rule makes items: where, whether it holds, what is wrong if not. Its docstring is its line in the report.
 """
 
 import functools
+import os
 import re
+import subprocess
 import sys
+from pathlib import Path
 
-from stream import ROOT, Report
+from check import check
+from say_verdict import plain_words
+from stream import ROOT, Report, verdict_line
+from trial_books import PAPER_LISTING
 
 README, DOCS = ROOT / "README.md", ROOT / "docs"
-PAGES = [README, *sorted(DOCS.rglob("*.md"))]
+PAGES = [README, *sorted(DOCS.rglob("*.md")), ROOT / "callers" / "README.md"]
 PROMISES, REVIEW, DECISIONS = DOCS / "PROMISES.md", DOCS / "REVIEW.md", DOCS / "DECISIONS.md"
 # In the tables of these pages a name stands after the path or the crate that has it.
 NAMING = [PROMISES, DOCS / "RECKONING.md"]
@@ -18,6 +24,7 @@ NAMING = [PROMISES, DOCS / "RECKONING.md"]
 LISTED = re.findall(r"^(\w+):(.*)", (ROOT / "crates.txt").read_text(encoding="utf-8"), re.M)
 CRATES = [crate for crate, _ in LISTED]
 OUTSIDE = {word for _, needs in LISTED for word in needs.split()} - set(CRATES)
+WRAPPER = "xaropinto"
 
 # A path from the root, or below crates/ where it leads to definitions, proofs, code or edits.
 PATH = (r"(?<![\w./-])(?:(?:crates|docs|tools|samples|include|callers)/"
@@ -33,6 +40,9 @@ TOKEN = re.compile(rf"`?(?P<path>{FILE})`?|`(?P<span>[^`]+)`"
 NAME = re.compile(r"(?:[A-Z]\w*::)?([\w′-]+)")
 # What only one machine has; in this form the pattern does not find itself.
 MACHINE = re.compile(r"/(?:work|tmp|root|home|opt|farm)/")
+# Folders of what is built or kept, and of books; and the file that tells a folder of Python's own from ours.
+NOT_READ = {".git", "target", "differing", "samples", "__pycache__"}
+ENVIRONMENT = "pyvenv.cfg"
 
 
 @functools.cache
@@ -152,10 +162,11 @@ def names():
 
 
 def functions():
-    """Functions named as CRATE::NAME are in the crate's source."""
+    """Functions named as CRATE::NAME are in the source of the crate, or of the wrapper in Rust."""
     for where, match in matches(r"(?<![\w:])([a-z]\w*)::([a-z]\w*)"):
         if match[1] not in OUTSIDE:
-            holds = defined(match[2], ROOT / "crates" / match[1] / "src")
+            folder = "callers/rust" if match[1] == WRAPPER else f"crates/{match[1]}"
+            holds = defined(match[2], ROOT / folder / "src")
             yield where, holds, f"there is no function {match[0]}"
 
 
@@ -195,16 +206,50 @@ def decisions():
         yield where, int(match[1]) in known[1:], f"there is no decision {match[0]}"
 
 
+def shown():
+    """What README shows of the samples is what is printed of them."""
+    refusal = verdict_line(check((ROOT / "samples" / "lapse_too_large.book").read_bytes()))
+    for what, printed in (("the paper's listing", PAPER_LISTING.decode("ascii").splitlines()),
+                          ("the refused sample in words", [refusal, plain_words(refusal)])):
+        block = "".join(f"    {line}\n" for line in printed)
+        yield "README.md", block in text_of(README), f"does not show {what}"
+
+
+def files_of_git():
+    """The files that git has or does not ignore; None where it cannot say."""
+    command = ["git", "ls-files", "-z", "--cached", "--others", "--exclude-standard"]
+    try:
+        listed = subprocess.run(command, cwd=ROOT, capture_output=True, check=True)
+    except (OSError, subprocess.CalledProcessError):
+        return None
+    return [ROOT / os.fsdecode(name) for name in listed.stdout.split(b"\0") if name]
+
+
+def files_on_disk():
+    """All files but those of folders that are not read."""
+    for folder, folders, files in os.walk(ROOT):
+        folders[:] = set(folders) - NOT_READ
+        yield from (Path(folder, name) for name in files)
+
+
+def texts():
+    """The files of the tree that people write."""
+    files = (files_of_git() if (ROOT / ".git").exists() else None) or list(files_on_disk())
+    environments = {file.parent for file in files if file.name == ENVIRONMENT}
+    for file in sorted(files):
+        apart = NOT_READ.intersection(file.relative_to(ROOT).parts) or environments.intersection(file.parents)
+        if file.is_file() and not apart and file.name not in ("stdin", "stdout"):
+            yield file
+
+
 def machines():
     """Documents, sources and tools name no path of a machine."""
-    tops = [top for top in sorted(ROOT.iterdir()) if top.name not in (".git", "target", "samples")]
-    for file in [file for top in tops for file in ([top] if top.is_file() else sorted(top.rglob("*")))]:
-        if file.is_file() and file.suffix != ".pyc" and file.name not in ("stdin", "stdout"):
-            for where, line in lines(file):
-                yield where, not MACHINE.search(line), "names a path of a machine"
+    for file in texts():
+        for where, line in lines(file):
+            yield where, not MACHINE.search(line), "names a path of a machine"
 
 
-RULES = [paths, links, edits, names, functions, calls, targets, decisions, machines]
+RULES = [paths, links, edits, names, functions, calls, shown, targets, decisions, machines]
 
 
 def main():
