@@ -1,7 +1,7 @@
 -- Discounting in whole numbers: one year more, and that it fits. Assumes nothing.
-use mathlib.Core.Path.{_≡_, sym, ap, _∙_}
+use mathlib.Core.Path.{_≡_, refl, sym, ap, _∙_}
 use Prim.Native.Nat.{ℕ, zero, suc, _+_, _-_, _*_, _/_, _≤_, _<_}
-use native.Mathlib.Nat.{div-le-of-le-mul, mul-le-mul-right}
+use native.Mathlib.Nat.{zero-div, div-le-of-le-mul, mul-le-mul-right}
 use native.Mathlib.Numerals.{sub-one}
 use native.Mathlib.Omega.{arith}
 use Rattle.reckoning.specs.Arithmetic.{rounded}
@@ -15,6 +15,12 @@ discounted-more : (d j x : ℕ) → 0 < j → discounted rounded d j x ≡ disco
 unfolding discounted
 discounted-more d zero x h = omega arith
 discounted-more d (suc j) x h = rw (sub-one (suc j))
+
+-- nothing stays nothing
+pub discounted-nothing : (d j x : ℕ) → x ≡ 0 → x ≡ discounted rounded d j x
+unfolding discounted
+discounted-nothing d zero x e = refl
+discounted-nothing d (suc j) x e = rw (e, ← (discounted-nothing d j 0 refl)) (sym (zero-div d))
 
 -- one step on the amount discounted for one year less
 pub one-back : (d j x y r : ℕ) → 0 < j → y ≡ discounted rounded d (j - 1) x → r ≡ y * 1_000_000 / d → r ≡ discounted rounded d j x

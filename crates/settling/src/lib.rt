@@ -65,6 +65,18 @@ fn discount(d: u64, j: usize, x: Amounts) -> Amounts
     }
 }
 
+// The same, with no step where there is nothing to discount: many a later year of an old product.
+fn discount_any(d: u64, j: usize, x: Amounts) -> Amounts
+    requires { ⌜ (990000 ≤ d) × (d ≤ 1200000) × (j ≤ 49) × (x .premium ≤ 4000000000000000) × (x .outgo ≤ 4000000000000000) ⌝ }
+    ensures { λ r. ⌜ Discounted d j x r ⌝ }
+{
+    let both = x.premium + x.outgo;
+    if both == 0 {
+        return x;
+    }
+    discount(d, j, x)
+}
+
 // The outgo of year k: weighted claims, and the cost of the premium before the cap.
 fn outgo(w: Outgoings, k: usize, rate: u64, premium: u64, claims: u64) -> u64
     requires { ⌜ OutgoWeighed w × (rate ≤ 1000000) × (premium ≤ 726000000000000) × (claims ≤ 726000000000000) ⌝ }
@@ -100,7 +112,7 @@ pub fn settle_year(w: Outgoings, k: usize, rate: u64, d: u64, premium: u64, clai
 {
     let spent = outgo(w, k, rate, premium, claims);
     let due = counted(k, premium, spent);
-    let discounted = discount(
+    let discounted = discount_any(
         d,
         k,
         Amounts {

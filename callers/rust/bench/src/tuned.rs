@@ -5,6 +5,8 @@
 //! bits, and all divisors are constants but those of the curve. No walk looks whether anything is
 //! still in force.
 
+use std::ops::Range;
+
 use plain::check::check;
 use plain::layout::*;
 use plain::reckoning::{chains_of, differences, Totals, SETTINGS, YEARS};
@@ -229,36 +231,39 @@ fn add_cell(rows: &[Row], sums: &mut Sums) {
     }
 }
 
-/// A cell with contracts: the row that it starts at, and what is in force of it.
-#[derive(Clone, Copy)]
-struct Cell {
-    own: usize,
-    in_force: u64,
-}
-
-/// In year k a cell has reached the row that is k rows after its own.
+/// In year k the cell of row i has reached row i + k.
 fn add_year_by_year(rows: &[Row], sums: &mut Sums) {
-    let mut cells = Vec::with_capacity(CLASSES);
-    for (own, row) in rows.iter().enumerate().filter(|(_, row)| row.count != 0) {
-        let in_force = row.count * BILLION;
-        cells.push(Cell { own, in_force });
+    let mut in_force = [0; CLASSES];
+    for (in_force, row) in in_force.iter_mut().zip(rows) {
+        *in_force = row.count * BILLION;
     }
+    let runs = runs_with_contracts(rows);
     for k in 0..rows.len().min(YEARS) {
         let (premium, claims) = (&mut sums.premium[k], &mut sums.claims[k]);
-        let rows = &rows[k..];
-        for cell in &mut cells {
-            // The later cells have passed class 120 too.
-            let Some(row) = rows.get(cell.own) else {
-                break;
-            };
-            let living = if k < SHIFTED_YEARS {
-                row.living_first
-            } else {
-                row.living_later
-            };
-            cell.in_force = add_year(cell.in_force, row, living, premium, claims);
+        for run in &runs {
+            let reached = rows.iter().skip(run.start + k);
+            for (in_force, row) in in_force[run.clone()].iter_mut().zip(reached) {
+                let living = if k < SHIFTED_YEARS {
+                    row.living_first
+                } else {
+                    row.living_later
+                };
+                *in_force = add_year(*in_force, row, living, premium, claims);
+            }
         }
     }
+}
+
+/// Rows one after the other whose cells have contracts; all in one run where no cell is without.
+fn runs_with_contracts(rows: &[Row]) -> Vec<Range<usize>> {
+    let mut runs: Vec<Range<usize>> = Vec::new();
+    for own in (0..rows.len()).filter(|own| rows[*own].count != 0) {
+        match runs.last_mut() {
+            Some(run) if run.end == own => run.end += 1,
+            _ => runs.push(own..own + 1),
+        }
+    }
+    runs
 }
 
 /// Adds one cell's year to the sums; what is in force a year later.

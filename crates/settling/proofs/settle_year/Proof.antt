@@ -8,7 +8,7 @@ returns : tie.Need-returns
 returns c =
     let o = c .before .before .outgo in
     let p = c .before .counted in
-    let e = c .discount .ensures in (
+    let e = c .discount-any .ensures in (
       simp (e .premium-is, e .outgo-is, p .ensures .0, o .ensures .0),
       omega (arith, e .premium-most),
       omega (arith, e .outgo-most),
