@@ -1,12 +1,12 @@
 -- What the listing program writes on a book: eight lines, one a setting, or one line for the refusal. In bytes.
 use mathlib.Core.List.{List, [], _∷_, _++_}
-use Prim.Native.Nat.{ℕ}
+use Prim.Native.Nat.{ℕ, _≤_}
 use lib.Dec.{eqb}
 use lib.IntN.{ℤ, pos}
-use lib.ListN.{getD}
+use lib.ListN.{length, getD}
 use Rattle.field.specs.Verdicts.{pick}
 use Rattle.reckoning.specs.declared.TotalsReply.{TotalsReply}
-use Rattle.text.specs.Text.{ended, signedEnded, joined}
+use Rattle.text.specs.Text.{ended, signedEnded, joined, Delivered}
 
 -- a setting's line: the setting, its total, n; a blank (32) after the first two, the line's end (10) after n
 unfoldable pub listingLine : ℕ → ℤ → ℕ → List ℕ
@@ -31,3 +31,8 @@ refusalText number place = refusedWord ++ ended number 32 ++ ended place 10
 -- the text of a reply: the listing where no refusal is given (0), else the refusal's line
 unfoldable pub listingOf : TotalsReply → List ℕ
 listingOf reply = pick (eqb (reply .refusal) 0) (listingText (reply .totals) (reply .n)) (refusalText (reply .refusal) (reply .place))
+
+-- What a call that writes a listing does to a lent buffer: the text is delivered; and it is no longer than 512 bytes.
+pub record Listed (text entry exit : List ℕ) (r : ℕ) : Type 0 where
+  pub delivered : Delivered text entry exit r
+  pub short : length text ≤ 512

@@ -5,8 +5,8 @@ use text::put_ended;
 use text::put_signed_ended;
 ghost use Prim.Native.Nat.{_+_, _<_, _≤_, _^_};
 ghost use Rattle.reckoning.specs.Totals.{totalsReply};
-ghost use Rattle.text.specs.Text.{Wrote, Delivered};
-ghost use Rattle.lines.specs.Listing.{listingLine, listingText, refusalText, listingOf};
+ghost use Rattle.text.specs.Text.{Wrote};
+ghost use Rattle.lines.specs.Listing.{listingLine, listingText, refusalText, listingOf, Listed};
 
 fn put_line(out: &mut [u8], at: usize, setting: u64, total: i64, n: u64) -> usize
     requires { ⌜ at + 65 < 2 ^ 64 ⌝ }
@@ -18,7 +18,7 @@ fn put_line(out: &mut [u8], at: usize, setting: u64, total: i64, n: u64) -> usiz
 }
 
 fn put_listing(out: &mut [u8], totals: [i64; 8], n: u64) -> usize
-    ensures { λ r. ⌜ Wrote (now (out .entry)) 0 (listingText totals n) (now (out .exit)) r ⌝ }
+    ensures { λ r. ⌜ Wrote (now (out .entry)) 0 (listingText totals n) (now (out .exit)) r × (r ≤ 512) ⌝ }
 {
     let mut at = 0;
     for setting in 0..8 {
@@ -28,7 +28,7 @@ fn put_listing(out: &mut [u8], totals: [i64; 8], n: u64) -> usize
 }
 
 fn put_refusal(out: &mut [u8], number: u64, place: u64) -> usize
-    ensures { λ r. ⌜ Wrote (now (out .entry)) 0 (refusalText number place) (now (out .exit)) r ⌝ }
+    ensures { λ r. ⌜ Wrote (now (out .entry)) 0 (refusalText number place) (now (out .exit)) r × (r ≤ 512) ⌝ }
 {
     let number_at = put_bytes(out, 0, b"refused ");
     let place_at = put_ended(out, number_at, number, b' ');
@@ -36,7 +36,7 @@ fn put_refusal(out: &mut [u8], number: u64, place: u64) -> usize
 }
 
 fn put_reply(out: &mut [u8], reply: TotalsReply) -> usize
-    ensures { λ r. ⌜ Wrote (now (out .entry)) 0 (listingOf reply) (now (out .exit)) r ⌝ }
+    ensures { λ r. ⌜ Wrote (now (out .entry)) 0 (listingOf reply) (now (out .exit)) r × (r ≤ 512) ⌝ }
 {
     if reply.refusal == 0 {
         let totals = reply.totals;
@@ -47,7 +47,7 @@ fn put_reply(out: &mut [u8], reply: TotalsReply) -> usize
 
 // Answers the text's length, which a trial run on an empty buffer tells. Where the lent buffer is shorter, it stays as it was and the answer is 0.
 pub fn write_reply(reply: TotalsReply, out: &mut [u8]) -> usize
-    ensures { λ r. ⌜ Delivered (listingOf reply) (now (out .entry)) (now (out .exit)) r ⌝ }
+    ensures { λ r. ⌜ Listed (listingOf reply) (now (out .entry)) (now (out .exit)) r ⌝ }
 {
     let mut none = [0u8; 0];
     let length = put_reply(&mut none, reply);
@@ -59,7 +59,7 @@ pub fn write_reply(reply: TotalsReply, out: &mut [u8]) -> usize
 
 // The listing of a book, from its bytes to the bytes to file.
 pub fn write_listing(book: &[u8], out: &mut [u8]) -> usize
-    ensures { λ r. ⌜ Delivered (listingOf (totalsReply (now (book .entry)))) (now (out .entry)) (now (out .exit)) r ⌝ }
+    ensures { λ r. ⌜ Listed (listingOf (totalsReply (now (book .entry)))) (now (out .entry)) (now (out .exit)) r ⌝ }
 {
     write_reply(totals::totals(book), out)
 }

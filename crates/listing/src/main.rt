@@ -14,7 +14,7 @@ fn room() -> [u8; 41_877]
 fn main() {
     let mut space = room();
     let got = io::read_full(STDIN_FILENO, &mut space);
-    // No listing is longer: text-most in the proofs of lines.
+    // No listing is longer: so the call's contract says.
     let mut text = [0u8; 512];
     let end = lines::write_listing(&space[..got], &mut text);
     io::write_all(STDOUT_FILENO, &text[..end]);

@@ -68,9 +68,3 @@ below (negsuc n) = suc n
 pub diff-self : (z : ℤ) → IsDiff z (above z) (below z)
 diff-self (pos n) = omega arith
 diff-self (negsuc n) = omega arith
-
-pub diff-unique : (z w : ℤ) (a b : ℕ) → IsDiff z a b → IsDiff w a b → z ≡ w
-diff-unique (pos n) (pos m) a b h k = ap pos (omega arith)
-diff-unique (pos n) (negsuc m) a b h k = absurd (omega arith)
-diff-unique (negsuc n) (pos m) a b h k = absurd (omega arith)
-diff-unique (negsuc n) (negsuc m) a b h k = ap negsuc (omega arith)

@@ -5,7 +5,7 @@ use mathlib.Core.List.{List, [], _∷_, _++_, append-assoc}
 use mathlib.Core.Path.{_≡_, refl, sym, ap, subst, _∙_}
 use Prim.Native.Nat.{ℕ, zero, suc, _+_, _-_, _*_, _/_, _%_, _^_, _≤_, _<_}
 use native.Mathlib.Numerals.{add-one}
-use native.Mathlib.Nat.{zero-add, suc-add, mul-suc, not-suc-le-zero, pow-suc}
+use native.Mathlib.Nat.{zero-add, suc-add, not-suc-le-zero, pow-suc}
 use native.Mathlib.Omega.{arith}
 use borrow.Author.Tests.{lt-ltb, le-ltb, le-leb, lt-leb}
 use lib.Dec.{ltb}
@@ -116,24 +116,6 @@ too-long want t e v h =
       counts = refl;
     }
 
--- what a caller reads off: the two cases
-module _ {t e x : List ℕ} {r : ℕ} (d : Delivered t e x r) where
-  pub answer-fits : length t ≤ length e → r ≡ length t
-  unfolding told
-  answer-fits h = d .answer ∙ rw (le-leb (length t) (length e) h)
-
-  pub bytes-fit : length t ≤ length e → x ≡ t ++ drop (length t) e
-  unfolding delivered
-  bytes-fit h = d .bytes ∙ rw (le-leb (length t) (length e) h)
-
-  pub answer-short : length e < length t → r ≡ 0
-  unfolding told
-  answer-short h = d .answer ∙ rw (lt-leb (length t) (length e) h)
-
-  pub bytes-stay : length e < length t → x ≡ e
-  unfolding delivered
-  bytes-stay h = d .bytes ∙ rw (lt-leb (length t) (length e) h)
-
 -- ---- a number's digits, one by one
 
 module _ {e x : List ℕ} {at r : ℕ} (n d : ℕ) where
@@ -194,31 +176,9 @@ bytes-all s i h w = rw (take-all i s h) at w
 pub bytes-place : {e x : List ℕ} {at r : ℕ} (s : List ℕ) (i : ℕ) → i ≤ length s → Wrote e at (take i s) x r → r ≡ at + i
 bytes-place s i h w = omega (arith, w .place, length-take-le i s h)
 
-pub length-one : (n : ℕ) → n < 10 → 1 ≡ length (decimal n)
-length-one n h = rw (decimal-one n h)
-
-pub length-more : (n k : ℕ) → 10 ≤ n → k ≡ length (decimal (n / 10)) → k + 1 ≡ length (decimal n)
-length-more n k h e = rw (decimal-more n h) (omega (arith, length-append (decimal (n / 10)) ((48 + n % 10) ∷ [])))
-
 -- ---- runs of texts
 
 pub joined-more : {e x y : List ℕ} {at r q : ℕ} (f : ℕ → List ℕ) (n : ℕ) (t : List ℕ) → Wrote e at (t ++ joined f n) x r → Wrote x r (f n) y q
     → Wrote e at (t ++ joined f (n + 1)) y q
 unfolding joined
 joined-more f n t v w = rw (add-one n, ← append-assoc) (v then w)
-
-pub joined-length : (f : ℕ → List ℕ) (n : ℕ) (t : List ℕ) (l k : ℕ) → l ≡ length (t ++ joined f n) → k ≡ length (f n) → l + k ≡ length (t ++ joined f (n + 1))
-unfolding joined
-joined-length f n t l k e h = rw (add-one n, ← append-assoc) (omega (arith, length-append (t ++ joined f n) (f n)))
-
--- n texts of at most m bytes each
-pub joined-most : (f : ℕ → List ℕ) (m n : ℕ) → ((i : ℕ) → i < n → length (f i) ≤ m) → length (joined f n) ≤ m * n
-unfolding joined
-joined-most f m zero h = omega arith
-joined-most f m (suc n) h =
-    omega (arith, length-append (joined f n) (f n), h n (omega arith), joined-most f m n (λ i p. h i (omega arith)), mul-suc m n)
-
-pub joined-same : (f g : ℕ → List ℕ) (n : ℕ) → ((i : ℕ) → i < n → f i ≡ g i) → joined f n ≡ joined g n
-unfolding joined
-joined-same f g zero h = refl
-joined-same f g (suc n) h = rw (joined-same f g n (λ i p. h i (omega arith)), h n (omega arith))

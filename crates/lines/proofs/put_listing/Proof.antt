@@ -38,7 +38,7 @@ returns : tie.Need-returns Inv-loop μ-loop
 unfolding listingText
 returns c =
     let all : c .before .loop .setting ≡ 8 = omega arith in
-    rw all at (c .before .loop .inv .1)
+    (rw all at (c .before .loop .inv .1), omega (arith, c .before .loop .inv .2))
 
 pub put-listing-spec : {M : Type 1} → statement M
 put-listing-spec =
