@@ -1,10 +1,12 @@
 -- `liability::group` meets its contract: where a refusal applies it is given and nothing is touched; else reply and table are those of `settle`.
 -- What is promised of both follows from these two equations. Assumes nothing.
-use mathlib.Core.Path.{sym, _∙_}
+use mathlib.Core.Path.{sym, ap, _∙_}
+use Prim.Native.Nat.{ℕ}
 use mir.Syntax.{w64}
 use mir.ValLaws.{toZ-ofZ}
 use borrow.Author.Needs.{needs}
-use Rattle.reckoning.specs.Replies.{groupReply, groupTable}
+use Rattle.reckoning.specs.Replies.{groupLiability, groupReply, groupTable}
+use Rattle.reckoning.specs.declared.GroupReply.the-variants.{Reckoned}
 use Rattle.reckoning.proofs.Accepted.{group-setting, group-table, group-range, group-valid}
 use Rattle.reckoning.proofs.Promised.{promised}
 use Rattle.liability.proofs.group.Statement.{statement}
@@ -35,11 +37,15 @@ returns-2 : tie.Need-returns-2
 unfolding groupReply groupTable
 returns-2 c =
     let m = c .before .before .before .before .before .before in
+    let a = m .before .before .before .before .before .args in
+    let b = a .book .now in
+    let setting = a .setting in
+    let g = a .group in
     let e = sym (m .before .before .check-group .ensures) ∙ m .enum-told .given .1 in
     let s = c .before .before .settle in
     let l = toZ-ofZ w64 (s .result) (record { sfits = s .ok }) ∙ s .ensures .liability-is in
     let n = c .before .before .before .before .group-sums .ensures .n-is in
-    promised _ _ _ _ _ _ (rw (e, l, n)) (rw e (s .ensures .table-is))
+    promised _ _ _ _ _ _ (rw (e, l) (ap (λ (m : ℕ). Reckoned (groupLiability b setting g) m) n)) (rw e (s .ensures .table-is))
 
 pub group-spec : {M : Type 1} → statement M
 group-spec =
