@@ -1,5 +1,5 @@
 # `make` lists the targets. The toolchain, a POSIX shell, make and Python 3.10 or later are needed; gcc for the
-# library and what calls it, cargo and valgrind for the callers' tests.
+# library and what calls it, g++, cargo and valgrind for the callers' tests.
 .DEFAULT_GOAL := help
 .PHONY: help test check list fuzz streams samples lib callers bench FORCE
 

@@ -8,10 +8,10 @@ from command import run
 
 TALLY = re.compile(r"^(\d+) passed, (\d+) failed$")
 PYTHON = [sys.executable]
-# More than any part needs, proofs from nothing included: a part that takes longer hangs.
-MOST_SECONDS = 4 * 3_600
-# What is told of a part that passes: what was left out, the seed, and the largest distance.
-TOLD = ("not run: ", "seed ", "largest share")
+# What the whole gate may take at the most: a part that takes longer hangs.
+MOST_SECONDS = 90 * 60
+# What is told of a part that passes: the seed, and the largest distance.
+TOLD = ("seed ", "largest share")
 
 # What runs after the proofs, in this order: a name for the line, and the command.
 OUTSIDE = [
