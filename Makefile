@@ -1,7 +1,7 @@
 # `make` lists the targets. The toolchain, a POSIX shell, make and Python 3.10 or later are needed; gcc for the
 # library and what calls it, g++, cargo and valgrind for the callers' tests.
 .DEFAULT_GOAL := help
-.PHONY: help test check list fuzz streams samples lib callers bench FORCE
+.PHONY: help test check list fuzz streams samples lib callers bench clean FORCE
 
 BOOK ?= samples/one_record.book
 N ?= 2000
@@ -11,42 +11,46 @@ help: ## list the targets
 	@sed -n 's/^\([a-z]*\):[^#]*## /\1: /p' Makefile
 
 test: ## prove everything from nothing and run the outside tests
-	@python3 tools/gate.py
+	@exec python3 -m tests.gate
 
-check: target/bin/verdicts ## say the verdict on a book: make check BOOK=path
-	@python3 tools/say_verdict.py "$(BOOK)"
+check: target/bin/listing ## say the verdict on a book in words: make check BOOK=path
+	@python3 -m tools.say_verdict "$(BOOK)"
 
 list: target/bin/listing ## write the listing of a book: make list BOOK=path
 	@target/bin/listing < "$(BOOK)"
 
-fuzz: target/bin/verdicts target/bin/listing lib ## hold programs and calls against Python: make fuzz N=2000 SEED=1
-	@python3 tools/fuzz_check.py --books $(N) --seed $(SEED)
-	@python3 tools/fuzz_calls.py --books $(N) --seed $(SEED)
-	@python3 tools/fuzz_listing.py --books $(N) --seed $(SEED)
+fuzz: target/bin/test_check target/bin/listing lib ## hold programs and calls against Python: make fuzz N=2000 SEED=1
+	@python3 -m tests.random_books.check --books $(N) --seed $(SEED)
+	@python3 -m tests.calls.base --books $(N) --seed $(SEED)
+	@python3 -m tests.random_books.listing --books $(N) --seed $(SEED)
 
 streams: ## write the test programs' streams anew
-	@python3 tools/verdict_stream.py write
-	@python3 tools/record_stream.py write
-	@python3 tools/group_stream.py write
-	@python3 tools/listing_stream.py write
+	@python3 -m tests.streams.check write
+	@python3 -m tests.streams.look write
+	@python3 -m tests.streams.group write
+	@python3 -m tests.streams.listing write
 
 samples: ## write the sample books and their listings anew
-	@python3 tools/sample_books.py write
+	@python3 -m tools.sample_books write
 
 lib: ## prove the C boundary and put its archive and shared library under target/lib
 	@rm -rf target/lib && mkdir -p target/lib
-	@rt staticlib desk > target/lib/build.log 2>&1 || { cat target/lib/build.log; exit 1; }
-	@cp target/staticlib/libdesk.a target/lib/libxaropinto.a
+	@rt staticlib boundary > target/lib/build.log 2>&1 || { cat target/lib/build.log; exit 1; }
+	@cp target/staticlib/libboundary.a target/lib/libxaropinto.a
 	@gcc -shared -o target/lib/libxaropinto.so -Wl,--whole-archive target/lib/libxaropinto.a -Wl,--no-whole-archive
 
 callers: ## run the tests of the callers in C, Rust and Python
-	@python3 tools/callers.py
-	@python3 tools/fuzz_calls.py
+	@python3 -m tests.callers
+	@python3 -m tests.calls.base
 
 bench: lib ## time Totals beside Rust and Python: make bench OPTIONS=--instructions counts instructions too
 	@cd callers/rust && cargo run --quiet --offline --locked --release --package bench -- $(OPTIONS)
 
+clean: ## remove all that was built; the next run proves everything again
+	@rm -rf target differing
+	@find . -name __pycache__ -not -path './.git/*' -prune -exec rm -rf {} +
+
 # A program is proved before it is built; where nothing has changed since, that takes a moment.
-target/bin/verdicts target/bin/listing: target/bin/%: FORCE
+target/bin/test_check target/bin/listing: target/bin/%: FORCE
 	@[ -f $@ ] || echo "proving and building $*: the first time takes a minute or two" >&2
 	@mkdir -p target && rt check $* > target/check-$*.log 2>&1 || { cat target/check-$*.log; exit 1; }

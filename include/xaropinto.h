@@ -45,8 +45,35 @@
 #include <stddef.h>
 #include <stdint.h>
 
-/* The longest book: 1,694 records. Whoever reads a file takes one byte more, to see that it runs on. */
-#define XAROPINTO_LONGEST_BOOK 41876
+/* A book's sizes and counts. */
+#define XAROPINTO_HEADER_BYTES 1220
+#define XAROPINTO_RECORD_BYTES 24
+#define XAROPINTO_MOST_RECORDS 1694
+#define XAROPINTO_CHAINS 14
+#define XAROPINTO_LAST_CLASS 120
+#define XAROPINTO_SETTINGS 8
+#define XAROPINTO_PRODUCT_GROUPS 5
+/* The longest book. Whoever reads a file takes one byte more, to see that it runs on. */
+#define XAROPINTO_LONGEST_BOOK (XAROPINTO_HEADER_BYTES + XAROPINTO_RECORD_BYTES * XAROPINTO_MOST_RECORDS)
+
+/* Where fields stand in the header, and in a record. docs/BOOK.md has their sizes and ranges. */
+#define XAROPINTO_EDITION_AT 0
+#define XAROPINTO_AGE_BASIS_AT 1
+#define XAROPINTO_SST_YEAR_AT 2
+#define XAROPINTO_RECORD_COUNT_AT 4
+#define XAROPINTO_HEADS_AT 8
+#define XAROPINTO_COST_RATES_AT 36
+#define XAROPINTO_CURVE_AT 56
+#define XAROPINTO_MORTALITY_AT 252
+#define XAROPINTO_CODE_AT 0
+#define XAROPINTO_SEX_AT 1
+#define XAROPINTO_CLASS_AT 2
+#define XAROPINTO_NEXT_AT 4
+#define XAROPINTO_COUNT_AT 8
+#define XAROPINTO_LAPSE_AT 12
+#define XAROPINTO_PREMIUM_AT 16
+#define XAROPINTO_CLAIMS_AT 20
+
 /* The numbers that Group writes: four for each of fifty years. */
 #define XAROPINTO_TABLE_NUMBERS 200
 

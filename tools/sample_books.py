@@ -1,13 +1,15 @@
 """The sample books and their listings: written, or tested to be as built and to have the verdict told."""
 
+import argparse
 import sys
 
-from book import PG2_MEN, Cell, Portfolio, make_book, one_record_book
-from group_books import MANY_PRODUCTS, dense_full_book, flat_values, insurer_book
-from layout import changed, record
-from program import ProgramFailed, verdict_lines
-from reckoning import listing
-from stream import ROOT, Report
+from second.book import PG2_MEN, Cell, Portfolio, make_book, one_record_book
+from second.layout import changed, record
+from second.reckoning import listing
+from tests import ROOT
+from tests.books.insurers import MANY_PRODUCTS, dense_full_book, flat_values, insurer_book
+from tests.program import ProgramFailed, verdict_lines
+from tests.report import Report
 
 FOLDER = ROOT / "samples"
 
@@ -77,8 +79,12 @@ def test_verdicts(report):
         report.test(f"samples/{name}.book is {verdict}", line == verdict, line)
 
 
+def main():
+    """The two verbs."""
+    parser = argparse.ArgumentParser(description=__doc__)
+    parser.add_argument("verb", choices=("write", "test"), help="write the samples anew, or test that they are as built")
+    return write() if parser.parse_args().verb == "write" else test()
+
+
 if __name__ == "__main__":
-    VERBS = {"write": write, "test": test}
-    if len(sys.argv) != 2 or sys.argv[1] not in VERBS:
-        sys.exit("usage: sample_books.py write | test")
-    sys.exit(VERBS[sys.argv[1]]())
+    sys.exit(main())

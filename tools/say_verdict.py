@@ -1,10 +1,11 @@
-"""The built program's verdict on the book in a file, with a refusal put into plain words."""
+"""The verdict on the book in a file, by the built listing program, with a refusal put into plain words."""
 
+import argparse
 import sys
 
-from layout import (CHAINS, COST_RATES, CURVE, FIRST_RECORD_PLACE, HEADER_FIELDS,
-                    MORTALITY, MOST_BYTES_TAKEN, RECORD_SIZE, record)
-from program import ProgramFailed, verdict_lines
+from second.layout import (CHAINS, COST_RATES, CURVE, FIRST_RECORD_PLACE, HEADER_FIELDS, MORTALITY,
+                           MOST_BYTES_TAKEN, RECORD_SIZE, SETTINGS, record)
+from tests.program import ProgramFailed, run_program
 
 DESK = "the desk that writes the file"
 COSTS = "the insurer's cost sheet"
@@ -56,26 +57,31 @@ def plain_words(line):
     return f"field: {field}; rule: {rule}; mended by: {owner}"
 
 
+def verdict_of(book):
+    """The verdict line of a book, out of what the listing program says of it."""
+    written, code = run_program("listing", book)
+    lines = written.decode("ascii").splitlines()
+    if code == 0 and len(lines) == 1 and lines[0].startswith("refused "):
+        return lines[0]
+    if code == 0 and len(lines) == len(SETTINGS):
+        return f"accepted {lines[0].split(' ')[2]}"
+    raise ProgramFailed(f"the program wrote no listing and ended with code {code}")
+
+
 def main():
     """Say the verdict; an exit code other than 0 only where none could be had."""
-    if len(sys.argv) != 2:
-        print("usage: say_verdict.py PATH", file=sys.stderr)
-        return 2
+    parser = argparse.ArgumentParser(description=__doc__)
+    parser.add_argument("book", help="the path of a book")
+    path = parser.parse_args().book
     try:
-        with open(sys.argv[1], "rb") as file:
-            book = file.read(MOST_BYTES_TAKEN)
-        (line,), code = verdict_lines([book])
-        if code != 0:
-            raise ProgramFailed(f"the program ended with code {code}")
-        print(line)
-        if line.startswith("refused "):
-            print(plain_words(line))
+        with open(path, "rb") as file:
+            line = verdict_of(file.read(MOST_BYTES_TAKEN))
     except (OSError, ProgramFailed) as trouble:
         print(f"no verdict: {trouble}", file=sys.stderr)
         return 1
-    except (ValueError, KeyError):
-        print("no verdict: the program did not write one verdict line", file=sys.stderr)
-        return 1
+    print(line)
+    if line.startswith("refused "):
+        print(plain_words(line))
     return 0
 
 

@@ -1,20 +1,22 @@
 """Times Totals of the second reckoning on a book in a file: the least milliseconds, n, totals and differences."""
 
+import argparse
 import sys
 import time
 from pathlib import Path
 
-from reckoning import totals
+from second.reckoning import totals
 
 
 def main():
     """One line."""
-    if len(sys.argv) != 3:
-        print("usage: time_totals.py BOOK RUNS", file=sys.stderr)
-        return 2
-    book = Path(sys.argv[1]).read_bytes()
+    parser = argparse.ArgumentParser(description=__doc__)
+    parser.add_argument("book", type=Path, help="the path of a book")
+    parser.add_argument("runs", type=int, help="how often it is timed")
+    wanted = parser.parse_args()
+    book = wanted.book.read_bytes()
     least = float("inf")
-    for _ in range(int(sys.argv[2])):
+    for _ in range(wanted.runs):
         began = time.perf_counter()
         _, _, n, by_setting, differences = totals(book)
         least = min(least, time.perf_counter() - began)

@@ -5,22 +5,21 @@
 
 #include "xaropinto.h"
 
+/* The header's constants, without their prefix. */
 enum {
-    HEADER_SIZE = 1220,
-    RECORD_SIZE = 24,
-    MOST_RECORDS = 1694,
-    CHAINS = 14,
-    LAST_CLASS = 120,
-    SETTINGS = 8,
-    PRODUCT_GROUPS = 5,
-    /* where fields stand in the header */
-    RECORD_COUNT = 4,
-    HEADS = 8,
-    COST_RATES = 36,
-    CURVE = 56,
-    MORTALITY = 252,
-    /* and in a record */
-    LAPSE = 12,
+    HEADER_SIZE = XAROPINTO_HEADER_BYTES,
+    RECORD_SIZE = XAROPINTO_RECORD_BYTES,
+    MOST_RECORDS = XAROPINTO_MOST_RECORDS,
+    CHAINS = XAROPINTO_CHAINS,
+    LAST_CLASS = XAROPINTO_LAST_CLASS,
+    SETTINGS = XAROPINTO_SETTINGS,
+    PRODUCT_GROUPS = XAROPINTO_PRODUCT_GROUPS,
+    RECORD_COUNT = XAROPINTO_RECORD_COUNT_AT,
+    HEADS = XAROPINTO_HEADS_AT,
+    COST_RATES = XAROPINTO_COST_RATES_AT,
+    CURVE = XAROPINTO_CURVE_AT,
+    MORTALITY = XAROPINTO_MORTALITY_AT,
+    LAPSE = XAROPINTO_LAPSE_AT,
     /* the chain of PG2 men, counted from 0, and their product group */
     PG2_MEN = 6,
     PG2 = 2
@@ -87,9 +86,9 @@ static parameter_book blank(size_t length)
 static parameter_book unlinked_book(size_t records)
 {
     parameter_book book = blank(record_start(records + 1));
-    put(book, 0, 1, 1);
-    put(book, 1, 1, 1);
-    put(book, 2, 2, 2021);
+    put(book, XAROPINTO_EDITION_AT, 1, 1);
+    put(book, XAROPINTO_AGE_BASIS_AT, 1, 1);
+    put(book, XAROPINTO_SST_YEAR_AT, 2, 2021);
     put(book, RECORD_COUNT, 2, records);
     return book;
 }
@@ -97,14 +96,14 @@ static parameter_book unlinked_book(size_t records)
 static void put_record(parameter_book book, size_t number, size_t chain, size_t class, contracts held)
 {
     size_t start = record_start(number);
-    put(book, start, 1, chain / 2 + 1);
-    put(book, start + 1, 1, chain % 2);
-    put(book, start + 2, 1, class);
-    put(book, start + 4, 2, class == LAST_CLASS ? 0 : number + 1);
-    put(book, start + 8, 4, held.count);
+    put(book, start + XAROPINTO_CODE_AT, 1, chain / 2 + 1);
+    put(book, start + XAROPINTO_SEX_AT, 1, chain % 2);
+    put(book, start + XAROPINTO_CLASS_AT, 1, class);
+    put(book, start + XAROPINTO_NEXT_AT, 2, class == LAST_CLASS ? 0 : number + 1);
+    put(book, start + XAROPINTO_COUNT_AT, 4, held.count);
     put(book, start + LAPSE, 4, held.lapse);
-    put(book, start + 16, 4, held.premium);
-    put(book, start + 20, 4, held.claims);
+    put(book, start + XAROPINTO_PREMIUM_AT, 4, held.premium);
+    put(book, start + XAROPINTO_CLAIMS_AT, 4, held.claims);
 }
 
 /* The book behind the paper's listing: ten contracts of PG2 men at class 120. */

@@ -6,17 +6,17 @@ use std::str::FromStr;
 
 use plain::reckoning::Totals;
 
-const SCRIPT: &str = "tools/time_totals.py";
+const SCRIPT: &str = "tools.time_totals";
 pub const RUNS: usize = 3;
 
 /// The least milliseconds, where the figures are those that are due.
 pub fn least_time(book: &Path, due: &Totals) -> Result<f64, String> {
     let output = Command::new("python3")
-        .arg(SCRIPT)
+        .args(["-m", SCRIPT])
         .arg(book)
         .arg(RUNS.to_string())
         .output()
-        .map_err(|trouble| format!("python3 {SCRIPT}: {trouble}"))?;
+        .map_err(|trouble| format!("python3 -m {SCRIPT}: {trouble}"))?;
     let line = String::from_utf8_lossy(&output.stdout);
     let (milliseconds, figures) = line
         .trim_end()

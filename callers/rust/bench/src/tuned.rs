@@ -9,12 +9,12 @@ use std::ops::Range;
 
 use plain::check::check;
 use plain::layout::*;
-use plain::reckoning::{chains_of, differences, Totals, SETTINGS, YEARS};
+use plain::reckoning::{chains_of, differences, Totals, YEARS};
+use plain::settings::{later, Weights, SETTINGS, SHIFTED_YEARS, WEIGHTS};
 use plain::Refusal;
 
 const MILLION: u64 = 1_000_000;
 const BILLION: u64 = 1_000_000_000;
-const SHIFTED_YEARS: usize = 5;
 const FIRST_CAPPED_YEAR: usize = 5;
 
 #[derive(Clone, Copy)]
@@ -40,50 +40,6 @@ pub enum Walk {
     /// one year of all cells, then the next year; cells do not wait for each other
     YearByYear,
 }
-
-/// In thousandths, for the first five years and for the later ones.
-struct Weights {
-    mortality: [[u64; 2]; 2],
-    lapse: u64,
-    costs: [u64; 2],
-    claims: [u64; 2],
-}
-
-const BASE: Weights = Weights {
-    mortality: [[870, 870], [860, 860]],
-    lapse: 1_000,
-    costs: [1_000, 1_000],
-    claims: [1_000, 1_000],
-};
-
-const WEIGHTS: [Weights; SETTINGS] = [
-    BASE,
-    Weights {
-        mortality: [[1_044, 870], [1_032, 860]],
-        ..BASE
-    },
-    Weights {
-        mortality: [[696, 870], [688, 860]],
-        ..BASE
-    },
-    Weights {
-        lapse: 1_300,
-        ..BASE
-    },
-    Weights { lapse: 700, ..BASE },
-    Weights {
-        costs: [1_200, 1_000],
-        ..BASE
-    },
-    Weights {
-        costs: [800, 1_000],
-        ..BASE
-    },
-    Weights {
-        claims: [1_050, 1_000],
-        ..BASE
-    },
-];
 
 /// A record of a chain, with the mortality of its class and sex.
 struct Record {
@@ -303,7 +259,7 @@ fn settle(book: &Book, weights: &Weights, sums: &[Sums; PRODUCT_GROUPS]) -> i64 
     let mut total = 0;
     for (sums, cost_rate) in sums.iter().zip(book.cost_rates) {
         for k in 0..YEARS {
-            let later = (k >= SHIFTED_YEARS) as usize;
+            let later = later(k);
             let premium = sums.premium[k];
             let cost = Split::new(premium).times(cost_rate * weights.costs[later]);
             let outgo = sums.claims[k] * weights.claims[later] / 1_000 + cost;

@@ -2,12 +2,11 @@
 
 use crate::check::check;
 use crate::layout::*;
+use crate::settings::{later, Weights, SETTINGS, WEIGHTS};
 use crate::Refusal;
 
 pub const YEARS: usize = 50;
-pub const SETTINGS: usize = 8;
 pub const TABLE_NUMBERS: usize = 4 * YEARS;
-const SHIFTED_YEARS: usize = 5;
 const FIRST_CAPPED_YEAR: usize = 5;
 const MILLION: u128 = 1_000_000;
 const BILLION: u128 = 1_000_000_000;
@@ -23,15 +22,6 @@ pub struct Totals {
     pub n: u64,
     pub totals: [i64; SETTINGS],
     pub differences: [i64; 4],
-}
-
-/// In thousandths.
-struct Weights {
-    /// of men, of women
-    mortality: [u128; 2],
-    lapse: u128,
-    costs: u128,
-    claims: u128,
 }
 
 /// What the record of one class holds.
@@ -126,27 +116,6 @@ pub fn chains_of(group: usize) -> std::ops::Range<usize> {
     }
 }
 
-fn weights(setting: usize, k: usize) -> Weights {
-    let mut weights = Weights {
-        mortality: [870, 860],
-        lapse: 1_000,
-        costs: 1_000,
-        claims: 1_000,
-    };
-    let shifted = k < SHIFTED_YEARS;
-    match setting {
-        1 if shifted => weights.mortality = [1_044, 1_032],
-        2 if shifted => weights.mortality = [696, 688],
-        3 => weights.lapse = 1_300,
-        4 => weights.lapse = 700,
-        5 if shifted => weights.costs = 1_200,
-        6 if shifted => weights.costs = 800,
-        7 if shifted => weights.claims = 1_050,
-        _ => {}
-    }
-    weights
-}
-
 /// The records of a chain, by rising class up to 120.
 fn chain_records(book: &[u8], chain: usize) -> Vec<Record> {
     let mut records = Vec::new();
@@ -183,6 +152,7 @@ fn next_in_force(in_force: u128, mortality: u128, lapse: u128) -> u128 {
 /// classes that it reaches, and there is none above class 120.
 fn year_sums(book: &[u8], setting: usize, group: usize) -> [Sums; YEARS] {
     let mut sums = [Sums::default(); YEARS];
+    let weights = &WEIGHTS[setting];
     for chain in chains_of(group) {
         let sex = sex_of_chain(chain);
         let records = chain_records(book, chain);
@@ -191,12 +161,11 @@ fn year_sums(book: &[u8], setting: usize, group: usize) -> [Sums; YEARS] {
             for (k, reached) in records[own..].iter().take(YEARS).enumerate() {
                 sums[k].premium += in_force * reached.premium / BILLION;
                 sums[k].claims += in_force * reached.claims / BILLION;
-                let weights = weights(setting, k);
                 let mortality = four_bytes(book, mortality_place(sex, reached.class)) as u128;
                 in_force = next_in_force(
                     in_force,
-                    mortality * weights.mortality[sex],
-                    reached.lapse * weights.lapse,
+                    mortality * weights.mortality[sex][later(k)] as u128,
+                    reached.lapse * weights.lapse as u128,
                 );
             }
         }
@@ -205,8 +174,9 @@ fn year_sums(book: &[u8], setting: usize, group: usize) -> [Sums; YEARS] {
 }
 
 /// Step 3, with the cost of the premium before the cap.
-fn outgo(sums: Sums, cost_rate: u128, weights: &Weights) -> u128 {
-    sums.claims * weights.claims / 1_000 + sums.premium * cost_rate * weights.costs / BILLION
+fn outgo(sums: Sums, cost_rate: u128, weights: &Weights, k: usize) -> u128 {
+    let [claims, costs] = [weights.claims, weights.costs].map(|weight| weight[later(k)] as u128);
+    sums.claims * claims / 1_000 + sums.premium * cost_rate * costs / BILLION
 }
 
 /// Step 4: the premium that counts.
@@ -236,7 +206,7 @@ fn years_of(book: &[u8], setting: usize, group: usize) -> Vec<Year> {
     let cost_rate = four_bytes(book, COST_RATES + 4 * (group - 1)) as u128;
     let mut years = Vec::new();
     for (k, sums) in year_sums(book, setting, group).into_iter().enumerate() {
-        let outgo = outgo(sums, cost_rate, &weights(setting, k));
+        let outgo = outgo(sums, cost_rate, &WEIGHTS[setting], k);
         let premium = capped(sums.premium, outgo, k);
         let divisor = divisor(book, k);
         years.push(Year {

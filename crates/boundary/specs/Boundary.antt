@@ -1,0 +1,24 @@
+-- What the C boundary hands back: the replies in fields.
+use mathlib.Core.Path.{_≡_}
+use mathlib.Core.List.{List}
+use Prim.Native.Nat.{ℕ}
+use lib.ListN.{length}
+use Rattle.field.specs.Verdicts.{refusalOf, placeOf, countOf}
+use Rattle.field.specs.declared.Verdict.{Verdict}
+use Rattle.reckoning.specs.Replies.{refusalIn, placeIn, liabilityIn, countIn, groupReply, GroupPromised}
+use Rattle.reckoning.specs.declared.GroupReply.{GroupReply}
+use Rattle.boundary.specs.declared.VerdictFields.{VerdictFields}
+use Rattle.boundary.specs.declared.GroupFields.{GroupFields}
+
+-- a verdict: the paper's number and place of a refusal, and n
+abbrev pub verdictFields : Verdict → VerdictFields
+verdictFields v = record { refusal = refusalOf v; place = placeOf v; n = countOf v }
+
+-- Group's reply
+abbrev pub groupFields : GroupReply → GroupFields
+groupFields r = record { refusal = refusalIn r; place = placeIn r; liability = liabilityIn r; n = countIn r }
+
+-- Group across the boundary: the fields are those of the reply as defined, and of that reply and the lent table all holds that Group promises
+pub record GroupHanded (b : List ℕ) (setting g : ℕ) (before after : List ℕ) (r : GroupFields) : Type 0 where
+  pub fields-are : r ≡ groupFields (groupReply b setting g (length before))
+  pub promised : GroupPromised b setting g before after (groupReply b setting g (length before))

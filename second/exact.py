@@ -1,0 +1,93 @@
+"""The exact value of a liability: the same steps with no rounding, apart from the reckoning."""
+
+from fractions import Fraction
+
+from second.book import read_values
+from second.layout import CHAINS, GROUPS, PRODUCT_GROUPS, SUBGROUPS
+
+YEARS = range(50)
+MILLIONTH = Fraction(1, 10**6)
+# What stays of a contract in a year is one whole number of billionths times another.
+SHARE = 10**18
+BASE_MORTALITY = {0: Fraction(87, 100), 1: Fraction(86, 100)}
+# What each setting moves, and by how many percent.
+MOVES = {0: (None, 0), 1: ("mortality", 20), 2: ("mortality", -20), 3: ("lapse", 30),
+         4: ("lapse", -30), 5: ("costs", 20), 6: ("costs", -20), 7: ("claims", 5)}
+
+
+def factor(setting, assumption, k):
+    """How a setting moves an assumption in year k; only lapse stays moved after five years."""
+    moved, percent = MOVES[setting]
+    if assumption != moved or (k >= 5 and moved != "lapse"):
+        return Fraction(1)
+    return 1 + Fraction(percent, 100)
+
+
+def remaining_share(mortality, lapse):
+    """What stays in force over a year, counted in parts of SHARE."""
+    share = (1 - min(Fraction(1), mortality)) * (1 - min(Fraction(1), lapse)) * SHARE
+    if share.denominator != 1:
+        raise ArithmeticError("a year's remaining share must be whole in parts of SHARE")
+    return share.numerator
+
+
+def chain_shares(values, chain, setting, k):
+    """The remaining shares of a chain's classes in year k."""
+    sex = CHAINS[chain].sex
+    first_class, cells = values.portfolios[chain]
+    mortality_factor = BASE_MORTALITY[sex] * factor(setting, "mortality", k) * MILLIONTH
+    lapse_factor = factor(setting, "lapse", k) * MILLIONTH
+    return [remaining_share(values.mortality[sex][age_class] * mortality_factor,
+                            cell.lapse * lapse_factor)
+            for age_class, cell in enumerate(cells, start=first_class)]
+
+
+def add_chain(premium, claims, values, chain, setting):
+    """Add a chain's cells to the sums, in parts of SHARE to the power of k for year k.
+
+    In force after k years is a whole number over that power, so that whole numbers
+    carry it exactly and no common divisor need be sought in the years between.
+    """
+    early, late = (chain_shares(values, chain, setting, k) for k in (0, 5))
+    cells = values.portfolios[chain].cells
+    for start, cell in enumerate(cells):
+        in_force = cell.count
+        for k, reached in zip(YEARS, cells[start:]):
+            premium[k] += in_force * reached.premium
+            claims[k] += in_force * reached.claims
+            in_force *= (early if k < 5 else late)[start + k]
+
+
+def exact_sums(values, setting, product_group):
+    """For each year the premium and claims sums of a product group."""
+    premium, claims = [0 for _ in YEARS], [0 for _ in YEARS]
+    for chain in values.portfolios:
+        subgroup = SUBGROUPS[CHAINS[chain].code - 1]
+        if subgroup.startswith(GROUPS[product_group - 1]):
+            add_chain(premium, claims, values, chain, setting)
+    return [(Fraction(premium[k], SHARE**k), Fraction(claims[k], SHARE**k)) for k in YEARS]
+
+
+def group_liability(values, setting, product_group):
+    """The exact liability of a product group."""
+    liability = Fraction(0)
+    for k, (premium, claims) in enumerate(exact_sums(values, setting, product_group)):
+        cost_share = values.cost_rates[product_group - 1] * MILLIONTH
+        outgo = (claims * factor(setting, "claims", k)
+                 + premium * cost_share * factor(setting, "costs", k))
+        if k >= 5:
+            premium = min(premium, outgo * Fraction(10, 9))
+        growth = 1 + values.curve[k - 1] * MILLIONTH if k else Fraction(1)
+        liability += (outgo - premium) / growth**k
+    return liability
+
+
+def exact_liability(book, setting, product_group):
+    """The exact liability of a product group of an accepted book."""
+    return group_liability(read_values(book), setting, product_group)
+
+
+def exact_totals(book):
+    """The exact totals of an accepted book by setting, each its five groups added."""
+    values = read_values(book)
+    return [sum(group_liability(values, setting, each) for each in PRODUCT_GROUPS) for setting in MOVES]

@@ -1,0 +1,1 @@
+"""Makers of books for the tests: trial figures, insurers, full books, damage."""

@@ -1,0 +1,89 @@
+"""Books of one or two contracts behind the trial figures and the traps: plain in every year."""
+
+from second.book import PG2_MEN, Cell, Portfolio, Values, make_book
+from second.layout import CLASSES, COST_RATES, CURVE
+
+PG1A_MEN, PG1B_WOMEN = 0, 3
+CERTAIN_DEATH = [[1_000_000] * CLASSES, [1_000_000] * CLASSES]
+FALLING_CURVE = [-10_000] * len(CURVE)
+# What the paper prints of its one-record book.
+PAPER_LISTING = b"""0 -100000 1
+1 -100000 1
+2 -100000 1
+3 -100000 1
+4 -100000 1
+5 -80000 1
+6 -120000 1
+7 -60000 1
+"""
+
+
+def contract(amounts, lapse=0, count=1):
+    """Contracts of one class that meet these (premium, claims) year by year up to class 120."""
+    cells = [Cell(0, lapse, premium, claims) for premium, claims in amounts]
+    cells[0] = cells[0]._replace(count=count)
+    return Portfolio(CLASSES - len(cells), tuple(cells))
+
+
+def in_year(k, premium, claims):
+    """Amounts that fall due in year k alone."""
+    return [(0, 0)] * k + [(premium, claims)]
+
+
+def one_contract_book(amounts, lapse=0, cost_rate=0, chain=PG2_MEN, **tables):
+    """A book with a single contract; PG2 men unless told otherwise."""
+    return make_book(Values(cost_rates=[cost_rate] * len(COST_RATES),
+                            portfolios={chain: contract(amounts, lapse)}, **tables))
+
+
+def in_force_book(mortality, lapse):
+    """One man from class 100, with the same rates for everyone at every class."""
+    rates = [[mortality] * CLASSES for _ in range(2)]
+    return one_contract_book([(10_000_000, 0)] * 21, lapse, mortality=rates)
+
+
+def rich_and_poor_book(rich=PG1A_MEN, poor=PG1B_WOMEN):
+    """Premium alone in one chain, claims alone in another, from the first year to the eighth."""
+    return make_book(Values(portfolios={rich: contract([(1_000, 0)] * 8),
+                                        poor: contract([(0, 1_000)] * 8)}))
+
+
+def richer_than_the_group_book():
+    """As the book before, the rich subgroup now too rich for the whole group."""
+    return make_book(Values(portfolios={PG1A_MEN: contract([(1_500, 100)] * 8),
+                                        PG1B_WOMEN: contract([(100, 1_000)] * 8)}))
+
+
+def sixth_year_book():
+    """A premium just above the cap in the sixth year."""
+    return one_contract_book(in_year(5, 1_001, 900))
+
+
+def death_and_lapse_book():
+    """87 percent die, and half of the others leave, before a premium in the second year."""
+    return one_contract_book(in_year(1, 1_000_000, 0), lapse=500_000, mortality=CERTAIN_DEATH)
+
+
+def cost_before_cap_book():
+    """A tenth of a premium that the cap cuts is cost."""
+    return one_contract_book(in_year(5, 2_000, 900), cost_rate=100_000)
+
+
+def lasting_lapse_book():
+    """Claims of the seventh year, which six years of lapse have thinned."""
+    return one_contract_book(in_year(6, 0, 10_000_000), lapse=100_000)
+
+
+def loss_in_discounting_book():
+    """98 centimes a year at -10,000: nearly one is lost at every step back."""
+    return one_contract_book([(0, 98)] * 50, curve=FALLING_CURVE)
+
+
+def loss_in_every_step_book(chains=(PG2_MEN,)):
+    """For each chain of men a contract that all but ends in a year, then loses a unit at each rounding."""
+    mortality = [[1] * CLASSES for _ in range(2)]
+    mortality[0][71] = 1_000_000
+    cells = list(contract([(0, 98)] + [(0, 9_889_000)] * 49, lapse=1).cells)
+    cells[0] = cells[0]._replace(lapse=999_923)
+    return make_book(Values(curve=FALLING_CURVE, mortality=mortality,
+                            portfolios=dict.fromkeys(chains, Portfolio(71, tuple(cells)))))

@@ -1,0 +1,91 @@
+"""The gate: proves every crate from nothing, then runs the outside tests. Its last line is the tally of both."""
+
+import re
+import sys
+import time
+from typing import NamedTuple
+
+from tests.command import run
+from tests.report import read_no_words
+
+TALLY = re.compile(r"^(\d+) passed, (\d+) failed$")
+# What the whole gate may take at the most: a part that takes longer hangs.
+MOST_SECONDS = 90 * 60
+INTERRUPTED = 130
+# What is told of a part that passes: the seed, and the largest distance.
+TOLD = ("seed ", "largest share")
+
+
+class Part(NamedTuple):
+    """A part of the gate, as docs/REVIEW.md names it: its command, and the fewest tests that it must count."""
+
+    name: str
+    command: list
+    least: int
+
+
+def script(name, module, least, *words):
+    """A part that is one of our scripts."""
+    return Part(name, [sys.executable, "-m", module, *words], least)
+
+
+PROOFS = Part("proofs, must-fail edits and programs", ["rt", "ci"], 86)
+# What runs after the proofs, in this order.
+OUTSIDE = [
+    script("must-fail edits fit the proof files", "tests.must_fail_reasons", 2),
+    script("documents", "tests.documents", 14),
+    script("second check, by hand-worked examples", "tests.second_check", 19),
+    script("stream of the check", "tests.streams.check", 100, "test"),
+    script("stream of the looker", "tests.streams.look", 20, "test"),
+    script("second reckoning, by hand-worked examples", "tests.second_reckoning", 30),
+    script("stream of Group, against the fractions", "tests.streams.group", 30, "test"),
+    script("stream of listings, against the fractions", "tests.streams.listing", 20, "test"),
+    script("listing program, by the paper's figures", "tests.listing_program", 8),
+    script("sample books", "tools.sample_books", 17, "test"),
+    script("random books against the second check", "tests.random_books.check", 16),
+    script("random listings against the second reckoning and the fractions", "tests.random_books.listing", 20),
+    script("callers in C and Rust", "tests.callers", 80),
+    script("calls from Python, on random books", "tests.calls.base", 20),
+]
+PARTS = [PROOFS, *OUTSIDE]
+
+
+def try_part(part):
+    """Run one part, print its line and what it wrote where it failed; how many tests passed and failed."""
+    began = time.monotonic()
+    code, text = run(part.command, MOST_SECONDS)
+    lines = text.rstrip().splitlines()
+    tally = TALLY.match(lines[-1]) if lines else None
+    passed, failed = (int(tally[1]), int(tally[2])) if tally else (0, 0)
+    # A part that ends badly, or with fewer tests than it has, has failed whatever it counted.
+    if failed == 0 and (code != 0 or passed < part.least):
+        failed = 1
+        lines.append(f"ended with {code}; {passed} tests, at least {part.least} are due")
+    if failed:
+        print("\n".join(lines))
+    else:
+        print("".join(line + "\n" for line in lines if line.startswith(TOLD)), end="")
+    print(f"{'ok' if not failed else 'FAILED'} {part.name}: {passed} passed, {failed} failed"
+          f" ({time.monotonic() - began:.0f} s)", flush=True)
+    return passed, failed
+
+
+def main():
+    """All parts; the outside tests run on what was proved, so not where the proofs fail."""
+    read_no_words(__doc__)
+    print("checker:", run(["rt", "version"], MOST_SECONDS)[1].strip(), flush=True)
+    passed, failed = try_part(PROOFS)
+    if not failed:
+        for part in OUTSIDE:
+            more, bad = try_part(part)
+            passed, failed = passed + more, failed + bad
+    print(f"{passed} passed, {failed} failed")
+    return 1 if failed else 0
+
+
+if __name__ == "__main__":
+    try:
+        sys.exit(main())
+    except KeyboardInterrupt:
+        print("interrupted: nothing is shown", file=sys.stderr)
+        sys.exit(INTERRUPTED)

@@ -1,0 +1,37 @@
+"""The built programs, run on the bytes of their input."""
+
+import subprocess
+
+from tests import ROOT
+from tests.streams.files import book_frame
+
+MOST_SECONDS = 600
+
+
+class ProgramFailed(Exception):
+    """The program is not built, or could not be run to its end."""
+
+
+def program_path(name):
+    """Where a built program stands."""
+    path = ROOT / "target" / "bin" / name
+    if not path.is_file():
+        raise ProgramFailed(f"{path.relative_to(ROOT)} is not built yet")
+    return path
+
+
+def run_program(name, sent):
+    """The bytes that a program writes for those on its input, and its exit code."""
+    try:
+        run = subprocess.run([program_path(name)], input=sent, stdout=subprocess.PIPE,
+                             timeout=MOST_SECONDS, check=False)
+    except (OSError, subprocess.TimeoutExpired) as trouble:
+        raise ProgramFailed(f"{name} could not be run to its end: {trouble}") from trouble
+    return run.stdout, run.returncode
+
+
+def verdict_lines(books):
+    """The lines that the test program of the check writes for these books in their order, and its exit code."""
+    written, code = run_program("test_check", b"".join(map(book_frame, books)))
+    # What follows the last byte 10 is no line.
+    return written.decode("ascii", "replace").split("\n")[:-1], code

@@ -1,0 +1,1 @@
+"""Random books through the built programs, held against the second reading."""

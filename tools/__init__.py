@@ -1,0 +1,1 @@
+"""What a person runs: verdicts in words, samples, timing."""
