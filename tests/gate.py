@@ -29,23 +29,23 @@ def script(name, module, least, *words):
     return Part(name, [sys.executable, "-m", module, *words], least)
 
 
-PROOFS = Part("proofs, must-fail edits and programs", ["rt", "ci"], 86)
+PROOFS = Part("proofs, must-fail edits and programs", ["rt", "ci"], 81)
 # What runs after the proofs, in this order.
 OUTSIDE = [
     script("must-fail edits fit the proof files", "tests.must_fail_reasons", 2),
-    script("documents", "tests.documents", 14),
-    script("second check, by hand-worked examples", "tests.second_check", 19),
-    script("stream of the check", "tests.streams.check", 100, "test"),
-    script("stream of the looker", "tests.streams.look", 20, "test"),
+    script("documents", "tests.documents", 13),
+    script("second check, by hand-worked examples", "tests.second_check", 32),
+    script("stream of the check", "tests.streams.check", 50, "test"),
+    script("stream of the looker", "tests.streams.look", 12, "test"),
     script("second reckoning, by hand-worked examples", "tests.second_reckoning", 30),
-    script("stream of Group, against the fractions", "tests.streams.group", 30, "test"),
-    script("stream of listings, against the fractions", "tests.streams.listing", 20, "test"),
-    script("listing program, by the paper's figures", "tests.listing_program", 8),
+    script("stream of Group, against the fractions", "tests.streams.group", 29, "test"),
+    script("stream of listings, against the fractions", "tests.streams.listing", 35, "test"),
+    script("listing program, by the paper's figures", "tests.listing_program", 9),
     script("sample books", "tools.sample_books", 17, "test"),
     script("random books against the second check", "tests.random_books.check", 16),
-    script("random listings against the second reckoning and the fractions", "tests.random_books.listing", 20),
-    script("callers in C and Rust", "tests.callers", 80),
-    script("calls from Python, on random books", "tests.calls.base", 20),
+    script("random listings against the second reckoning and the fractions", "tests.random_books.listing", 21),
+    script("callers in C and Rust", "tests.callers", 85),
+    script("calls from Python, on random books", "tests.calls.base", 22),
 ]
 PARTS = [PROOFS, *OUTSIDE]
 
