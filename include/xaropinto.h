@@ -12,7 +12,8 @@
  * book or to its table. Calls may share a book; each Group call needs a table of its own.
  *
  * Stack. A call takes what it needs from the caller's stack, and no proof says how much. A process that runs out of
- * stack stops. Measured: Totals 16 KiB, Group 6 KiB, the others under 1 KiB.
+ * stack stops. Beside what its own functions need, give a thread 32 KiB for Totals, 16 KiB for Group, 8 KiB for the
+ * others. Measured, in a first call that is bound as it is called: 19,191, 6,071 and 3,319 bytes.
  *
  * Replies. A refusal of 0 means accepted. Otherwise `refusal` says which rule is broken and `place` where; every
  * other field of the reply is 0, and the table is as it was. No earlier call is trusted: each checks the whole book.
