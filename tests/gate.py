@@ -41,7 +41,7 @@ OUTSIDE = [
     script("stream of Group, against the fractions", "tests.streams.group", 29, "test"),
     script("stream of listings, against the fractions", "tests.streams.listing", 35, "test"),
     script("listing program, by the paper's figures", "tests.listing_program", 9),
-    script("sample books", "tools.sample_books", 17, "test"),
+    script("sample books", "tools.sample_books", 19, "test"),
     script("random books against the second check", "tests.random_books.check", 16),
     script("random listings against the second reckoning and the fractions", "tests.random_books.listing", 21),
     script("callers in C and Rust", "tests.callers", 85),

@@ -46,21 +46,32 @@ def files():
     return books | {f"{name}.listing": listing(book) for name, book, _ in SAMPLES}
 
 
+def copies():
+    """What the proof of the listing program runs it on: the first sample, and its listing."""
+    name, book, _ = SAMPLES[0]
+    return {"crates/listing/stdin": book, "crates/listing/stdout": files()[f"{name}.listing"]}
+
+
+def all_files():
+    """Every file that is made, by its path from the top."""
+    return {f"samples/{name}": content for name, content in files().items()} | copies()
+
+
 def write():
     """Write every sample."""
     FOLDER.mkdir(exist_ok=True)
-    for name, content in files().items():
-        (FOLDER / name).write_bytes(content)
-        print(f"samples/{name}: {len(content)} bytes")
+    for name, content in all_files().items():
+        (ROOT / name).write_bytes(content)
+        print(f"{name}: {len(content)} bytes")
     return 0
 
 
 def test():
     """The files are as built, nothing else lies beside them, and the built check says what is told."""
     report = Report()
-    for name, due in files().items():
-        path = FOLDER / name
-        report.test(f"samples/{name} is as built", path.is_file() and path.read_bytes() == due)
+    for name, due in all_files().items():
+        path = ROOT / name
+        report.test(f"{name} is as built", path.is_file() and path.read_bytes() == due)
     held = sorted(path.name for path in FOLDER.iterdir())
     report.test("samples/ holds nothing else", held == sorted(files()), held)
     test_verdicts(report)
