@@ -14,3 +14,7 @@ readU16 b at = byteAt b at + 256 * byteAt b (at + 1)
 -- the number of four bytes at a place
 unfoldable pub readU32 : List ℕ → ℕ → ℕ
 readU32 b at = readU16 b at + 65536 * readU16 b (at + 2)
+
+-- the number of eight bytes at a place
+unfoldable pub readU64 : List ℕ → ℕ → ℕ
+readU64 b at = readU32 b at + 4_294_967_296 * readU32 b (at + 4)

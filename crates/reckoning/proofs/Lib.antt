@@ -7,6 +7,7 @@ pub mod Members
 pub mod Accepted
 pub mod Promised
 pub mod Total
+pub mod PaperDifferences
 pub mod Trials
 pub mod TrialBook
 pub mod Unlinked

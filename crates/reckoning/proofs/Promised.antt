@@ -1,6 +1,7 @@
 -- What Group promises holds of its reply and table as defined: the distance, and the cap. Assumes nothing.
-use mathlib.Core.Path.{_≡_, refl, sym, subst, _∙_}
+use mathlib.Core.Path.{_≡_, refl, sym, subst}
 use mathlib.Core.Logic.{⊎-elim}
+use mathlib.Core.Bool.{Bool, true, false}
 use mathlib.Core.List.{List, _++_, append-assoc}
 use Prim.Native.Nat.{ℕ, zero, suc, _+_, _*_, _<_, _≤_}
 use native.Mathlib.Nat.{add-zero, eq-or-lt-of-le}
@@ -9,21 +10,21 @@ use borrow.Author.Tests.{le-leb}
 use lib.IntN.{ℤ}
 use lib.ListN.{length, getD, drop, length-append, List·getD-append}
 use lib.Seq.{getD-append-add}
-use Rattle.field.specs.Verdicts.{countOf}
+use Rattle.field.specs.Verdicts.{need, _andThen_, refusalOf, countOf}
 use Rattle.field.specs.declared.Verdict.{Verdict}
 use Rattle.field.specs.declared.Verdict.the-variants.{Accepted, Refused}
 use Rattle.book.specs.Layout.{lastClass}
 use Rattle.book.specs.Cells.{heldOfGroup}
 use Rattle.book.specs.Reading.{ValidBook}
+use Rattle.book.proofs.Numbers.{zero-accepted}
 use Rattle.settings.specs.Settings.{decrementsOf}
 use Rattle.reckoning.specs.Arithmetic.{rounded}
 use Rattle.reckoning.specs.Steps.{Cell, Terms, outgo, cappedIf, capped, countedPremium}
 use Rattle.reckoning.specs.Portfolio.{groupCells, termsOf}
 use Rattle.reckoning.specs.Bounds.{Within}
 use Rattle.reckoning.specs.Promises.{distanceOf}
-use Rattle.reckoning.specs.Replies.{groupCheck, groupLiability, exactGroupLiability, replyOf, groupReply, yearNumbers, yearTable, groupTable, GroupPromised}
+use Rattle.reckoning.specs.Replies.{groupCheck, groupLiability, exactGroupLiability, refusalIn, replyOf, groupReply, yearNumbers, yearTable, groupTable, GroupPromised}
 use Rattle.reckoning.specs.declared.GroupReply.{GroupReply}
-use Rattle.reckoning.specs.declared.GroupReply.the-variants.{Reckoned}
 use Rattle.reckoning.proofs.Distance.{distance}
 use Rattle.reckoning.proofs.Members.{held-group}
 use Rattle.reckoning.proofs.Accepted.{group-range, group-valid, good-terms, good-cells}
@@ -63,10 +64,33 @@ module _ (t : Terms) (cs : List Cell) where
   pub outgo-at : (j k : ℕ) (rest : List ℕ) → k < j → getD (yearTable t cs j ++ rest) (4 * k + 1) 0 ≡ outgo rounded t cs k
   outgo-at j k rest year = year-at j k 1 rest year (omega arith)
 
--- a reply that reckons: the verdict, the liability and n
-reckoned : (v : Verdict) (l m : ℤ) (n o : ℕ) → replyOf v l n ≡ Reckoned m o → (v ≡ Accepted (countOf v)) × (l ≡ m) × (n ≡ o)
-reckoned (Accepted c) l m n o e = (refl, (cc), (cc))
-reckoned (Refused q p) l m n o e = let z : _≡_ {A = ℕ} 0 1 = cc in absurd (omega arith)
+-- refusal 0 is acceptance, of Group too
+Told : Verdict → Type 0
+Told v = refusalOf v ≡ 0 → v ≡ Accepted (countOf v)
+
+told-need : (ok : Bool) (q p : ℕ) → Told (need ok (suc q) p)
+unfolding Told need
+told-need true q p e = refl
+told-need false q p e = absurd (omega arith)
+
+told-then : (v w : Verdict) → Told v → Told w → Told (v andThen w)
+unfolding Told _andThen_
+told-then (Accepted n) w hv hw = hw
+told-then (Refused q p) w hv hw = hv
+
+told-reply : (v : Verdict) (l : ℤ) (n : ℕ) → Told v → refusalIn (replyOf v l n) ≡ 0 → v ≡ Accepted (countOf v)
+unfolding Told
+told-reply (Accepted m) l n told e = refl
+told-reply (Refused q p) l n told e = told e
+
+module _ (b : List ℕ) (setting g numbers : ℕ) where
+  group-told : Told (groupCheck b setting g numbers)
+  unfolding Told groupCheck
+  group-told = told-then _ _ (told-then _ _ (told-then _ _ (told-need _ 13 0) (told-need _ 14 0)) (told-need _ 15 0)) (zero-accepted 1 b)
+
+  accepts : refusalIn (groupReply b setting g numbers) ≡ 0 → groupCheck b setting g numbers ≡ Accepted (countOf (groupCheck b setting g numbers))
+  unfolding groupReply
+  accepts = told-reply (groupCheck b setting g numbers) (groupLiability b setting g) (heldOfGroup b (lastClass 1) g) group-told
 
 -- of an accepted book
 pub group-distance : (b : List ℕ) (setting g : ℕ) → ValidBook 1 b → (1 ≤ g) × (g ≤ 5)
@@ -97,6 +121,6 @@ unfolding groupReply
 promised b setting g before after reply reply-is table-is = record {
   reply-is = reply-is;
   table-is = table-is;
-  distance = λ l n e. let h = reckoned _ _ l _ n (sym reply-is ∙ e) in rw (h .1, h .2) at (accepted-distance b setting g before _ (h .0));
-  cap = λ l n k e late year. let h = reckoned _ _ l _ n (sym reply-is ∙ e) in rw table-is (group-cap b setting g before _ (h .0) k late year);
+  distance = λ none. let e = accepts b setting g (length before) (rw reply-is at none) in rw (reply-is, e) (accepted-distance b setting g before _ e);
+  cap = λ k none late year. rw table-is (group-cap b setting g before _ (accepts b setting g (length before) (rw reply-is at none)) k late year);
 }

@@ -5,4 +5,5 @@ pub mod Promises
 pub mod Portfolio
 pub mod Replies
 pub mod Totals
+pub mod PaperDifferences
 pub mod Trials

@@ -85,6 +85,6 @@ pub record GroupPromised (b : List ℕ) (setting g : ℕ) (before after : List �
   pub reply-is : reply ≡ groupReply b setting g (length before)
   pub table-is : after ≡ groupTable b setting g before
   -- within 500 n + 2,850 centimes of the exact value, n and the liability being those of the reply
-  pub distance : (l : ℤ) (n : ℕ) → reply ≡ Reckoned l n → Within (distanceOf n) l (exactGroupLiability b setting g)
+  pub distance : refusalIn reply ≡ 0 → Within (distanceOf (countIn reply)) (liabilityIn reply) (exactGroupLiability b setting g)
   -- from the sixth year on nine times the counted premium of the table is at most ten times its outgo
-  pub cap : (l : ℤ) (n k : ℕ) → reply ≡ Reckoned l n → 5 ≤ k → k < 50 → 9 * getD after (4 * k) 0 ≤ 10 * getD after (4 * k + 1) 0
+  pub cap : (k : ℕ) → refusalIn reply ≡ 0 → 5 ≤ k → k < 50 → 9 * getD after (4 * k) 0 ≤ 10 * getD after (4 * k + 1) 0

@@ -1,6 +1,8 @@
 // What the test programs read from standard input: numbers, least byte first, and bytes.
+ghost use mathlib.Core.Path.{_≡_};
 ghost use Prim.Native.Nat.{_+_, _≤_};
 ghost use lib.ListN.{length};
+ghost use Rattle.field.specs.Bytes.{readU64};
 ghost use Rattle.io.specs.Counts.{Counts};
 use libc::STDIN_FILENO;
 
@@ -21,6 +23,7 @@ pub fn next_u32() -> Next {
 // The number of eight bytes at a place.
 pub fn read_u64(b: &[u8], at: usize) -> u64
     requires { ⌜ at + 8 ≤ length (now b) ⌝ }
+    ensures { λ r. ⌜ r ≡ readU64 (now (b .entry)) at ⌝ }
 {
     field::read_u32(b, at) + 4_294_967_296 * field::read_u32(b, at + 4)
 }

@@ -4,6 +4,7 @@ use mathlib.Core.Path.{sym, ap, _∙_}
 use Prim.Native.Nat.{ℕ}
 use mir.Syntax.{w64}
 use mir.ValLaws.{toZ-ofZ}
+use native.Mathlib.Omega.{arith}
 use borrow.Author.Needs.{needs}
 use Rattle.reckoning.specs.Replies.{groupLiability, groupReply, groupTable}
 use Rattle.reckoning.specs.declared.GroupReply.the-variants.{Reckoned}
@@ -31,7 +32,7 @@ settle-requires : tie.Need-settle-requires
 settle-requires c κs =
     let m = c .before .before .before in
     let e = sym (m .before .before .check-group .ensures) ∙ m .enum-told .given .1 in
-    (group-setting _ _ _ _ _ e, group-range _ _ _ _ _ e .0, group-range _ _ _ _ _ e .1, group-table _ _ _ _ _ e, group-valid _ _ _ _ _ e, rw (c .before .before .new .ensures .0) at (c .before .group-sums .ensures))
+    (omega (arith, group-setting _ _ _ _ _ e), group-range _ _ _ _ _ e .0, group-range _ _ _ _ _ e .1, group-table _ _ _ _ _ e, group-valid _ _ _ _ _ e, rw (c .before .before .new .ensures .0) at (c .before .group-sums .ensures))
 
 returns-2 : tie.Need-returns-2
 unfolding groupReply groupTable

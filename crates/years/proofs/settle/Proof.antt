@@ -52,7 +52,7 @@ settle-year-requires c κs =
     let l = m .loop in
     let n = m .before .before .before .before in
     let a = n .before .before .before in
-    (n .new .ensures .1, omega arith, m .before .cost-rate-of .ensures .1, c .divisor-of .ensures .1, c .divisor-of .ensures .2, a .pre .5 .premium-most (l .k), a .pre .5 .claims-most (l .k))
+    (n .new .ensures .1, omega arith, m .before .cost-rate-of .ensures .1, c .divisor-of .ensures .1, c .divisor-of .ensures .2, a .pre .5 .premium-most _, a .pre .5 .claims-most _)
 
 put-year-requires : tie.Need-put-year-requires Inv-loop μ-loop
 put-year-requires c κs =
