@@ -22,6 +22,7 @@ list: target/bin/listing ## write the listing of a book: make list BOOK=path
 fuzz: target/bin/test_check target/bin/listing lib ## hold programs and calls against Python: make fuzz N=2000 SEED=1
 	@python3 -m tests.random_books.check --books $(N) --seed $(SEED)
 	@python3 -m tests.calls.base --books $(N) --seed $(SEED)
+	@python3 -m tests.calls.accounts --accounts $(N) --seed $(SEED)
 	@python3 -m tests.random_books.listing --books $(N) --seed $(SEED)
 
 streams: ## write the test programs' streams anew
@@ -42,6 +43,7 @@ lib: ## prove the C boundary and put its archive and shared library under target
 callers: ## run the tests of the callers in C, Rust and Python
 	@python3 -m tests.callers
 	@python3 -m tests.calls.base
+	@python3 -m tests.calls.accounts
 
 bench: lib ## time Totals beside Rust and Python: make bench OPTIONS=--instructions counts instructions too
 	@cd callers/rust && cargo run --quiet --offline --locked --release --package bench -- $(OPTIONS)

@@ -1,9 +1,12 @@
-/* The four calls on a parameter book, for C and C++ on x86-64 (System V). Link with libxaropinto.a or libxaropinto.so.
+/* The calls on a parameter book, and on the accounts that its cost rates come from, for C and C++ on x86-64
+ * (System V). Link with libxaropinto.a or libxaropinto.so.
  *
- * docs/BOOK.md has the book's format, docs/RECKONING.md the reckoning. Amounts are centimes.
+ * docs/BOOK.md has the book's format, docs/RECKONING.md the reckoning. Amounts of a book are centimes, those of
+ * accounts whole francs.
  *
  * Buffers. The caller owns the book and the table. A call only reads the book. Group alone writes, and only to
- * numbers 0 to 199 of the table. No call keeps a pointer after it returns, and none allocates.
+ * numbers 0 to 199 of the table. Accounts are handed over by value: no call sees the caller's own. No call keeps a
+ * pointer after it returns, and none allocates.
  *
  * Pointers. Each must be valid for its length and must not be null, also where the length is 0. The table must be
  * aligned for uint64_t, and must overlap neither the book nor anything else that is lent at the time.
@@ -12,11 +15,13 @@
  * book or to its table. Calls may share a book; each Group call needs a table of its own.
  *
  * Stack. A call takes what it needs from the caller's stack, and no proof says how much. A process that runs out of
- * stack stops. Beside what its own functions need, give a thread 32 KiB for Totals, 16 KiB for Group, 8 KiB for the
- * others. Measured, in a first call that is bound as it is called: 19,191, 6,071 and 3,319 bytes.
+ * stack stops. Beside what its own functions need, give a thread 32 KiB for Totals, 16 KiB for Group and for the cost
+ * rates, 8 KiB for the others. Measured, in a first call that is bound as it is called: 19,191 bytes, 6,071 and 5,735,
+ * and 3,319.
  *
  * Replies. A refusal of 0 means accepted. Otherwise `refusal` says which rule is broken and `place` where; every
- * other field of the reply is 0, and the table is as it was. No earlier call is trusted: each checks the whole book.
+ * other field of the reply is 0, and the table is as it was. No earlier call is trusted: each checks the whole book,
+ * or all accounts.
  *
  *   refusal  broken rule                                 place                       who mends it
  *    1       the book has at least 1,220 bytes           its length                  desk that writes the file
@@ -35,10 +40,16 @@
  *   14       the setting is 0 to 7                       0                           caller
  *   15       the product group is 1 to 5                 0                           caller
  *   16       the table has at least 200 numbers          0                           caller
+ *   17       an amount is at most 1,000,000,000 francs,  0                           insurer's cost sheet
+ *            a stock at most 10,000,000 contracts
+ *   18       no year's stock or claims add up to 0; a    0                           insurer's cost sheet
+ *            group has premium in all years, or nothing
+ *   19       no cost rate is above 1,000,000 millionths  0                           insurer's cost sheet
  *
  * Where several rules are broken, the reply names one. 14 to 16 are tested first, in this order; then 1 to 8, also in
  * order, and where a number has several places it is given with the lowest. 9 to 13 come last, chain by chain and
- * record by record: docs/BOOK.md has their order.
+ * record by record: docs/BOOK.md has their order. 17 to 19 are those of accounts, and are tested in this order: 17 on
+ * all figures before 18 on any.
  */
 #ifndef XAROPINTO_H
 #define XAROPINTO_H
@@ -78,6 +89,9 @@
 /* The numbers that Group writes: four for each of fifty years. */
 #define XAROPINTO_TABLE_NUMBERS 200
 
+/* The years of accounts. */
+#define XAROPINTO_ACCOUNT_YEARS 3
+
 #ifdef __cplusplus
 extern "C" {
 #endif
@@ -114,6 +128,22 @@ typedef struct {
     uint64_t length;
 } xaropinto_record_reply;
 
+/* Three years of accounts: the expenses of a year, adjusted but not yet lowered by 5 percent; and by year and product
+ * group, PG1 first, the stock in contracts, claims and premium. All but the stock in whole francs. */
+typedef struct {
+    uint64_t expenses[XAROPINTO_ACCOUNT_YEARS];
+    uint64_t stock[XAROPINTO_ACCOUNT_YEARS][XAROPINTO_PRODUCT_GROUPS];
+    uint64_t claims[XAROPINTO_ACCOUNT_YEARS][XAROPINTO_PRODUCT_GROUPS];
+    uint64_t premium[XAROPINTO_ACCOUNT_YEARS][XAROPINTO_PRODUCT_GROUPS];
+} xaropinto_accounts;
+
+/* rates: PG1 to PG5, in millionths of premium, each at most 1,000,000. They are a book's cost rates as they are. */
+typedef struct {
+    uint64_t refusal;
+    uint64_t place;
+    uint64_t rates[XAROPINTO_PRODUCT_GROUPS];
+} xaropinto_cost_rates_reply;
+
 /* Check: is this a book? Refusals 1 to 13. */
 xaropinto_verdict xaropinto_check(const uint8_t *book, size_t length);
 
@@ -130,6 +160,9 @@ xaropinto_totals_reply xaropinto_totals(const uint8_t *book, size_t length);
 /* Record: where record `number`, counted from 1, stands in the book, linked or not. Refusals 1 to 13; then 9 with
  * place 0, the caller's, where the number is 0 or above N. */
 xaropinto_record_reply xaropinto_record(const uint8_t *book, size_t length, size_t number);
+
+/* Cost rates: those of the five product groups, out of three years of accounts. Refusals 17, 18, 19, with place 0. */
+xaropinto_cost_rates_reply xaropinto_cost_rates(xaropinto_accounts accounts);
 
 #ifdef __cplusplus
 }

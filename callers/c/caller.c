@@ -1,4 +1,4 @@
-/* Calls the archive from C on books made here, and holds every reply against figures worked by hand. */
+/* Calls the archive from C on books and accounts made here, and holds every reply against figures worked by hand. */
 #include <stdio.h>
 #include <stdlib.h>
 #include <string.h>
@@ -235,7 +235,9 @@ static uint64_t table_number(parameter_book book, size_t setting, size_t k, size
 static void test_sizes(void)
 {
     test("replies_have_no_gaps", sizeof(xaropinto_verdict) == 24 && sizeof(xaropinto_group_reply) == 32 &&
-                                     sizeof(xaropinto_totals_reply) == 120 && sizeof(xaropinto_record_reply) == 32);
+                                     sizeof(xaropinto_totals_reply) == 120 && sizeof(xaropinto_record_reply) == 32 &&
+                                     sizeof(xaropinto_cost_rates_reply) == 56);
+    test("accounts_have_no_gaps", sizeof(xaropinto_accounts) == 48 * sizeof(uint64_t));
 }
 
 static void test_one_record(void)
@@ -447,6 +449,91 @@ static void test_in_force(void)
     free(leaving.bytes);
 }
 
+/* ---- accounts ---- */
+
+/* Every group alike in every year, so that each has a fifth of the lowered expenses. */
+static xaropinto_accounts even_accounts(uint64_t expenses, uint64_t premium)
+{
+    xaropinto_accounts accounts;
+    for (size_t year = 0; year < XAROPINTO_ACCOUNT_YEARS; year++) {
+        accounts.expenses[year] = expenses;
+        for (size_t group = 0; group < PRODUCT_GROUPS; group++) {
+            accounts.stock[year][group] = 10;
+            accounts.claims[year][group] = 10;
+            accounts.premium[year][group] = premium;
+        }
+    }
+    return accounts;
+}
+
+/* The same without PG5, so that each other group has a quarter. */
+static xaropinto_accounts accounts_without_pg5(uint64_t expenses, uint64_t premium)
+{
+    xaropinto_accounts accounts = even_accounts(expenses, premium);
+    for (size_t year = 0; year < XAROPINTO_ACCOUNT_YEARS; year++)
+        accounts.stock[year][4] = accounts.claims[year][4] = accounts.premium[year][4] = 0;
+    return accounts;
+}
+
+static int rates_are(xaropinto_accounts accounts, const uint64_t rates[5])
+{
+    xaropinto_accounts before = accounts;
+    xaropinto_cost_rates_reply reply = xaropinto_cost_rates(accounts);
+    return reply.refusal == 0 && reply.place == 0 && memcmp(reply.rates, rates, sizeof reply.rates) == 0 &&
+           memcmp(&accounts, &before, sizeof before) == 0;
+}
+
+static int accounts_refused(xaropinto_accounts accounts, uint64_t refusal)
+{
+    xaropinto_cost_rates_reply reply = xaropinto_cost_rates(accounts);
+    xaropinto_cost_rates_reply due = {refusal, 0, {0}};
+    return memcmp(&reply, &due, sizeof due) == 0;
+}
+
+/* Of 1,000 francs 950 are left: 190 for each of five groups, or 237 for each of four. */
+static void test_cost_rates(void)
+{
+    static const uint64_t fifths[5] = {190000, 190000, 190000, 190000, 190000};
+    static const uint64_t quarters[5] = {237000, 237000, 237000, 237000, 0};
+    static const uint64_t highest[5] = {1000000, 1000000, 1000000, 1000000, 1000000};
+    /* PG1 has all claims: by stock 190, by claims 950, together 1,140 over 2,000 and for the others 190 over 2,000. */
+    static const uint64_t two_splits[5] = {570000, 95000, 95000, 95000, 95000};
+    /* 190,000 in two years, and 380 over 2,002 in the third: 189,810. The mean is 189,936.67. */
+    static const uint64_t three_years[5] = {190000, 189936, 190000, 190000, 190000};
+    xaropinto_accounts split = even_accounts(1000, 1000), third = even_accounts(1000, 1000);
+    for (size_t year = 0; year < XAROPINTO_ACCOUNT_YEARS; year++)
+        for (size_t group = 1; group < PRODUCT_GROUPS; group++)
+            split.claims[year][group] = 0;
+    third.premium[2][1] = 1001;
+    test("each_group_has_its_share_of_the_lowered_expenses", rates_are(even_accounts(1000, 1000), fifths));
+    test("an_empty_group_has_rate_0", rates_are(accounts_without_pg5(1000, 1000), quarters));
+    test("the_splits_by_stock_and_by_claims_are_averaged", rates_are(split, two_splits));
+    test("the_three_years_are_averaged_and_rounded_down", rates_are(third, three_years));
+    test("a_rate_of_1000000_passes", rates_are(even_accounts(1000, 190), highest));
+}
+
+static void test_cost_rate_refusals(void)
+{
+    xaropinto_accounts accounts = even_accounts(1000, 1000);
+    accounts.expenses[2] = 1000000001;
+    test("an_amount_above_its_limit_is_refused", accounts_refused(accounts, 17));
+    accounts.claims[0][0] = (uint64_t)-1;
+    accounts.stock[1][0] = 0;
+    accounts.premium[1][1] = 0;
+    test("a_limit_comes_before_premium_zero", accounts_refused(accounts, 17));
+    accounts = even_accounts(1000, 1000);
+    accounts.stock[2][4] = 10000001;
+    test("a_stock_above_its_limit_is_refused", accounts_refused(accounts, 17));
+    accounts = even_accounts(1000, 1);
+    memset(accounts.claims[1], 0, sizeof accounts.claims[1]);
+    test("a_year_without_claims_is_refused_before_a_high_rate", accounts_refused(accounts, 18));
+    accounts = accounts_without_pg5(1000, 1000);
+    accounts.premium[0][4] = 1;
+    test("a_group_with_premium_in_one_year_alone_is_refused", accounts_refused(accounts, 18));
+    /* 380 x 1,000,000 / 378 is 1,005,291 in each year */
+    test("a_rate_above_1000000_is_refused", accounts_refused(even_accounts(1000, 189), 19));
+}
+
 int main(void)
 {
     test_sizes();
@@ -461,6 +548,8 @@ int main(void)
     test_discounting();
     test_cap();
     test_in_force();
+    test_cost_rates();
+    test_cost_rate_refusals();
     printf("%d passed, %d failed\n", passed, failed);
     return failed != 0;
 }

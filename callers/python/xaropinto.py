@@ -1,4 +1,4 @@
-"""The proved check and reckoning of a parameter book, called through ctypes.
+"""The proved check and reckoning of a parameter book, and its cost rates out of accounts, called through ctypes.
 
 `make lib` links the shared library. `include/xaropinto.h` says what each call answers and which refusals it
 gives. A book is `bytes`, which nothing can change and which is lent as it is, or anything else with bytes, such
@@ -50,6 +50,14 @@ class RecordReply(NamedTuple):
     length: int
 
 
+class CostRates(NamedTuple):
+    """The rates of PG1 to PG5 in millionths of premium, each at most 1,000,000."""
+
+    refusal: int
+    place: int
+    rates: tuple
+
+
 class _Verdict(ctypes.Structure):
     _fields_ = [("refusal", ctypes.c_uint64), ("place", ctypes.c_uint64), ("n", ctypes.c_uint64)]
 
@@ -67,6 +75,19 @@ class _TotalsReply(ctypes.Structure):
 class _RecordReply(ctypes.Structure):
     _fields_ = [("refusal", ctypes.c_uint64), ("place", ctypes.c_uint64),
                 ("start", ctypes.c_uint64), ("length", ctypes.c_uint64)]
+
+
+_YEARS, _PRODUCT_GROUPS = 3, 5
+_ROWS = ctypes.c_uint64 * (_YEARS * _PRODUCT_GROUPS)
+
+
+class _Accounts(ctypes.Structure):
+    _fields_ = [("expenses", ctypes.c_uint64 * _YEARS), ("stock", _ROWS), ("claims", _ROWS), ("premium", _ROWS)]
+
+
+class _CostRates(ctypes.Structure):
+    _fields_ = [("refusal", ctypes.c_uint64), ("place", ctypes.c_uint64),
+                ("rates", ctypes.c_uint64 * _PRODUCT_GROUPS)]
 
 
 _BOOK = [ctypes.c_char_p, ctypes.c_size_t]
@@ -88,6 +109,8 @@ _GROUP = _declared("xaropinto_group", _GroupReply, ctypes.c_size_t, ctypes.c_siz
                    ctypes.POINTER(ctypes.c_uint64), ctypes.c_size_t)
 _TOTALS = _declared("xaropinto_totals", _TotalsReply)
 _RECORD = _declared("xaropinto_record", _RecordReply, ctypes.c_size_t)
+_COST_RATES = _LIBRARY.xaropinto_cost_rates
+_COST_RATES.restype, _COST_RATES.argtypes = _CostRates, [_Accounts]
 
 
 def check(book):
@@ -118,6 +141,32 @@ def record(book, number):
     """Where the record of this number, counted from 1, stands in the book."""
     reply = _RECORD(*_lent_book(book), _word(number))
     return RecordReply(reply.refusal, reply.place, reply.start, reply.length)
+
+
+def cost_rates(expenses, stock, claims, premium):
+    """The cost rates of the five product groups out of three years of accounts.
+
+    Expenses are three numbers; stock, claims and premium are three rows of five, a row for each year. Stock is in
+    contracts, all else in whole francs.
+    """
+    reply = _COST_RATES(_Accounts(_numbers(expenses, _YEARS), _rows(stock), _rows(claims), _rows(premium)))
+    return CostRates(reply.refusal, reply.place, tuple(reply.rates))
+
+
+def _numbers(row, count):
+    """So many numbers of 64 bits."""
+    row = tuple(row)
+    if len(row) != count:
+        raise ValueError(f"{len(row)} numbers where {count} are due")
+    return tuple(_word(number) for number in row)
+
+
+def _rows(rows):
+    """Three rows of five numbers, end to end."""
+    rows = tuple(rows)
+    if len(rows) != _YEARS:
+        raise ValueError(f"{len(rows)} rows where {_YEARS} are due")
+    return sum((_numbers(row, _PRODUCT_GROUPS) for row in rows), ())
 
 
 def _lent_book(book):

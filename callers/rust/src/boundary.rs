@@ -32,6 +32,25 @@ pub struct RecordReply {
     pub length: u64,
 }
 
+/// Three years of accounts, by year and then by product group, PG1 first.
+///
+/// Stock is in contracts, all else in whole francs; the expenses are adjusted, but not yet lowered by 5 percent.
+#[repr(C)]
+#[derive(Clone, Copy, Debug, PartialEq, Eq)]
+pub struct Accounts {
+    pub expenses: [u64; 3],
+    pub stock: [[u64; 5]; 3],
+    pub claims: [[u64; 5]; 3],
+    pub premium: [[u64; 5]; 3],
+}
+
+#[repr(C)]
+pub struct CostRatesReply {
+    pub refusal: u64,
+    pub place: u64,
+    pub rates: [u64; 5],
+}
+
 extern "C" {
     pub fn xaropinto_check(book: *const u8, length: usize) -> Verdict;
 
@@ -47,4 +66,6 @@ extern "C" {
     pub fn xaropinto_totals(book: *const u8, length: usize) -> TotalsReply;
 
     pub fn xaropinto_record(book: *const u8, length: usize, number: usize) -> RecordReply;
+
+    pub fn xaropinto_cost_rates(accounts: Accounts) -> CostRatesReply;
 }

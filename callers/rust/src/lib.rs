@@ -1,4 +1,4 @@
-//! Safe calls of the proved check and reckoning of a parameter book.
+//! Safe calls of the proved check and reckoning of a parameter book, and of its cost rates out of accounts.
 //!
 //! `include/xaropinto.h` says what each call answers and which refusals it gives. Nothing checks the
 //! declarations in `boundary` against the archive but the tests.
@@ -8,7 +8,11 @@ mod boundary;
 use std::error::Error;
 use std::fmt;
 
-use boundary::{xaropinto_check, xaropinto_group, xaropinto_record, xaropinto_totals};
+pub use boundary::Accounts;
+
+use boundary::{
+    xaropinto_check, xaropinto_cost_rates, xaropinto_group, xaropinto_record, xaropinto_totals,
+};
 
 /// The first rule that is broken, and the byte of the book where; 0 where none is named.
 #[derive(Clone, Copy, Debug, PartialEq, Eq)]
@@ -107,6 +111,14 @@ pub fn record(book: &[u8], number: usize) -> Result<&[u8], Refusal> {
     unless_refused(reply.refusal, reply.place)?;
     let start = reply.start as usize;
     Ok(&book[start..start + reply.length as usize])
+}
+
+/// The cost rates of PG1 to PG5 in millionths of premium, each at most 1,000,000.
+pub fn cost_rates(accounts: &Accounts) -> Result<[u64; 5], Refusal> {
+    // SAFETY: the accounts go by value, and every number in them is allowed.
+    let reply = unsafe { xaropinto_cost_rates(*accounts) };
+    unless_refused(reply.refusal, reply.place)?;
+    Ok(reply.rates)
 }
 
 fn unless_refused(number: u64, place: u64) -> Result<(), Refusal> {

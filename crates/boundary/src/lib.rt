@@ -1,10 +1,13 @@
-// The C boundary: the four calls under their plain names, for C, Rust and Python; include/xaropinto.h declares them.
+// The C boundary: the calls under their plain names, for C, Rust and Python; include/xaropinto.h declares them.
 // A slice is a pointer and a length there. No call leans on an earlier one, and a refusal changes nothing that is lent.
 ghost use mathlib.Core.Path.{_≡_};
 ghost use Rattle.book.specs.Check.{checkBook};
 ghost use Rattle.look.specs.Looker.{locatedIn};
 ghost use Rattle.reckoning.specs.Totals.{TotalsPromised};
+ghost use Rattle.accounts.specs.Replies.{RatesPromised};
 ghost use Rattle.boundary.specs.Boundary.{verdictFields, GroupHanded};
+use accounts::Accounts;
+use accounts::CostRates;
 use field::Verdict;
 use look::Located;
 use reckoning::GroupReply;
@@ -84,4 +87,11 @@ pub extern "C" fn xaropinto_record(book: &[u8], number: usize) -> Located
     ensures { λ r. ⌜ r ≡ locatedIn (now (book .entry)) number ⌝ }
 {
     look::locate(book, number)
+}
+
+#[no_mangle]
+pub extern "C" fn xaropinto_cost_rates(accounts: Accounts) -> CostRates
+    ensures { λ r. ⌜ RatesPromised accounts r ⌝ }
+{
+    accounts::cost_rates(accounts)
 }

@@ -1,5 +1,6 @@
 //! The archive's replies, held against the paper's figures and against the second check and reckoning.
 
+mod accounts;
 mod differential;
 mod replies;
 mod threads;

@@ -1,0 +1,4 @@
+pub mod Rates
+pub mod Refusals
+pub mod Replies
+pub mod Usable
