@@ -4,24 +4,25 @@
  * docs/BOOK.md has the book's format, docs/RECKONING.md the reckoning. Amounts of a book are centimes, those of
  * accounts whole francs.
  *
- * Buffers. The caller owns the book and the table. A call only reads the book. Group alone writes, and only to
- * numbers 0 to 199 of the table. Accounts are handed over by value: no call sees the caller's own. No call keeps a
- * pointer after it returns, and none allocates.
+ * Buffers. The caller owns the book, the table and the report's buffer. A call only reads the book. Group writes to
+ * numbers 0 to 199 of the table and Report to the first bytes of its buffer; no other call writes. Accounts are handed
+ * over by value: no call sees the caller's own. No call keeps a pointer after it returns, and none allocates.
  *
  * Pointers. Each must be valid for its length and must not be null, also where the length is 0. The table must be
- * aligned for uint64_t, and must overlap neither the book nor anything else that is lent at the time.
+ * aligned for uint64_t, and must overlap neither the book nor anything else that is lent at the time; nor must the
+ * report's buffer, which may start anywhere.
  *
  * Threads. Calls may run at the same time in several threads. While a call runs, no other thread may write to its
- * book or to its table. Calls may share a book; each Group call needs a table of its own.
+ * book, its table or its buffer. Calls may share a book; each call that writes needs a table or buffer of its own.
  *
  * Stack. A call takes what it needs from the caller's stack, and no proof says how much. A process that runs out of
- * stack stops. Beside what its own functions need, give a thread 32 KiB for Totals, 16 KiB for Group and for the cost
- * rates, 8 KiB for the others. Measured, in a first call that is bound as it is called: 19,191 bytes, 6,071 and 5,735,
- * and 3,319.
+ * stack stops. Beside what its own functions need, give a thread 40 KiB for Report, 32 KiB for Totals, 16 KiB for
+ * Group and for the cost rates, 8 KiB for the others. Measured, in a first call that is bound as it is called: 21,303
+ * bytes, 19,191, 6,071 and 5,735, and 3,319.
  *
  * Replies. A refusal of 0 means accepted. Otherwise `refusal` says which rule is broken and `place` where; every
- * other field of the reply is 0, and the table is as it was. No earlier call is trusted: each checks the whole book,
- * or all accounts.
+ * other field of the reply is 0, and what was lent is as it was. No earlier call is trusted: each checks the whole
+ * book, or all accounts.
  *
  *   refusal  broken rule                                 place                       who mends it
  *    1       the book has at least 1,220 bytes           its length                  desk that writes the file
@@ -45,11 +46,12 @@
  *   18       no year's stock or claims add up to 0; a    0                           insurer's cost sheet
  *            group has premium in all years, or nothing
  *   19       no cost rate is above 1,000,000 millionths  0                           insurer's cost sheet
+ *   20       the buffer is as long as Report room tells  0                           caller
  *
  * Where several rules are broken, the reply names one. 14 to 16 are tested first, in this order; then 1 to 8, also in
  * order, and where a number has several places it is given with the lowest. 9 to 13 come last, chain by chain and
- * record by record: docs/BOOK.md has their order. 17 to 19 are those of accounts, and are tested in this order: 17 on
- * all figures before 18 on any.
+ * record by record: docs/BOOK.md has their order. 20 is tested after all of them. 17 to 19 are those of accounts, and
+ * are tested in this order: 17 on all figures before 18 on any.
  */
 #ifndef XAROPINTO_H
 #define XAROPINTO_H
@@ -88,6 +90,8 @@
 
 /* The numbers that Group writes: four for each of fifty years. */
 #define XAROPINTO_TABLE_NUMBERS 200
+/* No report wants a longer buffer. */
+#define XAROPINTO_MOST_REPORT_BYTES 9525
 
 /* The years of accounts. */
 #define XAROPINTO_ACCOUNT_YEARS 3
@@ -144,6 +148,13 @@ typedef struct {
     uint64_t rates[XAROPINTO_PRODUCT_GROUPS];
 } xaropinto_cost_rates_reply;
 
+/* length: of the report written, or of the buffer that it wants. */
+typedef struct {
+    uint64_t refusal;
+    uint64_t place;
+    uint64_t length;
+} xaropinto_report_reply;
+
 /* Check: is this a book? Refusals 1 to 13. */
 xaropinto_verdict xaropinto_check(const uint8_t *book, size_t length);
 
@@ -163,6 +174,17 @@ xaropinto_record_reply xaropinto_record(const uint8_t *book, size_t length, size
 
 /* Cost rates: those of the five product groups, out of three years of accounts. Refusals 17, 18, 19, with place 0. */
 xaropinto_cost_rates_reply xaropinto_cost_rates(xaropinto_accounts accounts);
+
+/* Report: the fifty years of all product groups in one setting, as text. Refusals 14, then 1 to 13, then 20.
+ *
+ * `bytes` is how many bytes `out` has. Where accepted, they begin with the line "group,year,premium,outgo" and 250
+ * lines of these four numbers, commas between: groups 1 to 5, in each the years 0 to 49, the premium after the cap.
+ * Byte 10 ends every line. The reply's length is that of the text; bytes after it are as they were. */
+xaropinto_report_reply xaropinto_report(const uint8_t *book, size_t length, size_t setting, uint8_t *out, size_t bytes);
+
+/* Report room: how many bytes Report wants of its buffer, for this book and setting: at least the report's length, and
+ * at most 9,525. Nothing is written. Refusals 14, then 1 to 13. */
+xaropinto_report_reply xaropinto_report_room(const uint8_t *book, size_t length, size_t setting);
 
 #ifdef __cplusplus
 }

@@ -251,7 +251,9 @@ def decisions():
 def shown():
     """What README shows of the samples is what is printed of them."""
     refusal = verdict_line(check((ROOT / "samples" / "lapse_too_large.book").read_bytes()))
+    report = (ROOT / "samples" / "small_insurer.report").read_text(encoding="ascii").splitlines()
     for what, printed in (("the paper's listing", PAPER_LISTING.decode("ascii").splitlines()),
+                          ("the first lines of a report", report[:4]),
                           ("the refused sample in words", [refusal, plain_words(refusal)])):
         block = "".join(f"    {line}\n" for line in printed)
         yield "README.md", block in text_of(README), f"does not show {what}"

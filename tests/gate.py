@@ -29,7 +29,7 @@ def script(name, module, least, *words):
     return Part(name, [sys.executable, "-m", module, *words], least)
 
 
-PROOFS = Part("proofs, must-fail edits and programs", ["rt", "ci"], 95)
+PROOFS = Part("proofs, must-fail edits and programs", ["rt", "ci"], 119)
 # What runs after the proofs, in this order.
 OUTSIDE = [
     script("must-fail edits fit the proof files", "tests.must_fail_reasons", 2),
@@ -41,12 +41,14 @@ OUTSIDE = [
     script("stream of Group, against the fractions", "tests.streams.group", 29, "test"),
     script("stream of listings, against the fractions", "tests.streams.listing", 35, "test"),
     script("listing program, by the paper's figures", "tests.listing_program", 9),
-    script("sample books", "tools.sample_books", 19, "test"),
+    script("report program", "tests.report_program", 9),
+    script("sample books", "tools.sample_books", 27, "test"),
     script("random books against the second check", "tests.random_books.check", 16),
     script("random listings against the second reckoning and the fractions", "tests.random_books.listing", 21),
-    script("callers in C and Rust", "tests.callers", 101),
+    script("callers in C and Rust", "tests.callers", 112),
     script("calls from Python, on random books", "tests.calls.base", 22),
     script("cost rates from Python, on random accounts", "tests.calls.accounts", 38),
+    script("calls of the report", "tests.calls.report", 22),
 ]
 PARTS = [PROOFS, *OUTSIDE]
 

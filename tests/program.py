@@ -20,10 +20,10 @@ def program_path(name):
     return path
 
 
-def run_program(name, sent):
-    """The bytes that a program writes for those on its input, and its exit code."""
+def run_program(name, sent, *words):
+    """The bytes that a program, started with these words, writes for those on its input; and its exit code."""
     try:
-        run = subprocess.run([program_path(name)], input=sent, stdout=subprocess.PIPE,
+        run = subprocess.run([program_path(name), *words], input=sent, stdout=subprocess.PIPE,
                              timeout=MOST_SECONDS, check=False)
     except (OSError, subprocess.TimeoutExpired) as trouble:
         raise ProgramFailed(f"{name} could not be run to its end: {trouble}") from trouble

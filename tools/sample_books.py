@@ -1,4 +1,4 @@
-"""The sample books and their listings: written, or tested to be as built and to have the verdict told."""
+"""The sample books with their listings and reports: written, or tested to be as built and to have the verdict told."""
 
 import argparse
 import sys
@@ -6,12 +6,15 @@ import sys
 from second.book import PG2_MEN, Cell, Portfolio, make_book, one_record_book
 from second.layout import changed, record
 from second.reckoning import listing
+from second.report import report_page
 from tests import ROOT
 from tests.books.insurers import MANY_PRODUCTS, dense_full_book, flat_values, insurer_book
 from tests.program import ProgramFailed, verdict_lines
 from tests.report import Report
 
 FOLDER = ROOT / "samples"
+# The report program is run with a word: claims up, which moves a figure of the first sample.
+REPORTED_SETTING = 7
 
 
 def refused_book():
@@ -41,15 +44,19 @@ SAMPLES = [
 
 
 def files():
-    """Each file of samples/ by its name: the books, and beside each its listing."""
-    books = {f"{name}.book": book for name, book, _ in SAMPLES}
-    return books | {f"{name}.listing": listing(book) for name, book, _ in SAMPLES}
+    """Each file of samples/ by its name: the books, and beside each its listing and its report in the base setting."""
+    held = {}
+    for name, book, _ in SAMPLES:
+        held |= {f"{name}.book": book, f"{name}.listing": listing(book), f"{name}.report": report_page(book, 0)}
+    return held
 
 
 def copies():
-    """What the proof of the listing program runs it on: the first sample, and its listing."""
+    """What the proofs of the programs run them on: the first sample, its listing, and its report in another setting."""
     name, book, _ = SAMPLES[0]
-    return {"crates/listing/stdin": book, "crates/listing/stdout": files()[f"{name}.listing"]}
+    listed = {"crates/listing/stdin": book, "crates/listing/stdout": files()[f"{name}.listing"]}
+    return listed | {"crates/report/stdin": book, "crates/report/args": f"{REPORTED_SETTING}\n".encode("ascii"),
+                     "crates/report/stdout": report_page(book, REPORTED_SETTING)}
 
 
 def all_files():

@@ -168,6 +168,38 @@ static int marks_stand(const uint64_t *table, size_t from, size_t to)
     return 1;
 }
 
+/* ---- reports ---- */
+
+/* Longer than any report's buffer, so that a byte written past what was lent shows. */
+enum { YEARS = 50, MEMORY_SIZE = XAROPINTO_MOST_REPORT_BYTES + 100 };
+
+/* The report of a book with contracts of PG2 alone: its figures in the first years, and nothing later. */
+static size_t pg2_report(char *text, const char *const *lines, size_t years)
+{
+    size_t length = (size_t)sprintf(text, "group,year,premium,outgo\n");
+    for (size_t group = 1; group <= PRODUCT_GROUPS; group++)
+        for (size_t k = 0; k < YEARS; k++)
+            length += (size_t)sprintf(text + length, "%zu,%zu,%s\n", group, k,
+                                      group == PG2 && k < years ? lines[k] : "0,0");
+    return length;
+}
+
+static uint8_t *marked_memory(void)
+{
+    uint8_t *memory = exact_memory(MEMORY_SIZE);
+    for (size_t i = 0; i < MEMORY_SIZE; i++)
+        memory[i] = (uint8_t)(0xA5 ^ i);
+    return memory;
+}
+
+static int bytes_stand(const uint8_t *memory, size_t from)
+{
+    for (size_t i = from; i < MEMORY_SIZE; i++)
+        if (memory[i] != (uint8_t)(0xA5 ^ i))
+            return 0;
+    return 1;
+}
+
 /* ---- replies as they should be ---- */
 
 static int verdict_is(parameter_book book, uint64_t refusal, uint64_t place, uint64_t n)
@@ -230,13 +262,47 @@ static uint64_t table_number(parameter_book book, size_t setting, size_t k, size
     return number;
 }
 
+static int room_is_refused(parameter_book book, size_t setting, uint64_t refusal, uint64_t place)
+{
+    xaropinto_report_reply reply = xaropinto_report_room(book.bytes, book.length, setting);
+    return reply.refusal == refusal && reply.place == place && reply.length == 0;
+}
+
+/* The refusal is given, and every byte is as it was, also those that are not lent. */
+static int report_refused(parameter_book book, size_t setting, size_t bytes, uint64_t refusal, uint64_t place)
+{
+    uint8_t *memory = marked_memory();
+    xaropinto_report_reply reply = xaropinto_report(book.bytes, book.length, setting, memory, bytes);
+    int holds = reply.refusal == refusal && reply.place == place && reply.length == 0 && bytes_stand(memory, 0);
+    free(memory);
+    return holds;
+}
+
+/* The buffer told is in its range and takes the report of PG2's lines; one of a byte less is refused. */
+static int report_is(parameter_book book, size_t setting, const char *const *lines, size_t years)
+{
+    char *text = exact_memory(MEMORY_SIZE);
+    uint8_t *memory = marked_memory();
+    size_t length = pg2_report(text, lines, years);
+    xaropinto_report_reply room = xaropinto_report_room(book.bytes, book.length, setting);
+    int holds = room.refusal == 0 && room.place == 0 && length <= room.length &&
+                room.length <= XAROPINTO_MOST_REPORT_BYTES &&
+                report_refused(book, setting, room.length - 1, 20, 0);
+    xaropinto_report_reply reply = xaropinto_report(book.bytes, book.length, setting, memory, room.length);
+    holds &= reply.refusal == 0 && reply.place == 0 && reply.length == length && memcmp(memory, text, length) == 0 &&
+             bytes_stand(memory, length);
+    free(memory);
+    free(text);
+    return holds;
+}
+
 /* ---- tests ---- */
 
 static void test_sizes(void)
 {
     test("replies_have_no_gaps", sizeof(xaropinto_verdict) == 24 && sizeof(xaropinto_group_reply) == 32 &&
                                      sizeof(xaropinto_totals_reply) == 120 && sizeof(xaropinto_record_reply) == 32 &&
-                                     sizeof(xaropinto_cost_rates_reply) == 56);
+                                     sizeof(xaropinto_cost_rates_reply) == 56 && sizeof(xaropinto_report_reply) == 24);
     test("accounts_have_no_gaps", sizeof(xaropinto_accounts) == 48 * sizeof(uint64_t));
 }
 
@@ -300,7 +366,8 @@ static int all_calls_refuse(parameter_book book, uint64_t refusal, uint64_t plac
 {
     xaropinto_record_reply due = {refusal, place, 0, 0};
     return verdict_is(book, refusal, place, 0) && totals_refused(book, refusal, place) && record_is(book, 1, due) &&
-           group_refused(book, 0, PG2, TABLE_SIZE, refusal, place);
+           group_refused(book, 0, PG2, TABLE_SIZE, refusal, place) && room_is_refused(book, 0, refusal, place) &&
+           report_refused(book, 0, MEMORY_SIZE, refusal, place) && report_refused(book, 0, 0, refusal, place);
 }
 
 /* A book of this length whose header asks for so many records. */
@@ -534,6 +601,42 @@ static void test_cost_rate_refusals(void)
     test("a_rate_above_1000000_is_refused", accounts_refused(even_accounts(1000, 189), 19));
 }
 
+/* Ten premiums of 100,000; claims of 800,000, in setting 7 a twentieth more; costs of a tenth of the premiums, in
+ * setting 5 a fifth more. Then trial figures T3 and T4, in six years. */
+static void test_report(void)
+{
+    static const char *const base[] = {"1000000,900000"}, *const costs_up[] = {"1000000,920000"},
+                      *const claims_up[] = {"1000000,940000"};
+    static const char *const capped[] = {"1001,900", "1001,900", "1001,900", "1001,900", "1001,900", "1000,900"};
+    contracts rich = {0, 0, 1001, 900};
+    parameter_book none = unlinked_book(0);
+    parameter_book book = one_record_book();
+    parameter_book six_years = one_man_book(6, rich);
+    test("a_report_without_records_is_all_zeros", report_is(none, 0, NULL, 0));
+    test("a_report_has_premium_and_outgo_of_pg2", report_is(book, 0, base, 1));
+    test("a_report_goes_by_its_setting", report_is(book, 5, costs_up, 1) && report_is(book, 7, claims_up, 1));
+    test("a_report_has_the_premium_after_the_cap", report_is(six_years, 0, capped, 6));
+    free(six_years.bytes);
+    free(book.bytes);
+    free(none.bytes);
+}
+
+static void test_report_refusals(void)
+{
+    parameter_book book = one_record_book();
+    parameter_book refused = one_record_book();
+    put(refused, record_start(1) + LAPSE, 4, 1000001);
+    test("report_in_setting_8_is_refused",
+         report_refused(book, 8, MEMORY_SIZE, 14, 0) && room_is_refused(book, 8, 14, 0));
+    test("report_in_a_setting_above_32_bits_is_refused",
+         report_refused(book, HIGH_BIT, MEMORY_SIZE, 14, 0) && room_is_refused(book, HIGH_BIT, 14, 0));
+    test("report_into_no_bytes_is_refused", report_refused(book, 0, 0, 20, 0));
+    test("setting_comes_before_book_and_buffer", report_refused(refused, 8, 0, 14, 0));
+    test("book_comes_before_buffer", report_refused(refused, 7, 0, 12, 1232));
+    free(refused.bytes);
+    free(book.bytes);
+}
+
 int main(void)
 {
     test_sizes();
@@ -550,6 +653,8 @@ int main(void)
     test_in_force();
     test_cost_rates();
     test_cost_rate_refusals();
+    test_report();
+    test_report_refusals();
     printf("%d passed, %d failed\n", passed, failed);
     return failed != 0;
 }

@@ -2,8 +2,8 @@
 
 `make lib` links the shared library. `include/xaropinto.h` says what each call answers and which refusals it
 gives. A book is `bytes`, which nothing can change and which is lent as it is, or anything else with bytes, such
-as a `bytearray`, which is copied first: other threads run during a call and may write to it. A table is lent as
-it is.
+as a `bytearray`, which is copied first: other threads run during a call and may write to it. A table and a
+buffer for a report are lent as they are.
 """
 
 import ctypes
@@ -58,6 +58,14 @@ class CostRates(NamedTuple):
     rates: tuple
 
 
+class ReportReply(NamedTuple):
+    """The length of the report written, or of the buffer that it wants."""
+
+    refusal: int
+    place: int
+    length: int
+
+
 class _Verdict(ctypes.Structure):
     _fields_ = [("refusal", ctypes.c_uint64), ("place", ctypes.c_uint64), ("n", ctypes.c_uint64)]
 
@@ -90,6 +98,10 @@ class _CostRates(ctypes.Structure):
                 ("rates", ctypes.c_uint64 * _PRODUCT_GROUPS)]
 
 
+class _ReportReply(ctypes.Structure):
+    _fields_ = [("refusal", ctypes.c_uint64), ("place", ctypes.c_uint64), ("length", ctypes.c_uint64)]
+
+
 _BOOK = [ctypes.c_char_p, ctypes.c_size_t]
 # How a buffer names numbers that may be unsigned and of 64 bits; its item size tells.
 _UNSIGNED = {order + letter for order in ("", "@", "=", "<") for letter in "QL"}
@@ -111,6 +123,9 @@ _TOTALS = _declared("xaropinto_totals", _TotalsReply)
 _RECORD = _declared("xaropinto_record", _RecordReply, ctypes.c_size_t)
 _COST_RATES = _LIBRARY.xaropinto_cost_rates
 _COST_RATES.restype, _COST_RATES.argtypes = _CostRates, [_Accounts]
+_REPORT = _declared("xaropinto_report", _ReportReply, ctypes.c_size_t,
+                    ctypes.POINTER(ctypes.c_uint8), ctypes.c_size_t)
+_REPORT_ROOM = _declared("xaropinto_report_room", _ReportReply, ctypes.c_size_t)
 
 
 def check(book):
@@ -169,6 +184,23 @@ def _rows(rows):
     return sum((_numbers(row, _PRODUCT_GROUPS) for row in rows), ())
 
 
+def report(book, setting, out):
+    """Write the year report of a setting to the start of a lent buffer.
+
+    The buffer is one row of bytes that can be written, such as a `bytearray`, as long as `report_room` tells.
+    Where refused, and past the report, it stays as it was.
+    """
+    buffer = _lent_buffer(out)
+    reply = _REPORT(*_lent_book(book), _word(setting), buffer, len(buffer))
+    return ReportReply(reply.refusal, reply.place, reply.length)
+
+
+def report_room(book, setting):
+    """How long a buffer `report` wants for this book and setting."""
+    reply = _REPORT_ROOM(*_lent_book(book), _word(setting))
+    return ReportReply(reply.refusal, reply.place, reply.length)
+
+
 def _lent_book(book):
     """Bytes that stay as they are during a call, and how many they are."""
     if not isinstance(book, bytes):
@@ -188,6 +220,17 @@ def _lent_table(table):
     if ctypes.addressof(numbers) % 8 != 0:
         raise ValueError("the table must start at a multiple of 8 bytes")
     return numbers
+
+
+def _lent_buffer(out):
+    """The buffer's own bytes."""
+    view = memoryview(out)
+    if view.ndim != 1 or view.format != "B":
+        raise TypeError("the buffer must be one row of bytes")
+    if len(view) == 0:
+        # An empty buffer may stand anywhere.
+        return (ctypes.c_uint8 * 0)()
+    return (ctypes.c_uint8 * len(view)).from_buffer(view)
 
 
 def _word(number):

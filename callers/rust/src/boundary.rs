@@ -51,6 +51,13 @@ pub struct CostRatesReply {
     pub rates: [u64; 5],
 }
 
+#[repr(C)]
+pub struct ReportReply {
+    pub refusal: u64,
+    pub place: u64,
+    pub length: u64,
+}
+
 extern "C" {
     pub fn xaropinto_check(book: *const u8, length: usize) -> Verdict;
 
@@ -68,4 +75,14 @@ extern "C" {
     pub fn xaropinto_record(book: *const u8, length: usize, number: usize) -> RecordReply;
 
     pub fn xaropinto_cost_rates(accounts: Accounts) -> CostRatesReply;
+
+    pub fn xaropinto_report(
+        book: *const u8,
+        length: usize,
+        setting: usize,
+        out: *mut u8,
+        bytes: usize,
+    ) -> ReportReply;
+
+    pub fn xaropinto_report_room(book: *const u8, length: usize, setting: usize) -> ReportReply;
 }

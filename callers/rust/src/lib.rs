@@ -13,6 +13,7 @@ pub use boundary::Accounts;
 use boundary::{
     xaropinto_check, xaropinto_cost_rates, xaropinto_group, xaropinto_record, xaropinto_totals,
 };
+use boundary::{xaropinto_report, xaropinto_report_room};
 
 /// The first rule that is broken, and the byte of the book where; 0 where none is named.
 #[derive(Clone, Copy, Debug, PartialEq, Eq)]
@@ -119,6 +120,31 @@ pub fn cost_rates(accounts: &Accounts) -> Result<[u64; 5], Refusal> {
     let reply = unsafe { xaropinto_cost_rates(*accounts) };
     unless_refused(reply.refusal, reply.place)?;
     Ok(reply.rates)
+}
+
+/// Writes the year report of a setting to the start of the lent buffer, which must be as long as
+/// `report_room` tells; how many bytes it has. Where refused, and past the report, the buffer stays as it was.
+pub fn report(book: &[u8], setting: usize, out: &mut [u8]) -> Result<usize, Refusal> {
+    // SAFETY: as in `group`.
+    let reply = unsafe {
+        xaropinto_report(
+            book.as_ptr(),
+            book.len(),
+            setting,
+            out.as_mut_ptr(),
+            out.len(),
+        )
+    };
+    unless_refused(reply.refusal, reply.place)?;
+    Ok(reply.length as usize)
+}
+
+/// How long a buffer `report` wants for this book and setting.
+pub fn report_room(book: &[u8], setting: usize) -> Result<usize, Refusal> {
+    // SAFETY: as in `check`.
+    let reply = unsafe { xaropinto_report_room(book.as_ptr(), book.len(), setting) };
+    unless_refused(reply.refusal, reply.place)?;
+    Ok(reply.length as usize)
 }
 
 fn unless_refused(number: u64, place: u64) -> Result<(), Refusal> {

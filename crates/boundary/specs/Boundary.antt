@@ -7,8 +7,12 @@ use Rattle.field.specs.Verdicts.{refusalOf, placeOf, countOf}
 use Rattle.field.specs.declared.Verdict.{Verdict}
 use Rattle.reckoning.specs.Replies.{refusalIn, placeIn, liabilityIn, countIn, groupReply, GroupPromised}
 use Rattle.reckoning.specs.declared.GroupReply.{GroupReply}
+use Rattle.year_report.specs.Report.{reportRefusal, reportPlace, reportLength, writeReply, roomReply}
+use Rattle.year_report.specs.Report.{ReportPromised, RoomPromised}
+use Rattle.year_report.specs.declared.ReportReply.{ReportReply}
 use Rattle.boundary.specs.declared.VerdictFields.{VerdictFields}
 use Rattle.boundary.specs.declared.GroupFields.{GroupFields}
+use Rattle.boundary.specs.declared.ReportFields.{ReportFields}
 
 -- a verdict: the paper's number and place of a refusal, and n
 abbrev pub verdictFields : Verdict → VerdictFields
@@ -22,3 +26,16 @@ groupFields r = record { refusal = refusalIn r; place = placeIn r; liability = l
 pub record GroupHanded (b : List ℕ) (setting g : ℕ) (before after : List ℕ) (r : GroupFields) : Type 0 where
   pub fields-are : r ≡ groupFields (groupReply b setting g (length before))
   pub promised : GroupPromised b setting g before after (groupReply b setting g (length before))
+
+-- the reply of the report's two calls
+abbrev pub reportFields : ReportReply → ReportFields
+reportFields r = record { refusal = reportRefusal r; place = reportPlace r; length = reportLength r }
+
+-- both across the boundary: the fields are those of the reply as defined, and of that reply all holds that is promised
+pub record ReportHanded (b : List ℕ) (setting : ℕ) (before after : List ℕ) (r : ReportFields) : Type 0 where
+  pub fields-are : r ≡ reportFields (writeReply b setting (length before))
+  pub promised : ReportPromised b setting before after (writeReply b setting (length before))
+
+pub record RoomHanded (b : List ℕ) (setting : ℕ) (r : ReportFields) : Type 0 where
+  pub fields-are : r ≡ reportFields (roomReply b setting)
+  pub promised : RoomPromised b setting (roomReply b setting)

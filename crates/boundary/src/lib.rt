@@ -6,12 +6,14 @@ ghost use Rattle.look.specs.Looker.{locatedIn};
 ghost use Rattle.reckoning.specs.Totals.{TotalsPromised};
 ghost use Rattle.accounts.specs.Replies.{RatesPromised};
 ghost use Rattle.boundary.specs.Boundary.{verdictFields, GroupHanded};
+ghost use Rattle.boundary.specs.Boundary.{reportFields, ReportHanded, RoomHanded};
 use accounts::Accounts;
 use accounts::CostRates;
 use field::Verdict;
 use look::Located;
 use reckoning::GroupReply;
 use reckoning::TotalsReply;
+use year_report::ReportReply;
 
 // A verdict in fields: refusal and place are 0 where accepted, n is 0 where refused.
 #[repr(C)]
@@ -94,4 +96,43 @@ pub extern "C" fn xaropinto_cost_rates(accounts: Accounts) -> CostRates
     ensures { λ r. ⌜ RatesPromised accounts r ⌝ }
 {
     accounts::cost_rates(accounts)
+}
+
+// The reply of the report's two calls in fields: refusal and place are 0 where accepted, the length is 0 where refused.
+#[repr(C)]
+pub struct ReportFields {
+    pub refusal: u64,
+    pub place: usize,
+    pub length: usize,
+}
+
+fn report_fields(reply: ReportReply) -> ReportFields
+    ensures { λ r. ⌜ r ≡ reportFields reply ⌝ }
+{
+    match reply {
+        ReportReply::Bytes(length) => ReportFields {
+            refusal: 0,
+            place: 0,
+            length,
+        },
+        ReportReply::Refused(refusal, place) => ReportFields {
+            refusal,
+            place,
+            length: 0,
+        },
+    }
+}
+
+#[no_mangle]
+pub extern "C" fn xaropinto_report(book: &[u8], setting: usize, out: &mut [u8]) -> ReportFields
+    ensures { λ r. ⌜ ReportHanded (now (book .entry)) setting (now (out .entry)) (now (out .exit)) r ⌝ }
+{
+    report_fields(year_report::write_report(book, setting, out))
+}
+
+#[no_mangle]
+pub extern "C" fn xaropinto_report_room(book: &[u8], setting: usize) -> ReportFields
+    ensures { λ r. ⌜ RoomHanded (now (book .entry)) setting r ⌝ }
+{
+    report_fields(year_report::report_room(book, setting))
 }

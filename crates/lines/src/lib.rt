@@ -27,7 +27,8 @@ fn put_listing(out: &mut [u8], totals: [i64; 8], n: u64) -> usize
     at
 }
 
-fn put_refusal(out: &mut [u8], number: u64, place: u64) -> usize
+// The line of a refusal, for the programs.
+pub fn put_refusal(out: &mut [u8], number: u64, place: u64) -> usize
     ensures { λ r. ⌜ Wrote (now (out .entry)) 0 (refusalText number place) (now (out .exit)) r × (r ≤ 512) ⌝ }
 {
     let number_at = put_bytes(out, 0, b"refused ");

@@ -65,15 +65,15 @@ module _ (t : Terms) (cs : List Cell) where
   outgo-at j k rest year = year-at j k 1 rest year (omega arith)
 
 -- refusal 0 is acceptance, of Group too
-Told : Verdict → Type 0
+unfoldable pub Told : Verdict → Type 0
 Told v = refusalOf v ≡ 0 → v ≡ Accepted (countOf v)
 
-told-need : (ok : Bool) (q p : ℕ) → Told (need ok (suc q) p)
+pub told-need : (ok : Bool) (q p : ℕ) → Told (need ok (suc q) p)
 unfolding Told need
 told-need true q p e = refl
 told-need false q p e = absurd (omega arith)
 
-told-then : (v w : Verdict) → Told v → Told w → Told (v andThen w)
+pub told-then : (v w : Verdict) → Told v → Told w → Told (v andThen w)
 unfolding Told _andThen_
 told-then (Accepted n) w hv hw = hw
 told-then (Refused q p) w hv hw = hv

@@ -5,7 +5,7 @@ use mathlib.Core.List.{List, [], _∷_, _++_, append-assoc}
 use mathlib.Core.Path.{_≡_, refl, sym, ap, subst, _∙_}
 use Prim.Native.Nat.{ℕ, zero, suc, _+_, _-_, _*_, _/_, _%_, _^_, _≤_, _<_}
 use native.Mathlib.Numerals.{add-one}
-use native.Mathlib.Nat.{zero-add, suc-add, not-suc-le-zero, pow-suc}
+use native.Mathlib.Nat.{zero-add, suc-add, not-suc-le-zero, pow-suc, mul-suc}
 use native.Mathlib.Omega.{arith}
 use borrow.Author.Tests.{lt-ltb, le-ltb, le-leb, lt-leb}
 use lib.Dec.{ltb}
@@ -182,3 +182,17 @@ pub joined-more : {e x y : List ℕ} {at r q : ℕ} (f : ℕ → List ℕ) (n : 
     → Wrote e at (t ++ joined f (n + 1)) y q
 unfolding joined
 joined-more f n t v w = rw (add-one n, ← append-assoc) (v then w)
+
+-- n texts of at most m bytes each
+pub joined-most : (f : ℕ → List ℕ) (m n : ℕ) → ((i : ℕ) → i < n → length (f i) ≤ m) → length (joined f n) ≤ m * n
+unfolding joined
+joined-most f m zero h = omega arith
+joined-most f m (suc n) h =
+    let before = joined-most f m n (λ i p. h i (omega arith)) in
+    omega (arith, length-append (joined f n) (f n), h n (omega arith), before, mul-suc m n)
+
+-- texts that are the same one by one
+pub joined-same : (f g : ℕ → List ℕ) (n : ℕ) → ((i : ℕ) → i < n → f i ≡ g i) → joined f n ≡ joined g n
+unfolding joined
+joined-same f g zero h = refl
+joined-same f g (suc n) h = rw (joined-same f g n (λ i p. h i (omega arith)), h n (omega arith))

@@ -3,6 +3,7 @@
 mod accounts;
 mod differential;
 mod replies;
+mod report;
 mod threads;
 mod trial_figures;
 mod wrapper;

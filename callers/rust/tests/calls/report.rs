@@ -1,0 +1,69 @@
+//! The year report, held against the year tables of the plain reckoning.
+
+use plain::book::{full_book, make_book, random_book, Kind, Values};
+use plain::chooser::Chooser;
+use xaropinto::Refusal;
+
+use crate::replies::plain_group;
+
+const MOST_REPORT_BYTES: usize = 9_525;
+/// What no report has.
+const MARK: u8 = 0xA5;
+
+fn plain_report(book: &[u8], setting: usize) -> String {
+    let mut text = String::from("group,year,premium,outgo\n");
+    for group in 1..=5 {
+        let (reply, table) = plain_group(book, setting, group, 200);
+        assert!(reply.is_ok());
+        for (k, year) in table.chunks(4).enumerate() {
+            text += &format!("{group},{k},{},{}\n", year[0], year[1]);
+        }
+    }
+    text
+}
+
+/// The report and its length, into a buffer that is as long as told and stands in a longer memory.
+fn assert_report(book: &[u8], setting: usize) {
+    let due = plain_report(book, setting);
+    let room = xaropinto::report_room(book, setting).expect("the book is valid");
+    assert!(due.len() <= room && room <= MOST_REPORT_BYTES);
+    let mut memory = vec![MARK; MOST_REPORT_BYTES + 1];
+    let length =
+        xaropinto::report(book, setting, &mut memory[..room]).expect("the buffer is as told");
+    assert_eq!(length, due.len());
+    assert!(memory.starts_with(due.as_bytes()));
+    assert!(memory[length..].iter().all(|byte| *byte == MARK));
+}
+
+fn assert_refused(book: &[u8], setting: usize, bytes: usize, number: u64, place: u64) {
+    let mut memory = vec![MARK; bytes];
+    let refusal = Refusal { number, place };
+    assert_eq!(xaropinto::report(book, setting, &mut memory), Err(refusal));
+    assert!(memory.iter().all(|byte| *byte == MARK));
+}
+
+#[test]
+fn a_report_has_the_years_of_all_groups() {
+    let mut chooser = Chooser::new(202);
+    for setting in 0..8 {
+        assert_report(&random_book(&mut chooser, 30, 14), setting);
+    }
+    assert_report(&full_book(&mut chooser, Kind::Anywhere), 3);
+    assert_report(&full_book(&mut chooser, Kind::AtEnds), 0);
+}
+
+#[test]
+fn a_report_that_is_refused_leaves_the_buffer() {
+    let book = make_book(&Values::default());
+    let room = xaropinto::report_room(&book, 0).expect("an empty book is valid");
+    assert_refused(&book, 0, room - 1, 20, 0);
+    assert_refused(&book, 8, 0, 14, 0);
+    assert_refused(&[0; 1_220], 0, 0, 2, 0);
+    assert_eq!(
+        xaropinto::report_room(&[0; 1_219], 7),
+        Err(Refusal {
+            number: 1,
+            place: 1_219
+        })
+    );
+}

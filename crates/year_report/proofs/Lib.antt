@@ -1,0 +1,6 @@
+pub mod Figures
+pub mod Ranges
+pub mod Lengths
+pub mod Refusals
+pub mod Promised
+pub mod Unlinked

@@ -1,0 +1,49 @@
+-- The year tables of the five product groups, as the code carries them from the reckoning to the text.
+use mathlib.Core.List.{List, [], _++_}
+use mathlib.Core.Path.{_≡_}
+use Prim.Native.Nat.{ℕ, _+_, _*_, _<_, _≤_}
+use lib.ListN.{getD}
+use Rattle.book.specs.Reading.{ValidBook}
+use Rattle.settings.specs.Settings.{Weighed, decrementsOf}
+use Rattle.settings.specs.declared.Decrements.{Decrements}
+use Rattle.reckoning.specs.Arithmetic.{rounded}
+use Rattle.reckoning.specs.Steps.{outgo, countedPremium}
+use Rattle.reckoning.specs.Portfolio.{groupCells, termsOf}
+use Rattle.text.specs.Text.{joined}
+use Rattle.sheet.specs.Sheet.{tableLines}
+use Rattle.year_report.specs.Report.{heading}
+use Rattle.year_report.specs.declared.YearTable.{YearTable}
+
+-- what settling one product group of an accepted book asks: the weights w are the setting's
+pub record Asked (b : List ℕ) (setting : ℕ) (w : Decrements) (g : ℕ) : Type 0 where
+  pub setting-is : setting < 8
+  pub lo : 1 ≤ g
+  pub hi : g ≤ 5
+  pub book : ValidBook 1 b
+  pub weighed : Weighed w
+  pub weights : w ≡ decrementsOf b setting
+
+-- the table has the premium after cap and the outgo of each year of product group g
+pub record Years (b : List ℕ) (setting g : ℕ) (table : List ℕ) : Type 0 where
+  pub premium-is : (k : ℕ) → k < 50
+      → getD table (4 * k) 0 ≡ countedPremium rounded (termsOf b setting g) (groupCells b (decrementsOf b setting) g) k
+  pub outgo-is : (k : ℕ) → k < 50
+      → getD table (4 * k + 1) 0 ≡ outgo rounded (termsOf b setting g) (groupCells b (decrementsOf b setting) g) k
+
+-- for a place past the end
+abbrev pub none : YearTable
+none = record { numbers = [] }
+
+-- that of product group j + 1 stands at place j
+abbrev pub numbersAt : List YearTable → ℕ → List ℕ
+numbersAt tables j = getD tables j none .numbers
+
+abbrev pub AllYears : List ℕ → ℕ → List YearTable → Type 0
+AllYears b setting tables = (j : ℕ) → j < 5 → Years b setting (j + 1) (numbersAt tables j)
+
+-- the lines of product group j + 1, and the report, from the tables
+unfoldable pub linesAt : List YearTable → ℕ → List ℕ
+linesAt tables j = tableLines (j + 1) (numbersAt tables j)
+
+unfoldable pub reportFrom : List YearTable → List ℕ
+reportFrom tables = heading ++ joined (linesAt tables) 5

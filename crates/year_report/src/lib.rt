@@ -1,0 +1,102 @@
+// The year report of a book in a setting, as text in a lent buffer: premium after cap and outgo of each product group
+// and year. And how much buffer it wants.
+ghost use mathlib.Core.Path.{_≡_};
+ghost use Prim.Native.Nat.{_<_};
+ghost use Rattle.book.specs.Reading.{ValidBook};
+ghost use Rattle.text.specs.Text.{Wrote};
+ghost use Rattle.year_report.specs.Report.{reportCheck, ReportPromised, RoomPromised};
+ghost use Rattle.year_report.specs.Tables.{Asked, Years, AllYears, reportFrom};
+use field::Verdict;
+use settings::Decrements;
+
+// What both calls answer: the length written or the buffer wanted, or the refusal and its place.
+pub enum ReportReply {
+    Bytes(usize),
+    Refused(u64, usize),
+}
+
+// The buffer that is told. No report is longer: 25 bytes of heading, and 250 lines of at most 38.
+const ROOM: usize = 9_525;
+
+// The refusals of both calls, in their order.
+fn check_report(book: &[u8], setting: usize) -> Verdict
+    ensures { λ r. ⌜ r ≡ reportCheck (now (book .entry)) setting ⌝ }
+{
+    let asked = field::need(setting < 8, 14, 0);
+    let Verdict::Accepted(_) = asked else {
+        return asked;
+    };
+    acceptance::check(book)
+}
+
+// The four numbers of each of a product group's fifty years.
+struct YearTable {
+    numbers: [u64; 200],
+}
+
+fn year_table(book: &[u8], setting: usize, w: Decrements, group: usize) -> YearTable
+    requires { ⌜ Asked (now book) setting w group ⌝ }
+    ensures { λ r. ⌜ Years (now (book .entry)) setting group (r .numbers) ⌝ }
+{
+    let mut numbers = [0u64; 200];
+    years::settle(
+        book,
+        setting,
+        group,
+        projection::group_sums(book, w, group),
+        &mut numbers,
+    );
+    YearTable { numbers }
+}
+
+fn year_tables(book: &[u8], setting: usize) -> [YearTable; 5]
+    requires { ⌜ (setting < 8) × ValidBook 1 (now book) ⌝ }
+    ensures { λ r. ⌜ AllYears (now (book .entry)) setting r ⌝ }
+{
+    let w = Decrements::new(book, setting);
+    [
+        year_table(book, setting, w, 1),
+        year_table(book, setting, w, 2),
+        year_table(book, setting, w, 3),
+        year_table(book, setting, w, 4),
+        year_table(book, setting, w, 5),
+    ]
+}
+
+fn put_report(tables: [YearTable; 5], out: &mut [u8]) -> usize
+    ensures { λ r. ⌜ Wrote (now (out .entry)) 0 (reportFrom tables) (now (out .exit)) r ⌝ }
+{
+    let mut at = text::put_bytes(out, 0, b"group,year,premium,outgo\n");
+    for j in 0usize..5 {
+        let table = tables[j];
+        let numbers = table.numbers;
+        at = sheet::put_lines(out, at, j as u64 + 1, numbers);
+    }
+    at
+}
+
+// Writes the report where the lent buffer has the room that `report_room` tells; else, and where the book is refused,
+// nothing. The book is checked once.
+pub fn write_report(book: &[u8], setting: usize, out: &mut [u8]) -> ReportReply
+    ensures { λ r. ⌜ ReportPromised (now (book .entry)) setting (now (out .entry)) (now (out .exit)) r ⌝ }
+{
+    let v = check_report(book, setting);
+    if let Verdict::Refused(number, place) = v {
+        return ReportReply::Refused(number, place);
+    }
+    if out.len() < ROOM {
+        return ReportReply::Refused(20, 0);
+    }
+    ReportReply::Bytes(put_report(year_tables(book, setting), out))
+}
+
+// Tells the buffer that `write_report` wants.
+pub fn report_room(book: &[u8], setting: usize) -> ReportReply
+    ensures { λ r. ⌜ RoomPromised (now (book .entry)) setting r ⌝ }
+{
+    let v = check_report(book, setting);
+    match v {
+        Verdict::Accepted(_) => ReportReply::Bytes(ROOM),
+        Verdict::Refused(number, place) => ReportReply::Refused(number, place),
+    }
+}
