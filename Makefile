@@ -35,6 +35,7 @@ streams: ## write the test programs' streams anew
 	@python3 -m tests.streams.look write
 	@python3 -m tests.streams.group write
 	@python3 -m tests.streams.listing write
+	@python3 -m tests.streams.walk write
 
 samples: ## write the sample books, their listings and their reports anew
 	@python3 -m tools.sample_books write

@@ -73,6 +73,14 @@ def in_force_by_year(values, chain, setting):
         in_force = [next_in_force(*each) for each in zip(in_force[:-1], mortality, lapse)]
 
 
+def years_in_force(values, chain, setting):
+    """W-203: the first year in which a chain's first cell has nothing in force, or 50 where there is none."""
+    for k, in_force in enumerate(in_force_by_year(values, chain, setting)):
+        if not in_force or in_force[0] == 0:
+            return k
+    return YEARS
+
+
 def year_sums(values, setting, product_group):
     """Step 2: for each k the premium sum and the claims sum of a product group."""
     premium, claims = [0] * YEARS, [0] * YEARS

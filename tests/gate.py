@@ -29,7 +29,7 @@ def script(name, module, least, *words):
     return Part(name, [sys.executable, "-m", module, *words], least)
 
 
-PROOFS = Part("proofs, must-fail edits and programs", ["rt", "ci"], 119)
+PROOFS = Part("proofs, must-fail edits and programs", ["rt", "ci"], 125)
 # What runs after the proofs, in this order.
 OUTSIDE = [
     script("must-fail edits fit the proof files", "tests.must_fail_reasons", 2),
@@ -40,6 +40,7 @@ OUTSIDE = [
     script("second reckoning, by hand-worked examples", "tests.second_reckoning", 30),
     script("stream of Group, against the fractions", "tests.streams.group", 29, "test"),
     script("stream of listings, against the fractions", "tests.streams.listing", 35, "test"),
+    script("stream of the walk", "tests.streams.walk", 11, "test"),
     script("listing program, by the paper's figures", "tests.listing_program", 9),
     script("report program", "tests.report_program", 9),
     script("sample books", "tools.sample_books", 27, "test"),

@@ -1,2 +1,3 @@
 pub mod Years
+pub mod Ends
 pub mod Adding

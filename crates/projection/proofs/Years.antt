@@ -3,11 +3,11 @@ use mathlib.Core.Path.{_≡_, refl, ap, _∙_}
 use mathlib.Core.Logic.{⊎-elim}
 use mathlib.Core.List.{List, [], _∷_}
 use Prim.Native.Nat.{ℕ, zero, suc, _+_, _≤_, _<_, _^_}
-use native.Mathlib.Nat.{eq-or-lt-of-le, le-of-suc-le-suc}
+use native.Mathlib.Nat.{eq-or-lt-of-le, le-of-suc-le-suc, zero-add, suc-add}
 use native.Mathlib.Omega.{arith}
 use native.Mathlib.Numerals.{add-one}
 use lib.ListN.{length, getD, set, length-set}
-use lib.Seq.{getD-set-same, getD-set-other}
+use lib.Seq.{getD-set-same, getD-set-other, set-getD}
 use Rattle.projection.specs.Tables.{added, AtMost}
 
 pub length-added : (f : ℕ → ℕ) (n : ℕ) (t : List ℕ) → length (added f n t) ≡ length t
@@ -58,3 +58,13 @@ added-most f z h (suc n) m t a j =
 -- the year's number has room for one cell more
 pub added-room : (f : ℕ → ℕ) (n : ℕ) (t u : List ℕ) (x : ℕ) → u ≡ added f n t → AtMost 2000000000000000 t → x ≤ 1000000000000 → getD u n 0 + x < 2 ^ 64
 added-room f n t u x e a h = omega (arith, ap (λ (l : List ℕ). getD l n 0) e, added-later f n t n (omega arith), a n)
+
+-- years in which f is 0 add nothing
+pub added-rest : (f : ℕ → ℕ) (n m : ℕ) (t : List ℕ) → ((j : ℕ) → n ≤ j → j < m + n → f j ≡ 0) → added f (m + n) t ≡ added f n t
+unfolding added
+added-rest f n zero t h = ap (λ (x : ℕ). added f x t) (zero-add n)
+added-rest f n (suc m) t h =
+    let u = added f (m + n) t in
+    let same : getD u (m + n) 0 + f (m + n) ≡ getD u (m + n) 0 = omega (arith, h (m + n) (omega arith) (omega arith)) in
+    let before = added-rest f n m t (λ j g l. h j g (omega arith)) in
+    rw (suc-add m n) (ap (set u (m + n)) same ∙ set-getD u (m + n) 0 ∙ before)

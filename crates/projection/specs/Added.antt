@@ -8,15 +8,17 @@ use Rattle.book.specs.Cells.{heldIn, heldOfGroup}
 use Rattle.settings.specs.declared.Decrements.{Decrements}
 use Rattle.reckoning.specs.Arithmetic.{rounded}
 use Rattle.reckoning.specs.Steps.{premiumSum, claimsSum}
-use Rattle.reckoning.specs.Portfolio.{chainLinks, groupCells}
+use Rattle.reckoning.specs.Portfolio.{cellOf, chainLinks, groupCells}
 use Rattle.projection.specs.Tables.{added, addedAll, AtMost}
+use Rattle.projection.specs.Ends.{yearsInForce}
 use Rattle.projection.specs.declared.Sums.{Sums}
 use Rattle.cell.specs.States.{premiumAt, claimsAt}
 
--- what a walk of the cell of record i makes of the tables p and c
-pub record Walked (b : List ℕ) (w : Decrements) (i : ℕ) (p p′ c c′ : List ℕ) : Type 0 where
+-- what a walk of the cell of record i makes of the tables p and c, and how many years n it reckons
+pub record Walked (b : List ℕ) (w : Decrements) (i n : ℕ) (p p′ c c′ : List ℕ) : Type 0 where
   pub premium : p′ ≡ added (premiumAt b w i) 50 p
   pub claims : c′ ≡ added (claimsAt b w i) 50 c
+  pub years : n ≡ yearsInForce (cellOf b w i)
 
 -- what the cells of chain k make of them, and how many hold contracts
 pub record ChainAdded (b : List ℕ) (w : Decrements) (k n : ℕ) (p p′ c c′ : List ℕ) : Type 0 where

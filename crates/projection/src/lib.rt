@@ -19,25 +19,31 @@ fn add_at(table: &mut [u64; 50], k: usize, x: u64)
     table[k] = table[k] + x;
 }
 
-// Adds premium and claims of the cell of record i, year by year, to the sums.
-fn walk(
+// Adds premium and claims of the cell of record i, year by year, to the sums up to the first year with nothing in force,
+// and hands back how many years it reckoned. The next year's state comes first: the years after wait for it alone.
+pub fn walk(
     book: &[u8],
     w: Decrements,
     chain: usize,
     i: usize,
     premium: &mut [u64; 50],
     claims: &mut [u64; 50],
-)
+) -> usize
     requires { ⌜ Weighed w × ValidBook 1 (now book) × (chain < 14) × Standing (now book) 120 chain i ⌝ }
     requires { ⌜ (AtMost 2000000000000000 (now premium)) × (AtMost 2000000000000000 (now claims)) ⌝ }
-    ensures { λ _. ⌜ Walked (now (book .entry)) w i (now (premium .entry)) (now (premium .exit)) (now (claims .entry)) (now (claims .exit)) ⌝ }
+    ensures { λ n. ⌜ Walked (now (book .entry)) w i n (now (premium .entry)) (now (premium .exit)) (now (claims .entry)) (now (claims .exit)) ⌝ }
 {
     let mut cell = Cell::new(book, chain, i);
     for k in 0usize..50 {
+        if cell.inforce == 0 {
+            return k;
+        }
+        let next = cell.next_year(book, w, k);
         add_at(premium, k, cell.premium(book));
         add_at(claims, k, cell.claims(book));
-        cell = cell.next_year(book, w, k);
+        cell = next;
     }
+    50
 }
 
 // The sums of the years k = 0 to 49 of a product group, before weights, costs and the cap; and its n.

@@ -1,9 +1,9 @@
 //! Totals in 64 bits, as a good engineer would tune the paper's steps in plain Rust.
 //!
 //! The book is checked once and its chains are read once. Weights are worked into a chain's rates
-//! before its cells are walked, cells without contracts are skipped, every product stays within 64
-//! bits, and all divisors are constants but those of the curve. No walk looks whether anything is
-//! still in force.
+//! before its cells are walked, a cell's walk ends at the first year with nothing in force, every
+//! product stays within 64 bits, and all divisors are constants but those of the curve. Year by
+//! year only the oldest cells are looked at for their end: to look at each costs more than it saves.
 
 use std::ops::Range;
 
@@ -35,9 +35,10 @@ pub enum Projections {
 /// In which order the years of a chain's cells are reckoned.
 #[derive(Clone, Copy)]
 pub enum Walk {
-    /// all years of a cell, then the next cell; each year waits for the one before
+    /// all years of a cell up to its end, then the next cell; each year waits for the one before
     CellByCell,
-    /// one year of all cells, then the next year; cells do not wait for each other
+    /// one year of all cells, but for the oldest that have ended, then the next year; cells do not
+    /// wait for each other
     YearByYear,
 }
 
@@ -166,13 +167,11 @@ fn one_less(rate: u64, weight: u64) -> u64 {
 
 fn add_cell_by_cell(rows: &[Row], sums: &mut Sums) {
     for own in 0..rows.len() {
-        if rows[own].count != 0 {
-            add_cell(&rows[own..], sums);
-        }
+        add_cell(&rows[own..], sums);
     }
 }
 
-/// Walks the cell of the first row up to class 120 or year 49.
+/// Walks the cell of the first row up to class 120 or year 49, or until nothing is in force.
 fn add_cell(rows: &[Row], sums: &mut Sums) {
     let rows = &rows[..rows.len().min(YEARS)];
     let (first, later) = rows.split_at(rows.len().min(SHIFTED_YEARS));
@@ -180,9 +179,15 @@ fn add_cell(rows: &[Row], sums: &mut Sums) {
     let (first_claims, later_claims) = sums.claims.split_at_mut(first.len());
     let mut in_force = rows[0].count * BILLION;
     for ((row, premium), claims) in first.iter().zip(first_premium).zip(first_claims) {
+        if in_force == 0 {
+            return;
+        }
         in_force = add_year(in_force, row, row.living_first, premium, claims);
     }
     for ((row, premium), claims) in later.iter().zip(later_premium).zip(later_claims) {
+        if in_force == 0 {
+            return;
+        }
         in_force = add_year(in_force, row, row.living_later, premium, claims);
     }
 }
@@ -193,10 +198,12 @@ fn add_year_by_year(rows: &[Row], sums: &mut Sums) {
     for (in_force, row) in in_force.iter_mut().zip(rows) {
         *in_force = row.count * BILLION;
     }
-    let runs = runs_with_contracts(rows);
+    let mut runs = runs_with_contracts(rows);
     for k in 0..rows.len().min(YEARS) {
         let (premium, claims) = (&mut sums.premium[k], &mut sums.claims[k]);
-        for run in &runs {
+        for run in &mut runs {
+            let end = run.end.min(rows.len() - k).max(run.start);
+            run.end = end_in_force(&in_force, run.start, end);
             let reached = rows.iter().skip(run.start + k);
             for (in_force, row) in in_force[run.clone()].iter_mut().zip(reached) {
                 let living = if k < SHIFTED_YEARS {
@@ -220,6 +227,14 @@ fn runs_with_contracts(rows: &[Row]) -> Vec<Range<usize>> {
         }
     }
     runs
+}
+
+/// Where a run ends without the cells at its end, the oldest, that have nothing in force.
+fn end_in_force(in_force: &[u64], start: usize, mut end: usize) -> usize {
+    while start < end && in_force[end - 1] == 0 {
+        end -= 1;
+    }
+    end
 }
 
 /// Adds one cell's year to the sums; what is in force a year later.

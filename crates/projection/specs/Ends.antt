@@ -1,0 +1,15 @@
+-- Where a cell's walk ends (W-203).
+use Prim.Native.Nat.{ℕ, zero, suc, _+_}
+use lib.Dec.{eqb}
+use Rattle.field.specs.Verdicts.{pick}
+use Rattle.reckoning.specs.Arithmetic.{rounded}
+use Rattle.reckoning.specs.Steps.{Cell, inForce}
+
+-- the first of so many years from k on in which f is 0; the year after them where there is none
+unfoldable pub firstZero : (ℕ → ℕ) → ℕ → ℕ → ℕ
+firstZero f k zero = k
+firstZero f k (suc left) = pick (eqb (f k) 0) k (firstZero f (k + 1) left)
+
+-- how many years a walk of the cell reckons: the first k below 50 with nothing in force, or 50 where there is none
+unfoldable pub yearsInForce : Cell → ℕ
+yearsInForce c = firstZero (inForce rounded c) 0 50

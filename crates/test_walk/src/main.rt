@@ -1,0 +1,72 @@
+// The walk on a stream: each entry is a setting and a chain in eight bytes each, the book's length in four, and the book.
+// A line has how many years the walk of the chain's first cell reckons, or the word none where there is no such cell.
+use field::Verdict;
+use libc::STDIN_FILENO;
+use libc::STDOUT_FILENO;
+use settings::Decrements;
+
+pub enum Years {
+    Reckoned(usize),
+    NoCell,
+}
+
+// The walk of the first cell of a chain of an accepted book.
+fn first_walk(book: &[u8], setting: usize, chain: usize) -> Years {
+    if 7 < setting {
+        return Years::NoCell;
+    }
+    if 13 < chain {
+        return Years::NoCell;
+    }
+    let v = acceptance::check(book);
+    let Verdict::Accepted(_) = v else {
+        return Years::NoCell;
+    };
+    let head = book::head_of(book, chain);
+    if head == 0 {
+        return Years::NoCell;
+    }
+    let w = Decrements::new(book, setting);
+    let mut premium = [0u64; 50];
+    let mut claims = [0u64; 50];
+    Years::Reckoned(projection::walk(book, w, chain, head, &mut premium, &mut claims))
+}
+
+fn write_years(years: Years) {
+    match years {
+        Years::Reckoned(n) => {
+            io::print_decimal(STDOUT_FILENO, n as u64);
+        }
+        Years::NoCell => {
+            io::write_all(STDOUT_FILENO, b"none");
+        }
+    }
+    io::write_all(STDOUT_FILENO, b"\n");
+}
+
+// One entry; false where the stream has ended.
+fn next_walk() -> bool {
+    let mut head = [0u8; 20];
+    if io::read_full(STDIN_FILENO, &mut head) < 20 {
+        return false;
+    }
+    let setting = test_stream::read_u64(&head, 0);
+    let chain = test_stream::read_u64(&head, 8);
+    let size = field::read_u32(&head, 16);
+    let mut space = io::large_buffer();
+    let got = test_stream::next_bytes(&mut space, size);
+    if (got as u64) < size {
+        return false;
+    }
+    write_years(first_walk(&space[..got], setting as usize, chain as usize));
+    true
+}
+
+fn main() {
+    // No stream has more entries than this, and every loop ends.
+    for _ in 0usize..1_000_000 {
+        if !next_walk() {
+            return;
+        }
+    }
+}
