@@ -1,10 +1,11 @@
 # `make` lists the targets. The toolchain, a POSIX shell, make and Python 3.10 or later are needed; gcc for the
 # library and what calls it, g++, cargo and valgrind for the callers' tests.
 .DEFAULT_GOAL := help
-.PHONY: help test check list report fuzz streams samples lib callers bench clean FORCE
+.PHONY: help test check list report convert fuzz streams samples lib callers bench clean FORCE
 
 BOOK ?= samples/one_record.book
 SETTING ?= 0
+OUT ?= target/converted.book
 N ?= 2000
 SEED ?= 1
 
@@ -23,11 +24,15 @@ list: target/bin/listing ## write the listing of a book: make list BOOK=path
 report: target/bin/report ## write the year report of a book in a setting: make report BOOK=path SETTING=0
 	@target/bin/report "$(SETTING)" < "$(BOOK)"
 
+convert: target/bin/convert ## turn a book of age basis 2 into basis 1: make convert BOOK=path OUT=path
+	@target/bin/convert < "$(BOOK)" > "$(OUT)" && test -s "$(OUT)" || { rm -f "$(OUT)"; exit 1; }
+
 fuzz: target/bin/test_check target/bin/listing lib ## hold programs and calls against Python: make fuzz N=2000 SEED=1
 	@python3 -m tests.random_books.check --books $(N) --seed $(SEED)
 	@python3 -m tests.calls.base --books $(N) --seed $(SEED)
 	@python3 -m tests.calls.accounts --accounts $(N) --seed $(SEED)
 	@python3 -m tests.calls.report --books $(N) --seed $(SEED)
+	@python3 -m tests.calls.convert --books $(N) --seed $(SEED)
 	@python3 -m tests.random_books.listing --books $(N) --seed $(SEED)
 
 streams: ## write the test programs' streams anew
@@ -51,6 +56,7 @@ callers: ## run the tests of the callers in C, Rust and Python
 	@python3 -m tests.calls.base
 	@python3 -m tests.calls.accounts
 	@python3 -m tests.calls.report
+	@python3 -m tests.calls.convert
 
 bench: lib ## time Totals beside Rust and Python: make bench OPTIONS=--instructions counts instructions too
 	@cd callers/rust && cargo run --quiet --offline --locked --release --package bench -- $(OPTIONS)
@@ -60,6 +66,6 @@ clean: ## remove all that was built; the next run proves everything again
 	@find . -name __pycache__ -not -path './.git/*' -prune -exec rm -rf {} +
 
 # A program is proved before it is built; where nothing has changed since, that takes a moment.
-target/bin/test_check target/bin/listing target/bin/report: target/bin/%: FORCE
+target/bin/test_check target/bin/listing target/bin/report target/bin/convert: target/bin/%: FORCE
 	@[ -f $@ ] || echo "proving and building $*: the first time takes a minute or two" >&2
 	@mkdir -p target && rt check $* > target/check-$*.log 2>&1 || { cat target/check-$*.log; exit 1; }

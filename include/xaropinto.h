@@ -4,16 +4,18 @@
  * docs/BOOK.md has the book's format, docs/RECKONING.md the reckoning. Amounts of a book are centimes, those of
  * accounts whole francs.
  *
- * Buffers. The caller owns the book, the table and the report's buffer. A call only reads the book. Group writes to
- * numbers 0 to 199 of the table and Report to the first bytes of its buffer; no other call writes. Accounts are handed
- * over by value: no call sees the caller's own. No call keeps a pointer after it returns, and none allocates.
+ * Buffers. The caller owns all that it lends. A call only reads the book. Group writes to numbers 0 to 199 of the
+ * table, Report to the first bytes of its buffer, Convert to as many first bytes of `out` as the book has; nothing
+ * else is written. Accounts are handed over by value: no call sees the caller's own. No call keeps a pointer after it
+ * returns, and none allocates.
  *
  * Pointers. Each must be valid for its length and must not be null, also where the length is 0. The table must be
- * aligned for uint64_t, and must overlap neither the book nor anything else that is lent at the time; nor must the
- * report's buffer, which may start anywhere.
+ * aligned for uint64_t; a buffer of bytes may start anywhere. What is written must overlap neither the book nor
+ * anything else that is lent at the time.
  *
  * Threads. Calls may run at the same time in several threads. While a call runs, no other thread may write to its
- * book, its table or its buffer. Calls may share a book; each call that writes needs a table or buffer of its own.
+ * book, nor read or write what the call writes. Calls may share a book; each call that writes needs a table or buffer
+ * of its own.
  *
  * Stack. A call takes what it needs from the caller's stack, and no proof says how much. A process that runs out of
  * stack stops. Beside what its own functions need, give a thread 40 KiB for Report, 32 KiB for Totals, 16 KiB for
@@ -40,18 +42,21 @@
  *   13       a chain ends at class 120, nowhere else     the record's first byte + 4 portfolio desk
  *   14       the setting is 0 to 7                       0                           caller
  *   15       the product group is 1 to 5                 0                           caller
- *   16       the table has at least 200 numbers          0                           caller
+ *   16       the table has at least 200 numbers,         0                           caller
+ *            `out` at least as many bytes as the book
  *   17       an amount is at most 1,000,000,000 francs,  0                           insurer's cost sheet
  *            a stock at most 10,000,000 contracts
  *   18       no year's stock or claims add up to 0; a    0                           insurer's cost sheet
  *            group has premium in all years, or nothing
  *   19       no cost rate is above 1,000,000 millionths  0                           insurer's cost sheet
  *   20       the buffer is as long as Report room tells  0                           caller
+ *   21       on age basis 2, a class is not 0            the record's first byte + 2 portfolio desk
  *
  * Where several rules are broken, the reply names one. 14 to 16 are tested first, in this order; then 1 to 8, also in
  * order, and where a number has several places it is given with the lowest. 9 to 13 come last, chain by chain and
  * record by record: docs/BOOK.md has their order. 20 is tested after all of them. 17 to 19 are those of accounts, and
- * are tested in this order: 17 on all figures before 18 on any.
+ * are tested in this order: 17 on all figures before 18 on any. Convert alone reads books on age basis 2: there 3
+ * means a basis that is not 2, 11 and 13 go by class 121 in place of 120, and 21 is tested between 10 and 11.
  */
 #ifndef XAROPINTO_H
 #define XAROPINTO_H
@@ -185,6 +190,13 @@ xaropinto_report_reply xaropinto_report(const uint8_t *book, size_t length, size
 /* Report room: how many bytes Report wants of its buffer, for this book and setting: at least the report's length, and
  * at most 9,525. Nothing is written. Refusals 14, then 1 to 13. */
 xaropinto_report_reply xaropinto_report_room(const uint8_t *book, size_t length, size_t setting);
+
+/* Convert: a book on age basis 2 turned into basis 1. Refusals 16, then 1 to 13 and 21 as read on basis 2.
+ *
+ * `room` is how many bytes `out` has. Where accepted, its first `length` bytes become the converted book: byte 1 is 1,
+ * the class of every linked record is one less, all else is as in the book. Later bytes are as they were. Check then
+ * accepts the converted book with the same n. */
+xaropinto_verdict xaropinto_convert(const uint8_t *book, size_t length, uint8_t *out, size_t room);
 
 #ifdef __cplusplus
 }

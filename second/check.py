@@ -1,8 +1,7 @@
 """The verdict on a book and the looker's reply, worked from the customer's paper alone."""
 
-from second.layout import (AGE_BASIS, CHAINS, COST_RATES, CURVE, EDITION, FIRST_RECORD_PLACE, HEADER_SPARE,
-                           MORTALITY, OLDEST_CLASS, RECORD_COUNT, RECORD_SIZE, SST_YEAR, record,
-                           record_start)
+from second.layout import (AGE_BASIS, BASIS_1, CHAINS, COST_RATES, CURVE, EDITION, FIRST_RECORD_PLACE,
+                           HEADER_SPARE, MORTALITY, RECORD_COUNT, RECORD_SIZE, SST_YEAR, record, record_start)
 
 
 class Refused(Exception):
@@ -14,12 +13,12 @@ class Refused(Exception):
         self.place = place
 
 
-def check(book):
+def check(book, basis=BASIS_1):
     """('accepted', n) or ('refused', number, place)."""
     try:
-        check_header(book)
+        check_header(book, basis)
         check_tables(book)
-        return "accepted", sum(counted_records(book, chain) for chain in CHAINS)
+        return "accepted", sum(counted_records(book, chain, basis) for chain in CHAINS)
     except Refused as refusal:
         return "refused", refusal.number, refusal.place
 
@@ -46,11 +45,11 @@ def refuse_out_of_range(book, field, number):
     refuse_if(not field.keeps_range(book), number, field.offset)
 
 
-def check_header(book):
+def check_header(book, basis):
     """Refusals 1 to 5, for the desk that writes the file."""
     refuse_if(len(book) < FIRST_RECORD_PLACE, 1, len(book))
     refuse_out_of_range(book, EDITION, 2)
-    refuse_out_of_range(book, AGE_BASIS, 3)
+    refuse_if(AGE_BASIS.read(book) != basis.number, 3, AGE_BASIS.offset)
     for field in (SST_YEAR, RECORD_COUNT, HEADER_SPARE):
         refuse_out_of_range(book, field, 4)
     due_length = FIRST_RECORD_PLACE + RECORD_SIZE * RECORD_COUNT.read(book)
@@ -64,11 +63,11 @@ def check_tables(book):
             refuse_out_of_range(book, field, number)
 
 
-def counted_records(book, chain):
-    """Walk one chain by refusals 9 to 13; how many of its records have a count.
+def counted_records(book, chain, basis):
+    """Walk one chain by refusals 9 to 13, and 21; how many of its records have a count.
 
     The walk ends on any links: the class rises by one at each record, and at
-    class 120 only a next of zero passes.
+    the oldest class only a next of zero passes.
     """
     counted = 0
     class_before = None
@@ -77,7 +76,7 @@ def counted_records(book, chain):
         number = link.read(book)
         refuse_if(number > RECORD_COUNT.read(book), 9, link.offset)
         linked = record(number)
-        check_record(book, linked, chain, class_before)
+        check_record(book, linked, chain, class_before, basis)
         count = linked.amounts[0]
         if count.read(book) != 0:
             counted += 1
@@ -86,15 +85,16 @@ def counted_records(book, chain):
     return counted
 
 
-def check_record(book, linked, chain, class_before):
-    """Refusals 10 to 13 of one linked record; the first of a chain has no class before."""
+def check_record(book, linked, chain, class_before, basis):
+    """Refusals 10, 21, 11, 12 and 13 of one linked record; the first of a chain has no class before."""
     owned = linked.code.read(book) == chain.code and linked.sex.read(book) == chain.sex
     spares_zero = all(spare.read(book) == 0 for spare in linked.spares)
     refuse_if(not owned or not spares_zero, 10, linked.start)
 
     age_class = linked.age_class.read(book)
+    refuse_if(age_class < basis.youngest_class, 21, linked.age_class.offset)
     if class_before is None:
-        refuse_if(age_class > OLDEST_CLASS, 11, linked.age_class.offset)
+        refuse_if(age_class > basis.oldest_class, 11, linked.age_class.offset)
     else:
         refuse_if(age_class != class_before + 1, 11, linked.age_class.offset)
 
@@ -102,4 +102,4 @@ def check_record(book, linked, chain, class_before):
         refuse_out_of_range(book, amount, 12)
 
     ends_here = linked.next.read(book) == 0
-    refuse_if(ends_here != (age_class == OLDEST_CLASS), 13, linked.next.offset)
+    refuse_if(ends_here != (age_class == basis.oldest_class), 13, linked.next.offset)

@@ -56,6 +56,14 @@ class Field(NamedTuple):
         return 0, (1 << bits) - 1
 
 
+class Basis(NamedTuple):
+    """An age basis: what byte 1 says, and the first and last class that a chain's records may have."""
+
+    number: int
+    youngest_class: int
+    oldest_class: int
+
+
 class Chain(NamedTuple):
     """One of the 14 chains: what its records must carry, and where it starts."""
 
@@ -109,6 +117,9 @@ MORTALITY = four_byte_fields(
     252,
     [f"mortality of {people}, class {age}" for people in SEXES for age in range(CLASSES)],
     0, ONE_IN_MILLIONTHS)
+BASIS_1 = Basis(1, 0, OLDEST_CLASS)
+# Counts a class one higher, and leaves no class below 1.
+BASIS_2 = Basis(2, 1, OLDEST_CLASS + 1)
 HEADER_FIELDS = (EDITION, AGE_BASIS, SST_YEAR, RECORD_COUNT, HEADER_SPARE)
 
 

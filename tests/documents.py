@@ -19,7 +19,8 @@ from tests.streams.files import verdict_line
 from tools.say_verdict import plain_words
 
 README, DOCS = ROOT / "README.md", ROOT / "docs"
-PAGES = [README, *sorted(DOCS.rglob("*.md")), ROOT / "callers" / "README.md"]
+# The notes in docs/landings speak of the tree as it was on their day, and are not held against it.
+PAGES = [README, *sorted(DOCS.glob("*.md")), ROOT / "callers" / "README.md"]
 PROMISES, REVIEW, DECISIONS = DOCS / "PROMISES.md", DOCS / "REVIEW.md", DOCS / "DECISIONS.md"
 # In the tables of these pages a name stands after the path or the crate that has it.
 NAMING = [PROMISES, DOCS / "RECKONING.md"]

@@ -29,7 +29,7 @@ def script(name, module, least, *words):
     return Part(name, [sys.executable, "-m", module, *words], least)
 
 
-PROOFS = Part("proofs, must-fail edits and programs", ["rt", "ci"], 125)
+PROOFS = Part("proofs, must-fail edits and programs", ["rt", "ci"], 141)
 # What runs after the proofs, in this order.
 OUTSIDE = [
     script("must-fail edits fit the proof files", "tests.must_fail_reasons", 2),
@@ -43,13 +43,15 @@ OUTSIDE = [
     script("stream of the walk", "tests.streams.walk", 11, "test"),
     script("listing program, by the paper's figures", "tests.listing_program", 9),
     script("report program", "tests.report_program", 9),
-    script("sample books", "tools.sample_books", 27, "test"),
+    script("convert program, by hand-worked books", "tests.convert_program", 9),
+    script("sample books", "tools.sample_books", 33, "test"),
     script("random books against the second check", "tests.random_books.check", 16),
     script("random listings against the second reckoning and the fractions", "tests.random_books.listing", 21),
-    script("callers in C and Rust", "tests.callers", 112),
+    script("callers in C and Rust", "tests.callers", 126),
     script("calls from Python, on random books", "tests.calls.base", 22),
     script("cost rates from Python, on random accounts", "tests.calls.accounts", 38),
     script("calls of the report", "tests.calls.report", 22),
+    script("conversions from Python, on random books", "tests.calls.convert", 61),
 ]
 PARTS = [PROOFS, *OUTSIDE]
 

@@ -27,9 +27,9 @@ def send(pipe, piece):
     time.sleep(PAUSE_SECONDS)
 
 
-def run_in_pieces(pieces):
-    """The listing and the exit code where the input comes piece by piece."""
-    with subprocess.Popen([program_path("listing")], stdin=subprocess.PIPE,
+def run_in_pieces(pieces, program="listing"):
+    """What the program writes and the exit code where the input comes piece by piece."""
+    with subprocess.Popen([program_path(program)], stdin=subprocess.PIPE,
                           stdout=subprocess.PIPE) as run:
         try:
             for piece in pieces:

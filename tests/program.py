@@ -22,12 +22,23 @@ def program_path(name):
 
 def run_program(name, sent, *words):
     """The bytes that a program, started with these words, writes for those on its input; and its exit code."""
+    run = run_to_its_end(name, sent, words)
+    return run.stdout, run.returncode
+
+
+def run_to_its_end(name, sent, words=(), errors=None):
+    """The program's run, with what it writes to standard error where `errors` is a pipe."""
     try:
-        run = subprocess.run([program_path(name), *words], input=sent, stdout=subprocess.PIPE,
-                             timeout=MOST_SECONDS, check=False)
+        return subprocess.run([program_path(name), *words], input=sent, stdout=subprocess.PIPE, stderr=errors,
+                              timeout=MOST_SECONDS, check=False)
     except (OSError, subprocess.TimeoutExpired) as trouble:
         raise ProgramFailed(f"{name} could not be run to its end: {trouble}") from trouble
-    return run.stdout, run.returncode
+
+
+def run_with_errors(name, sent):
+    """What a program writes to standard output, to standard error, and its exit code."""
+    run = run_to_its_end(name, sent, errors=subprocess.PIPE)
+    return run.stdout, run.stderr, run.returncode
 
 
 def verdict_lines(books):

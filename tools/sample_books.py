@@ -9,6 +9,7 @@ from second.reckoning import listing
 from second.report import report_page
 from tests import ROOT
 from tests.books.insurers import MANY_PRODUCTS, dense_full_book, flat_values, insurer_book
+from tests.books.newer_basis import on_basis_2
 from tests.program import ProgramFailed, verdict_lines
 from tests.report import Report
 
@@ -40,6 +41,7 @@ SAMPLES = [
     ("small_insurer", insurer_book(MANY_PRODUCTS, 2021), "accepted 315"),
     ("full", dense_full_book(2021), "accepted 1694"),
     ("lapse_too_large", refused_book(), "refused 12 1232"),
+    ("newer_basis", on_basis_2(worked_book()), "refused 3 1"),
 ]
 
 
@@ -52,11 +54,13 @@ def files():
 
 
 def copies():
-    """What the proofs of the programs run them on: the first sample, its listing, and its report in another setting."""
+    """What the proofs of the programs run them on: a sample, and what comes of it; its report in another setting."""
     name, book, _ = SAMPLES[0]
     listed = {"crates/listing/stdin": book, "crates/listing/stdout": files()[f"{name}.listing"]}
-    return listed | {"crates/report/stdin": book, "crates/report/args": f"{REPORTED_SETTING}\n".encode("ascii"),
-                     "crates/report/stdout": report_page(book, REPORTED_SETTING)}
+    reported = {"crates/report/stdin": book, "crates/report/args": f"{REPORTED_SETTING}\n".encode("ascii"),
+                "crates/report/stdout": report_page(book, REPORTED_SETTING)}
+    converted = {"crates/convert/stdin": on_basis_2(worked_book()), "crates/convert/stdout": worked_book()}
+    return listed | reported | converted
 
 
 def all_files():

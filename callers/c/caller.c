@@ -129,6 +129,20 @@ static parameter_book one_man_book(size_t years, contracts each_year)
     return book;
 }
 
+/* The same on age basis 2, with a record behind that no chain reaches and whose class is 0. */
+static parameter_book one_man_newer_book(size_t years, contracts each_year)
+{
+    parameter_book older = one_man_book(years, each_year);
+    parameter_book book = blank(older.length + RECORD_SIZE);
+    memcpy(book.bytes, older.bytes, older.length);
+    put(book, XAROPINTO_AGE_BASIS_AT, 1, 2);
+    put(book, RECORD_COUNT, 2, years + 1);
+    for (size_t i = 1; i <= years; i++)
+        book.bytes[record_start(i) + XAROPINTO_CLASS_AT]++;
+    free(older.bytes);
+    return book;
+}
+
 /* All 14 chains from class 0, everywhere one contract with claims of one centime; nobody dies or leaves. */
 static parameter_book full_book(void)
 {
@@ -293,6 +307,19 @@ static int report_is(parameter_book book, size_t setting, const char *const *lin
              bytes_stand(memory, length);
     free(memory);
     free(text);
+    return holds;
+}
+
+/* The refusal is given, and the lent bytes are as they were. */
+static int convert_refused(parameter_book book, size_t room, uint64_t refusal, uint64_t place)
+{
+    uint8_t *out = exact_memory(room);
+    memset(out, 0xA5, room);
+    xaropinto_verdict reply = xaropinto_convert(book.bytes, book.length, out, room);
+    int holds = reply.refusal == refusal && reply.place == place && reply.n == 0;
+    for (size_t i = 0; i < room; i++)
+        holds &= out[i] == 0xA5;
+    free(out);
     return holds;
 }
 
@@ -637,6 +664,38 @@ static void test_report_refusals(void)
     free(book.bytes);
 }
 
+/* Two classes of one man, 120 and 121 on basis 2, so 119 and 120 on basis 1. */
+static void test_convert(void)
+{
+    contracts each_year = {0, 0, 1000, 900};
+    parameter_book book = one_man_newer_book(2, each_year);
+    size_t room = book.length + 7, same = 0;
+    uint8_t *out = exact_memory(room);
+    memset(out, 0xA5, room);
+    xaropinto_verdict reply = xaropinto_convert(book.bytes, book.length, out, room);
+    parameter_book converted = {out, book.length}, zeros = blank(HEADER_SIZE);
+    for (size_t i = 0; i < book.length; i++)
+        same += out[i] == book.bytes[i];
+    test("convert_counts_as_before", reply.refusal == 0 && reply.place == 0 && reply.n == 1);
+    test("the_age_basis_becomes_1", out[1] == 1);
+    test("linked_classes_fall_by_one", out[1222] == 119 && out[1246] == 120);
+    test("all_other_bytes_are_copied", same == book.length - 3);
+    test("the_converted_book_passes_the_check", verdict_is(converted, 0, 0, 1));
+    test("bytes_past_the_book_stay", out[book.length] == 0xA5 && out[room - 1] == 0xA5);
+    test("a_buffer_one_byte_short_is_refused", convert_refused(book, book.length - 1, 16, 0));
+    test("a_short_buffer_comes_before_the_book", convert_refused(zeros, 0, 16, 0));
+    test("basis_1_is_not_converted", convert_refused(converted, book.length, 3, 1));
+    put(book, record_start(2) + XAROPINTO_NEXT_AT, 2, 3);
+    test("a_chain_ends_at_class_121", convert_refused(book, room, 13, 1248));
+    put(book, record_start(2) + XAROPINTO_CLASS_AT, 1, 0);
+    test("class_0_is_refused_before_a_wrong_class", convert_refused(book, room, 21, 1246));
+    put(book, record_start(2) + XAROPINTO_SEX_AT, 1, 1);
+    test("sex_comes_before_class_0", convert_refused(book, room, 10, 1244));
+    free(zeros.bytes);
+    free(out);
+    free(book.bytes);
+}
+
 int main(void)
 {
     test_sizes();
@@ -655,6 +714,7 @@ int main(void)
     test_cost_rate_refusals();
     test_report();
     test_report_refusals();
+    test_convert();
     printf("%d passed, %d failed\n", passed, failed);
     return failed != 0;
 }

@@ -2,8 +2,8 @@
 
 `make lib` links the shared library. `include/xaropinto.h` says what each call answers and which refusals it
 gives. A book is `bytes`, which nothing can change and which is lent as it is, or anything else with bytes, such
-as a `bytearray`, which is copied first: other threads run during a call and may write to it. A table and a
-buffer for a report are lent as they are.
+as a `bytearray`, which is copied first: other threads run during a call and may write to it. A table, or a buffer
+to be written, is lent as it is.
 """
 
 import ctypes
@@ -126,6 +126,7 @@ _COST_RATES.restype, _COST_RATES.argtypes = _CostRates, [_Accounts]
 _REPORT = _declared("xaropinto_report", _ReportReply, ctypes.c_size_t,
                     ctypes.POINTER(ctypes.c_uint8), ctypes.c_size_t)
 _REPORT_ROOM = _declared("xaropinto_report_room", _ReportReply, ctypes.c_size_t)
+_CONVERT = _declared("xaropinto_convert", _Verdict, ctypes.POINTER(ctypes.c_uint8), ctypes.c_size_t)
 
 
 def check(book):
@@ -201,6 +202,17 @@ def report_room(book, setting):
     return ReportReply(reply.refusal, reply.place, reply.length)
 
 
+def convert(book, out):
+    """The book of age basis 2 turned into basis 1.
+
+    `out` is one row of bytes that can be written, such as a `bytearray`. Where accepted, its first bytes, as many as
+    the book has, become the converted book; all others stay as they were.
+    """
+    room = _lent_buffer(out)
+    reply = _CONVERT(*_lent_book(book), room, len(room))
+    return Verdict(reply.refusal, reply.place, reply.n)
+
+
 def _lent_book(book):
     """Bytes that stay as they are during a call, and how many they are."""
     if not isinstance(book, bytes):
@@ -225,7 +237,7 @@ def _lent_table(table):
 def _lent_buffer(out):
     """The buffer's own bytes."""
     view = memoryview(out)
-    if view.ndim != 1 or view.format != "B":
+    if view.ndim != 1 or view.itemsize != 1:
         raise TypeError("the buffer must be one row of bytes")
     if len(view) == 0:
         # An empty buffer may stand anywhere.

@@ -85,4 +85,6 @@ extern "C" {
     ) -> ReportReply;
 
     pub fn xaropinto_report_room(book: *const u8, length: usize, setting: usize) -> ReportReply;
+
+    pub fn xaropinto_convert(book: *const u8, length: usize, out: *mut u8, room: usize) -> Verdict;
 }

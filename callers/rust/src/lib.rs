@@ -11,7 +11,8 @@ use std::fmt;
 pub use boundary::Accounts;
 
 use boundary::{
-    xaropinto_check, xaropinto_cost_rates, xaropinto_group, xaropinto_record, xaropinto_totals,
+    xaropinto_check, xaropinto_convert, xaropinto_cost_rates, xaropinto_group, xaropinto_record,
+    xaropinto_totals,
 };
 use boundary::{xaropinto_report, xaropinto_report_room};
 
@@ -145,6 +146,18 @@ pub fn report_room(book: &[u8], setting: usize) -> Result<usize, Refusal> {
     let reply = unsafe { xaropinto_report_room(book.as_ptr(), book.len(), setting) };
     unless_refused(reply.refusal, reply.place)?;
     Ok(reply.length as usize)
+}
+
+/// A book on age basis 2 turned into basis 1.
+///
+/// Where accepted, the first bytes of `out`, as many as the book has, become the converted book. All
+/// others stay as they were.
+pub fn convert(book: &[u8], out: &mut [u8]) -> Result<Accepted, Refusal> {
+    // SAFETY: as in `check`; `out` is lent to this call alone, so it does not overlap the book.
+    let reply =
+        unsafe { xaropinto_convert(book.as_ptr(), book.len(), out.as_mut_ptr(), out.len()) };
+    unless_refused(reply.refusal, reply.place)?;
+    Ok(Accepted { n: reply.n })
 }
 
 fn unless_refused(number: u64, place: u64) -> Result<(), Refusal> {

@@ -11,7 +11,8 @@ use field::Verdict;
 
 // Chain k from record `from` on, with left classes above that record's.
 fn check_from(b: &[u8], last: usize, k: usize, left: usize, from: usize) -> Verdict
-    requires { ⌜ (k < 14) × (left ≤ last) × (last ≤ 121) × (0 < from) × (from ≤ records (now b)) × Sized (now b) ⌝ }
+    requires { ⌜ (k < 14) × (left ≤ last) × (120 ≤ last) × (last ≤ 121) × (0 < from) × (from ≤ records (now b))
+        × Sized (now b) ⌝ }
     ensures { λ r. ⌜ r ≡ checkFrom (now (b .entry)) last k left from ⌝ }
 {
     let mut i = from;
@@ -38,9 +39,9 @@ fn classes_above(last: usize, class: usize) -> usize
     if class < last { last - class } else { 0 }
 }
 
-// Chain k from its head: refusals 9 to 13.
+// Chain k from its head: refusals 9 to 13, and 21.
 fn check_chain(b: &[u8], last: usize, k: usize) -> Verdict
-    requires { ⌜ (k < 14) × (last ≤ 121) × Sized (now b) ⌝ }
+    requires { ⌜ (k < 14) × (120 ≤ last) × (last ≤ 121) × Sized (now b) ⌝ }
     ensures { λ r. ⌜ r ≡ checkChain (now (b .entry)) last k ⌝ }
 {
     let count = book::records(b);
@@ -57,7 +58,7 @@ fn check_chain(b: &[u8], last: usize, k: usize) -> Verdict
 
 // The chains in the order of their heads.
 fn check_chains(b: &[u8], last: usize) -> Verdict
-    requires { ⌜ (last ≤ 121) × Sized (now b) ⌝ }
+    requires { ⌜ (120 ≤ last) × (last ≤ 121) × Sized (now b) ⌝ }
     ensures { λ r. ⌜ r ≡ checkChains (now (b .entry)) last ⌝ }
 {
     let mut n: u64 = 0;
@@ -73,9 +74,9 @@ fn check_chains(b: &[u8], last: usize) -> Verdict
     Verdict::Accepted(n)
 }
 
-// The check of a book on an age basis.
-fn check_on(b: &[u8], basis: usize) -> Verdict
-    requires { ⌜ basis ≤ 2 ⌝ }
+// The check of a book on an age basis. It is for the crates above, which name the basis.
+pub fn check_on(b: &[u8], basis: usize) -> Verdict
+    requires { ⌜ (1 ≤ basis) × (basis ≤ 2) ⌝ }
     ensures { λ r. ⌜ r ≡ checkBook basis (now (b .entry)) ⌝ }
 {
     if b.len() < HEADER_SIZE {

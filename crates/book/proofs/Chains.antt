@@ -12,7 +12,7 @@ use Rattle.field.specs.Verdicts.{pick, _andThen_, need, plus, countOf}
 use Rattle.field.specs.declared.Verdict.{Verdict}
 use Rattle.field.specs.declared.Verdict.the-variants.{Accepted, Refused}
 use Rattle.field.proofs.Verdicts.{plus-plus, plus-count, then-count, need-true, then-left, then-right, accepted}
-use Rattle.book.specs.Layout.{records, headPlace, headOf, recordAt, classOf, nextOf}
+use Rattle.book.specs.Layout.{lowestClass, records, headPlace, headOf, recordAt, classOf, nextOf}
 use Rattle.book.specs.Check.{checkOwner, checkClass, checkAmounts, endsRight, checkLink, checkFrom, checkChain}
 use Rattle.book.specs.Cells.{holds}
 use Rattle.book.proofs.Cells.{holds-one}
@@ -51,7 +51,7 @@ module _ (b : List ℕ) (last k : ℕ) where
     unfolding checkLink
     link-owner = then-left _ _ _ (then-left _ _ _ (then-left _ _ _ (then-left _ _ _ e)))
 
-    pub link-class : checkClass b (last - left) (recordAt i) ≡ Accepted (countOf (checkClass b (last - left) (recordAt i)))
+    pub link-class : let v = checkClass b (lowestClass last) (last - left) (recordAt i) in v ≡ Accepted (countOf v)
     unfolding checkLink
     link-class = accepted _ _ (then-right _ _ _ (then-left _ _ _ (then-left _ _ _ (then-left _ _ _ e))))
 

@@ -14,7 +14,7 @@ use Rattle.field.specs.declared.Verdict.{Verdict}
 use Rattle.field.specs.declared.Verdict.the-variants.{Accepted}
 use Rattle.field.proofs.Verdicts.{need-good, then-good}
 use Rattle.field.proofs.Ranges.{within-good, field-good, fields-good}
-use Rattle.book.specs.Layout.{headerSize, lastClass, chains, records, headPlace, headOf, recordAt, classOf, nextOf, fieldOf, linkFrom, linkAt}
+use Rattle.book.specs.Layout.{headerSize, lastClass, lowestClass, chains, records, headPlace, headOf, recordAt, classOf, nextOf, fieldOf, linkFrom, linkAt}
 use Rattle.book.specs.Check.{checkSpare, checkHeader, checkTables, checkOwner, checkClass, checkAmounts, endsRight, checkLink, checkFrom, checkChain, checkChains, checkBook}
 use Rattle.book.specs.Cells.{heldFrom, heldIn, sumOf, heldInAll}
 use Rattle.book.specs.Rules.{HeaderRules, TableRules, RecordRules, ChainRules, Rules}
@@ -50,7 +50,7 @@ module _ (b : List ℕ) (last k : ℕ) where
       (omega (arith, later, chain-class b last k (suc left) i h, chain-class b last k left (nextOf b i) rest))
 
 -- an empty chain links nothing
-empty-chain : (b : List ℕ) (k j : ℕ) → headOf b k ≡ 0 → 0 < linkAt b k j → ⊥
+pub empty-chain : (b : List ℕ) (k j : ℕ) → headOf b k ≡ 0 → 0 < linkAt b k j → ⊥
 empty-chain b k j none l =
     let z : linkFrom b (headOf b k) j ≡ 0 = rw none (link-none b j) in
     absurd (omega arith)
@@ -116,9 +116,12 @@ module _ (b : List ℕ) (last k : ℕ) where
       (field-good _ _ _ _ _ (r .premium)))
       (field-good _ _ _ _ _ (r .claims))
 
-  class-good : (left i : ℕ) → left + classOf b i ≡ last → checkClass b (last - left) (recordAt i) ≡ Accepted 0
+  class-good : (left i : ℕ) → RecordRules b last k i → left + classOf b i ≡ last
+      → checkClass b (lowestClass last) (last - left) (recordAt i) ≡ Accepted 0
   unfolding checkClass classOf
-  class-good left i c = let e : classOf b i ≡ last - left = omega arith in need-good _ _ _ (eq-eqb _ _ e)
+  class-good left i r c =
+      let e : classOf b i ≡ last - left = omega arith in
+      then-good _ _ _ _ (need-good _ _ _ (le-leb _ _ (r .class-low))) (need-good _ _ _ (eq-eqb _ _ e))
 
   ends-good : (left i : ℕ) → RecordRules b last k i → left + classOf b i ≡ last → endsRight left (nextOf b i) ≡ true
   unfolding endsRight
@@ -132,11 +135,11 @@ module _ (b : List ℕ) (last k : ℕ) where
   link-good left i r c inside =
       then-good _ _ _ _
       (then-good _ _ _ _
-      (then-good _ _ _ _ (then-good _ _ _ _ (owner-good i r) (class-good left i c)) (amounts-good i r))
+      (then-good _ _ _ _ (then-good _ _ _ _ (owner-good i r) (class-good left i r c)) (amounts-good i r))
       (need-good _ _ _ (ends-good left i r c)))
       (need-good _ _ _ (le-leb _ _ inside))
 
-  from-good : (left i m : ℕ) → 0 < i → left + classOf b i ≡ last → left < m
+  pub from-good : (left i m : ℕ) → 0 < i → left + classOf b i ≡ last → left < m
       → ((j : ℕ) → 0 < linkFrom b i j → RecordRules b last k (linkFrom b i j))
       → ((j : ℕ) → 0 < linkFrom b i j → classOf b (linkFrom b i j) ≡ classOf b i + j)
       → checkFrom b last k left i ≡ Accepted (heldFrom b i m)

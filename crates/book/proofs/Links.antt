@@ -15,6 +15,12 @@ unfolding linkFrom
 link-none b zero = refl
 link-none b (suc j) = link-none b j
 
+-- one step more
+pub link-more : (b : List ℕ) (i j : ℕ) → linkFrom b i (suc j) ≡ after b (linkFrom b i j)
+unfolding linkFrom
+link-more b i zero = refl
+link-more b i (suc j) = link-more b (after b i) j
+
 -- the steps from the next record on are those from this one, after the first
 pub link-next : (b : List ℕ) (i j : ℕ) → 0 < i → linkFrom b i (suc j) ≡ linkFrom b (nextOf b i) j
 unfolding linkFrom

@@ -9,7 +9,7 @@ use borrow.Author.Tests.{leb-true, eqb-true, ne-eqb}
 use Rattle.field.specs.declared.Verdict.the-variants.{Accepted}
 use Rattle.field.proofs.Verdicts.{need-true, then-left, then-right, plus-right, all-each}
 use Rattle.field.proofs.Ranges.{within-means, field-bound, fields-bound}
-use Rattle.book.specs.Layout.{lastClass, records, chains, headOf, classOf, nextOf, fieldOf, mostRate, curveLift, curveSpan, costPlace, curvePlace, mortalityPlace}
+use Rattle.book.specs.Layout.{lastClass, lowestClass, records, chains, headOf, classOf, nextOf, fieldOf, mostRate, curveLift, curveSpan, costPlace, curvePlace, mortalityPlace}
 use Rattle.book.specs.Check.{checkSpare, checkHeader, checkTables, checkOwner, checkClass, checkAmounts, endsRight, checkLink, checkFrom, checkChain, checkChains, checkBook}
 use Rattle.book.specs.Rules.{HeaderRules, TableRules, RecordRules}
 use Rattle.book.specs.Reading.{ChainFrom, ValidBook}
@@ -19,7 +19,12 @@ module _ (b : List ℕ) (last k : ℕ) where
   -- the class of an accepted record is left below the last
   link-class-is : (left i m : ℕ) → checkLink b last k left i ≡ Accepted m → classOf b i ≡ last - left
   unfolding checkClass classOf
-  link-class-is left i m e = eqb-true _ _ (need-true _ _ _ _ (link-class b last k left i m e))
+  link-class-is left i m e = eqb-true _ _ (need-true _ _ _ _ (then-right _ _ _ (link-class b last k left i m e)))
+
+  -- and not below the lowest
+  link-class-low : (left i m : ℕ) → checkLink b last k left i ≡ Accepted m → lowestClass last ≤ classOf b i
+  unfolding checkClass classOf
+  link-class-low left i m e = leb-true _ _ (need-true _ _ _ _ (then-left _ _ _ (link-class b last k left i m e)))
 
   -- where the chain ends
   link-end-is : (i m : ℕ) → checkLink b last k 0 i ≡ Accepted m → nextOf b i ≡ 0
@@ -44,6 +49,7 @@ module _ (b : List ℕ) (last k : ℕ) where
         sex = eqb-true _ _ (need-true _ _ _ _ (then-right _ _ _ o₂));
         spare = eqb-true _ _ (need-true _ _ _ _ (then-right _ _ _ o₁));
         spare-two = eqb-true _ _ (need-true _ _ _ _ (then-right _ _ _ o));
+        class-low = link-class-low left i m e;
         class-high = omega (arith, link-class-is left i m e);
         count = field-bound _ _ _ _ _ _ (then-left _ _ _ a₂);
         lapse = field-bound _ _ _ _ _ _ (then-right _ _ _ a₂);

@@ -1,5 +1,5 @@
 -- The check of a book, in the order of its refusals: the first that applies is given, with its number and its place.
--- basis is the age basis that the book must have, last its last class.
+-- basis is the age basis that the book must have, last its last class, lowest its lowest.
 use Prim.Native.Nat.{ℕ, zero, suc, _+_, _-_, _*_}
 use mathlib.Core.List.{List}
 use mathlib.Core.Bool.{Bool, not}
@@ -10,7 +10,7 @@ use Rattle.field.specs.Verdicts.{pick, need, _andThen_, plus, joinAll}
 use Rattle.field.specs.Fields.{within, checkField, checkFields}
 use Rattle.field.specs.declared.Verdict.{Verdict}
 use Rattle.field.specs.declared.Verdict.the-variants.{Accepted}
-use Rattle.book.specs.Layout.{headerSize, recordSize, mostRecords, lastClass, edition, ageBasis, sstYear, records, spareBytes, chains, chainCode, chainSex, headPlace, headOf, costPlace, curvePlace, mortalityPlace, mostRate, curveLift, curveSpan, recordAt, classOf, nextOf, countOffset, lapseOffset, premiumOffset, claimsOffset, mostCount, mostAmount}
+use Rattle.book.specs.Layout.{headerSize, recordSize, mostRecords, lastClass, lowestClass, edition, ageBasis, sstYear, records, spareBytes, chains, chainCode, chainSex, headPlace, headOf, costPlace, curvePlace, mortalityPlace, mostRate, curveLift, curveSpan, recordAt, classOf, nextOf, countOffset, lapseOffset, premiumOffset, claimsOffset, mostCount, mostAmount}
 use Rattle.book.specs.Cells.{holds}
 
 -- 4, of bytes 6 and 7
@@ -42,9 +42,12 @@ checkOwner b k at =
     need (eqb (byteAt b (at + 3)) 0) 10 at andThen
     need (eqb (readU16 b (at + 6)) 0) 10 at
 
--- 11: it has the class that its chain asks for
-unfoldable pub checkClass : List ℕ → ℕ → ℕ → Verdict
-checkClass b class at = need (eqb (byteAt b (at + 2)) class) 11 (at + 2)
+-- 21: its class is not below the lowest; 11: it is the class that its chain asks for. On basis 1 the lowest is 0: no
+-- class is below that, and 21 is never given.
+unfoldable pub checkClass : List ℕ → ℕ → ℕ → ℕ → Verdict
+checkClass b lowest class at =
+    need (leb lowest (byteAt b (at + 2))) 21 (at + 2) andThen
+    need (eqb (byteAt b (at + 2)) class) 11 (at + 2)
 
 -- 12: count, lapse, premium and claims are not too large
 unfoldable pub checkAmounts : List ℕ → ℕ → Verdict
@@ -58,11 +61,11 @@ checkAmounts b at =
 unfoldable pub endsRight : ℕ → ℕ → Bool
 endsRight left next = pick (eqb left 0) (eqb next 0) (not (eqb next 0))
 
--- record i of chain k, with left classes above its own: 10 to 12, 13 for its end, then 9 for its next
+-- record i of chain k, with left classes above its own: 10, 21, 11, 12, 13 for its end, then 9 for its next
 unfoldable pub checkLink : List ℕ → ℕ → ℕ → ℕ → ℕ → Verdict
 checkLink b last k left i =
     checkOwner b k (recordAt i) andThen
-    checkClass b (last - left) (recordAt i) andThen
+    checkClass b (lowestClass last) (last - left) (recordAt i) andThen
     checkAmounts b (recordAt i) andThen
     need (endsRight left (nextOf b i)) 13 (recordAt i + 4) andThen
     need (leb (nextOf b i) (records b)) 9 (recordAt i + 4)
@@ -74,7 +77,8 @@ checkFrom b last k (suc left) i =
     checkLink b last k (suc left) i andThen
     plus (holds b i) (checkFrom b last k left (nextOf b i))
 
--- chain k: 9 for its head, then its records. The first may have any class up to the last; above that none is left, and it is 11.
+-- chain k: 9 for its head, then its records. The first may have any class from the lowest to the last; above that none
+-- is left, and it is 11.
 unfoldable pub checkChain : List ℕ → ℕ → ℕ → Verdict
 checkChain b last k =
     pick (eqb (headOf b k) 0) (Accepted 0)

@@ -15,9 +15,14 @@ recordSize = 24
 abbrev pub mostRecords : ℕ
 mostRecords = 1694
 
--- the last class of an age basis: 120 on basis 1, whose class is the SST year less birth year less 1 (FINMA 4.3)
+-- The last class of an age basis: 120 on basis 1, where a class is the SST year less birth year less 1 (FINMA 4.3);
+-- 121 on basis 2, where it is the SST year less birth year (W-204).
 abbrev pub lastClass : ℕ → ℕ
 lastClass basis = 119 + basis
+
+-- the lowest class, 120 below the last: 0 on basis 1, 1 on basis 2
+abbrev pub lowestClass : ℕ → ℕ
+lowestClass last = last - 120
 
 -- The header: edition, age basis, SST year, number of records N, and two spare bytes.
 abbrev pub edition : List ℕ → ℕ

@@ -5,7 +5,7 @@ use mathlib.Core.List.{List}
 use lib.ListN.{length}
 use Rattle.field.specs.Bytes.{byteAt, readU16, readU32}
 use Rattle.field.specs.Fields.{raised}
-use Rattle.book.specs.Layout.{headerSize, recordSize, mostRecords, lastClass, edition, ageBasis, sstYear, records, spareBytes, chains, chainCode, chainSex, headOf, costPlace, curvePlace, mortalityPlace, mostRate, curveLift, curveSpan, recordAt, codeOf, sexOf, classOf, nextOf, fieldOf, countOffset, lapseOffset, premiumOffset, claimsOffset, mostCount, mostAmount, linkAt}
+use Rattle.book.specs.Layout.{headerSize, recordSize, mostRecords, lastClass, lowestClass, edition, ageBasis, sstYear, records, spareBytes, chains, chainCode, chainSex, headOf, costPlace, curvePlace, mortalityPlace, mostRate, curveLift, curveSpan, recordAt, codeOf, sexOf, classOf, nextOf, fieldOf, countOffset, lapseOffset, premiumOffset, claimsOffset, mostCount, mostAmount, linkAt}
 
 pub record HeaderRules (basis : ℕ) (b : List ℕ) : Type 0 where
   pub edition-one : edition b ≡ 1
@@ -29,6 +29,7 @@ pub record RecordRules (b : List ℕ) (last k i : ℕ) : Type 0 where
   pub sex : sexOf b i ≡ chainSex k
   pub spare : byteAt b (recordAt i + 3) ≡ 0
   pub spare-two : readU16 b (recordAt i + 6) ≡ 0
+  pub class-low : lowestClass last ≤ classOf b i
   pub class-high : classOf b i ≤ last
   pub count : fieldOf b i countOffset ≤ mostCount
   pub lapse : fieldOf b i lapseOffset ≤ mostRate

@@ -3,7 +3,7 @@
 ghost use mathlib.Core.Path.{_≡_};
 ghost use Prim.Native.Nat.{_+_, _*_, _≤_, _<_};
 ghost use lib.ListN.{length};
-ghost use Rattle.book.specs.Layout.{headerSize, lastClass, records, headOf, recordAt, classOf, nextOf, fieldOf};
+ghost use Rattle.book.specs.Layout.{headerSize, lastClass, lowestClass, records, headOf, recordAt, classOf, nextOf, fieldOf};
 ghost use Rattle.book.specs.Cells.{holds};
 ghost use Rattle.book.specs.Check.{checkAmounts};
 ghost use Rattle.book.specs.Reading.{Inside};
@@ -55,6 +55,14 @@ pub fn last_class(basis: usize) -> usize
     ensures { λ r. ⌜ r ≡ lastClass basis ⌝ }
 {
     119 + basis
+}
+
+// The lowest class, by the last.
+pub fn lowest_class(last: usize) -> usize
+    requires { ⌜ 120 ≤ last ⌝ }
+    ensures { λ r. ⌜ r ≡ lowestClass last ⌝ }
+{
+    last - 120
 }
 
 // N, the number of records.
@@ -124,4 +132,11 @@ pub fn check_amounts(b: &[u8], at: usize) -> Verdict
     let premium = field::check_field(b, 12, 0, MOST_AMOUNT, at + PREMIUM_OFFSET);
     let claims = field::check_field(b, 12, 0, MOST_AMOUNT, at + CLAIMS_OFFSET);
     count.and_then(lapse).and_then(premium).and_then(claims)
+}
+
+// Zeros, one more than the longest book has bytes: a program that reads a longer input still refuses it for its length.
+pub fn room() -> [u8; 41_877]
+    ensures { λ r. ⌜ 41_877 ≡ length r ⌝ }
+{
+    [0; 41_877]
 }

@@ -5,6 +5,7 @@ use Prim.Native.Nat.{ℕ}
 use lib.ListN.{length}
 use Rattle.field.specs.Verdicts.{refusalOf, placeOf, countOf}
 use Rattle.field.specs.declared.Verdict.{Verdict}
+use Rattle.conversion.specs.Conversion.{convertCheck, ConvertPromised}
 use Rattle.reckoning.specs.Replies.{refusalIn, placeIn, liabilityIn, countIn, groupReply, GroupPromised}
 use Rattle.reckoning.specs.declared.GroupReply.{GroupReply}
 use Rattle.year_report.specs.Report.{reportRefusal, reportPlace, reportLength, writeReply, roomReply}
@@ -39,3 +40,9 @@ pub record ReportHanded (b : List ℕ) (setting : ℕ) (before after : List ℕ)
 pub record RoomHanded (b : List ℕ) (setting : ℕ) (r : ReportFields) : Type 0 where
   pub fields-are : r ≡ reportFields (roomReply b setting)
   pub promised : RoomPromised b setting (roomReply b setting)
+
+-- the converter across the boundary: the fields are those of the verdict as defined, and of that verdict and the lent
+-- buffer all holds that the converter promises
+pub record ConvertHanded (b before after : List ℕ) (r : VerdictFields) : Type 0 where
+  pub fields-are : r ≡ verdictFields (convertCheck b (length before))
+  pub promised : ConvertPromised b before after (convertCheck b (length before))

@@ -5,7 +5,7 @@ ghost use Rattle.book.specs.Check.{checkBook};
 ghost use Rattle.look.specs.Looker.{locatedIn};
 ghost use Rattle.reckoning.specs.Totals.{TotalsPromised};
 ghost use Rattle.accounts.specs.Replies.{RatesPromised};
-ghost use Rattle.boundary.specs.Boundary.{verdictFields, GroupHanded};
+ghost use Rattle.boundary.specs.Boundary.{verdictFields, GroupHanded, ConvertHanded};
 ghost use Rattle.boundary.specs.Boundary.{reportFields, ReportHanded, RoomHanded};
 use accounts::Accounts;
 use accounts::CostRates;
@@ -32,11 +32,9 @@ pub struct GroupFields {
     pub n: u64,
 }
 
-#[no_mangle]
-pub extern "C" fn xaropinto_check(book: &[u8]) -> VerdictFields
-    ensures { λ r. ⌜ r ≡ verdictFields (checkBook 1 (now (book .entry))) ⌝ }
+fn in_fields(v: Verdict) -> VerdictFields
+    ensures { λ r. ⌜ r ≡ verdictFields v ⌝ }
 {
-    let v = acceptance::check(book);
     match v {
         Verdict::Accepted(n) => VerdictFields {
             refusal: 0,
@@ -49,6 +47,13 @@ pub extern "C" fn xaropinto_check(book: &[u8]) -> VerdictFields
             n: 0,
         },
     }
+}
+
+#[no_mangle]
+pub extern "C" fn xaropinto_check(book: &[u8]) -> VerdictFields
+    ensures { λ r. ⌜ r ≡ verdictFields (checkBook 1 (now (book .entry))) ⌝ }
+{
+    in_fields(acceptance::check(book))
 }
 
 #[no_mangle]
@@ -135,4 +140,11 @@ pub extern "C" fn xaropinto_report_room(book: &[u8], setting: usize) -> ReportFi
     ensures { λ r. ⌜ RoomHanded (now (book .entry)) setting r ⌝ }
 {
     report_fields(year_report::report_room(book, setting))
+}
+
+#[no_mangle]
+pub extern "C" fn xaropinto_convert(book: &[u8], out: &mut [u8]) -> VerdictFields
+    ensures { λ r. ⌜ ConvertHanded (now (book .entry)) (now (out .entry)) (now (out .exit)) r ⌝ }
+{
+    in_fields(conversion::convert(book, out))
 }

@@ -5,8 +5,8 @@ use lib.IntN.{ℤ, negsuc}
 use lib.ListN.{replicate}
 use Rattle.book.proofs.Trials.{t11}
 use Rattle.reckoning.specs.Totals.{totalsReply}
-use Rattle.text.specs.Text.{spelled, decimal, signed, ended, signedEnded, joined}
-use Rattle.lines.specs.Listing.{listingLine, lineOf, listingText, refusalText, listingOf}
+use Rattle.text.specs.Text.{spelled, decimal, signed, ended, signedEnded, refusalText, joined}
+use Rattle.lines.specs.Listing.{listingLine, lineOf, listingText, listingOf}
 
 -- the totals of the paper's book: -100000 five times, -80000, -120000, -60000
 abbrev pub paperTotals : List ℤ

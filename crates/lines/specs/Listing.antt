@@ -1,12 +1,12 @@
 -- What the listing program writes on a book: eight lines, one a setting, or one line for the refusal. In bytes.
-use mathlib.Core.List.{List, [], _∷_, _++_}
+use mathlib.Core.List.{List, _++_}
 use Prim.Native.Nat.{ℕ, _≤_}
 use lib.Dec.{eqb}
 use lib.IntN.{ℤ, pos}
 use lib.ListN.{length, getD}
 use Rattle.field.specs.Verdicts.{pick}
 use Rattle.reckoning.specs.declared.TotalsReply.{TotalsReply}
-use Rattle.text.specs.Text.{ended, signedEnded, joined, Delivered}
+use Rattle.text.specs.Text.{ended, signedEnded, refusalText, joined, Delivered}
 
 -- a setting's line: the setting, its total, n; a blank (32) after the first two, the line's end (10) after n
 unfoldable pub listingLine : ℕ → ℤ → ℕ → List ℕ
@@ -19,14 +19,6 @@ lineOf totals n setting = listingLine setting (getD totals setting (pos 0)) n
 -- the listing of an accepted book: the lines of settings 0 to 7, in this order
 unfoldable pub listingText : List ℤ → ℕ → List ℕ
 listingText totals n = joined (lineOf totals n) 8
-
--- the word `refused` and a blank
-abbrev pub refusedWord : List ℕ
-refusedWord = 114 ∷ 101 ∷ 102 ∷ 117 ∷ 115 ∷ 101 ∷ 100 ∷ 32 ∷ []
-
--- the line of a refused book: that word, the refusal's number and its place
-unfoldable pub refusalText : ℕ → ℕ → List ℕ
-refusalText number place = refusedWord ++ ended number 32 ++ ended place 10
 
 -- the text of a reply: the listing where no refusal is given (0), else the refusal's line
 unfoldable pub listingOf : TotalsReply → List ℕ

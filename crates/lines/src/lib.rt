@@ -1,12 +1,12 @@
 // The listing, as text in a lent buffer: eight lines where Totals reckons, one line where it refuses.
 use reckoning::TotalsReply;
-use text::put_bytes;
 use text::put_ended;
+use text::put_refusal;
 use text::put_signed_ended;
 ghost use Prim.Native.Nat.{_+_, _<_, _≤_, _^_};
 ghost use Rattle.reckoning.specs.Totals.{totalsReply};
 ghost use Rattle.text.specs.Text.{Wrote};
-ghost use Rattle.lines.specs.Listing.{listingLine, listingText, refusalText, listingOf, Listed};
+ghost use Rattle.lines.specs.Listing.{listingLine, listingText, listingOf, Listed};
 
 fn put_line(out: &mut [u8], at: usize, setting: u64, total: i64, n: u64) -> usize
     requires { ⌜ at + 65 < 2 ^ 64 ⌝ }
@@ -25,15 +25,6 @@ fn put_listing(out: &mut [u8], totals: [i64; 8], n: u64) -> usize
         at = put_line(out, at, setting as u64, totals[setting], n);
     }
     at
-}
-
-// The line of a refusal, for the programs.
-pub fn put_refusal(out: &mut [u8], number: u64, place: u64) -> usize
-    ensures { λ r. ⌜ Wrote (now (out .entry)) 0 (refusalText number place) (now (out .exit)) r × (r ≤ 512) ⌝ }
-{
-    let number_at = put_bytes(out, 0, b"refused ");
-    let place_at = put_ended(out, number_at, number, b' ');
-    put_ended(out, place_at, place, b'\n')
 }
 
 fn put_reply(out: &mut [u8], reply: TotalsReply) -> usize

@@ -1,4 +1,4 @@
-// One linked record: refusals 10 to 13, then 9 for its next.
+// One linked record: refusals 10, 21, 11, 12 and 13, then 9 for its next.
 // The functions ask for the record's bytes: they are for the check, which has shown that they are there.
 ghost use mathlib.Core.Path.{_≡_};
 ghost use Prim.Native.Nat.{_+_, _≤_, _<_};
@@ -22,12 +22,13 @@ fn check_owner(b: &[u8], k: usize, at: usize) -> Verdict
         .require(spare_two == 0, 10, at)
 }
 
-// Refusal 11.
-fn check_class(b: &[u8], class: usize, at: usize) -> Verdict
+// Refusal 21, then 11.
+fn check_class(b: &[u8], lowest: usize, class: usize, at: usize) -> Verdict
     requires { ⌜ at + 24 ≤ length (now b) ⌝ }
-    ensures { λ r. ⌜ r ≡ checkClass (now (b .entry)) class at ⌝ }
+    ensures { λ r. ⌜ r ≡ checkClass (now (b .entry)) lowest class at ⌝ }
 {
-    field::need(field::read_u8(b, at + 2) == class, 11, at + 2)
+    let found = field::read_u8(b, at + 2);
+    field::need(lowest <= found, 21, at + 2).require(found == class, 11, at + 2)
 }
 
 // A chain ends where no class is left, and nowhere else.
@@ -37,16 +38,16 @@ fn ends_right(left: usize, next: usize) -> bool
     if left == 0 { next == 0 } else { next != 0 }
 }
 
-// Refusals 10 to 13 of record i in chain k, with left classes above its own, then 9 of its next.
+// Record i in chain k, with left classes above its own: its refusals, then 9 of its next.
 pub fn check_link(b: &[u8], last: usize, k: usize, left: usize, i: usize) -> Verdict
-    requires { ⌜ (k < 14) × (left ≤ last) × Inside (now b) i ⌝ }
+    requires { ⌜ (k < 14) × (left ≤ last) × (120 ≤ last) × Inside (now b) i ⌝ }
     ensures { λ r. ⌜ r ≡ checkLink (now (b .entry)) last k left i ⌝ }
 {
     let count = book::records(b);
     let next = book::next_of(b, i);
     let at = book::record_at(i);
     let owner = check_owner(b, k, at);
-    let class = check_class(b, last - left, at);
+    let class = check_class(b, book::lowest_class(last), last - left, at);
     let amounts = book::check_amounts(b, at);
     owner
         .and_then(class)

@@ -53,7 +53,7 @@ fn main() {
             io::write_all(STDOUT_FILENO, &text[..end]);
         }
         ReportReply::Refused(number, place) => {
-            let end = lines::put_refusal(&mut text, number, place as u64);
+            let end = text::put_refusal(&mut text, number, place as u64);
             io::write_all(STDOUT_FILENO, &text[..end]);
         }
     }

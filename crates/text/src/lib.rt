@@ -6,7 +6,7 @@ ghost use Prim.Native.Nat.{_+_, _<_, _≤_, _^_};
 ghost use lib.ListN.{length};
 ghost use lib.IntN.{pos, natAbs};
 ghost use lib.Signed.{_<ℤ_};
-ghost use Rattle.text.specs.Text.{decimal, signed, ended, signedEnded, Wrote};
+ghost use Rattle.text.specs.Text.{decimal, signed, ended, signedEnded, refusalText, Wrote};
 
 pub fn put_byte(out: &mut [u8], at: usize, b: u8) -> usize
     requires { ⌜ at + 1 < 2 ^ 64 ⌝ }
@@ -84,4 +84,13 @@ pub fn put_signed_ended(out: &mut [u8], at: usize, v: i64, b: u8) -> usize
 {
     let next = put_signed(out, at, v);
     put_byte(out, next, b)
+}
+
+// The line of a refusal, from the buffer's start.
+pub fn put_refusal(out: &mut [u8], number: u64, place: u64) -> usize
+    ensures { λ r. ⌜ Wrote (now (out .entry)) 0 (refusalText number place) (now (out .exit)) r × (r ≤ 50) ⌝ }
+{
+    let number_at = put_bytes(out, 0, b"refused ");
+    let place_at = put_ended(out, number_at, number, b' ');
+    put_ended(out, place_at, place, b'\n')
 }

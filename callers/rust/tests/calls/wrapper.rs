@@ -18,3 +18,36 @@ fn a_refusal_reads_as_the_program_writes_it() {
     let refusal = xaropinto::check(&[0; 1_220]).expect_err("zeros are no book");
     assert_eq!(refusal.to_string(), "refused 2 0");
 }
+
+/// The book on age basis 2 that becomes this one, whose records are all linked.
+fn on_basis_2(book: &[u8]) -> Vec<u8> {
+    let mut newer = book.to_vec();
+    newer[1] = 2;
+    for start in (1_220..newer.len()).step_by(24) {
+        newer[start + 2] += 1;
+    }
+    newer
+}
+
+#[test]
+fn a_book_of_basis_2_becomes_that_of_basis_1() {
+    let book = full_book(&mut Chooser::new(121), Kind::Anywhere);
+    let mut out = vec![0xa5; book.len() + 7];
+    let accepted = xaropinto::convert(&on_basis_2(&book), &mut out);
+    assert_eq!(accepted, xaropinto::check(&book));
+    assert_eq!(out[..book.len()], book);
+    assert_eq!(out[book.len()..], [0xa5; 7]);
+}
+
+#[test]
+fn a_refused_conversion_leaves_the_buffer() {
+    let mut book = on_basis_2(&full_book(&mut Chooser::new(121), Kind::Anywhere));
+    let mut short = vec![0xa5; book.len() - 1];
+    let refusal = xaropinto::convert(&book, &mut short).expect_err("a byte is missing");
+    assert_eq!((refusal.number, refusal.place), (16, 0));
+    book[1] = 1;
+    let mut out = vec![0xa5; book.len()];
+    let refusal = xaropinto::convert(&book, &mut out).expect_err("basis 1 is not converted");
+    assert_eq!((refusal.number, refusal.place), (3, 1));
+    assert!(short.iter().chain(&out).all(|byte| *byte == 0xa5));
+}

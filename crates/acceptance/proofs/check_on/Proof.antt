@@ -23,7 +23,8 @@ returns-2 c =
 
 check-chains-requires : tie.Need-check-chains-requires
 check-chains-requires c κs =
-    (omega arith, header-sized _ _ _ (then-left _ _ _ (sym (stages (c .before .before .before)) ∙ c .before .enum-told .given .1)))
+    let e = sym (stages (c .before .before .before)) ∙ c .before .enum-told .given .1 in
+    (omega arith, omega arith, header-sized _ _ _ (then-left _ _ _ e))
 
 returns-3 : tie.Need-returns-3
 returns-3 c =

@@ -1,4 +1,5 @@
 -- `lines::put_reply` meets its contract: the listing where the refusal is 0, else the refusal's line. Assumes nothing.
+use native.Mathlib.Omega.{arith}
 use borrow.Author.Needs.{needs}
 use borrow.Author.Tests.{eq-eqb, ne-eqb}
 use Rattle.lines.specs.Listing.{listingOf}
@@ -15,7 +16,8 @@ returns-2 : tie.Need-returns-2
 unfolding listingOf
 returns-2 c =
     let i = c .before .before .before .before in
-    rw (ne-eqb (i .before .before .before .args .reply .refusal) 0 (i .if1 .left)) (c .before .before .put-refusal .ensures)
+    let put = c .before .before .put-refusal .ensures in
+    rw (ne-eqb (i .before .before .before .args .reply .refusal) 0 (i .if1 .left)) (put .0, omega (arith, put .1))
 
 pub put-reply-spec : {M : Type 1} → statement M
 put-reply-spec =

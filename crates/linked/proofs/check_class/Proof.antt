@@ -8,10 +8,11 @@ returns : tie.Need-returns
 unfolding checkClass
 returns c =
     rw (
-      c .need .ensures,
-      c .before .read-u8 .ensures .0,
+      c .require .ensures,
+      c .before .need .ensures,
+      c .before .before .read-u8 .ensures .0,
     )
 
 pub check-class-spec : {M : Type 1} → statement M
 check-class-spec = tie.close
-    (tie.spec (search needs) (search needs) (search needs) (search needs) returns)
+    (tie.spec (search needs) (search needs) (search needs) (search needs) (search needs) (search needs) returns)

@@ -15,14 +15,16 @@ returns c =
       c .before .before .before .before .and-then .ensures,
       c .before .before .before .before .before .check-amounts .ensures,
       c .before .before .before .before .before .before .check-class .ensures,
-      c .before .before .before .before .before .before .before .check-owner .ensures,
-      c .before .before .before .before .before .before .before .before .record-at .ensures,
-      c .before .before .before .before .before .before .before .before .before .next-of .ensures .0,
-      c .before .before .before .before .before .before .before .before .before .before .records .ensures .0,
+      c .before .before .before .before .before .before .before .lowest-class .ensures,
+      c .before .before .before .before .before .before .before .before .check-owner .ensures,
+      c .before .before .before .before .before .before .before .before .before .record-at .ensures,
+      c .before .before .before .before .before .before .before .before .before .before .next-of .ensures .0,
+      c .before .before .before .before .before .before .before .before .before .before .before .records .ensures .0,
     )
 
 pub check-link-spec : {M : Type 1} → statement M
 check-link-spec =
     tie.close
     (tie.spec (search needs) (search needs) (search needs) (search needs) (search needs) (search needs) (search needs)
-    (search needs) (search needs) (search needs) (search needs) (search needs) (search needs) (search needs) returns)
+    (search needs) (search needs) (search needs) (search needs) (search needs) (search needs) (search needs)
+    (search needs) returns)
