@@ -5,22 +5,23 @@
  * accounts whole francs.
  *
  * Buffers. The caller owns all that it lends. A call only reads the book. Group writes to numbers 0 to 199 of the
- * table, Report to the first bytes of its buffer, Convert to as many first bytes of `out` as the book has; nothing
- * else is written. Accounts are handed over by value: no call sees the caller's own. No call keeps a pointer after it
- * returns, and none allocates.
+ * table, Report to the first bytes of its buffer, Convert to as many first bytes of `out` as the book has, Write to as
+ * many as the book has that it makes, Read to as many first numbers of each list as the book has linked records;
+ * nothing else is written. Accounts and values are handed over by value: no call sees the caller's own. No call keeps
+ * a pointer after it returns, and none allocates.
  *
- * Pointers. Each must be valid for its length and must not be null, also where the length is 0. The table must be
- * aligned for uint64_t; a buffer of bytes may start anywhere. What is written must overlap neither the book nor
- * anything else that is lent at the time.
+ * Pointers. Each must be valid for its length and must not be null, also where the length is 0. The table and the
+ * lists must be aligned for uint64_t; a buffer of bytes may start anywhere. What is written must overlap neither the
+ * book nor anything else that is lent at the time; lists that Write only reads may be one and the same.
  *
  * Threads. Calls may run at the same time in several threads. While a call runs, no other thread may write to its
- * book, nor read or write what the call writes. Calls may share a book; each call that writes needs a table or buffer
- * of its own.
+ * book or to lists that are only read, nor read or write what the call writes. Calls may share a book; each call that
+ * writes needs a table, buffer or lists of its own.
  *
  * Stack. A call takes what it needs from the caller's stack, and no proof says how much. A process that runs out of
  * stack stops. Beside what its own functions need, give a thread 40 KiB for Report, 32 KiB for Totals, 16 KiB for
- * Group and for the cost rates, 8 KiB for the others. Measured, in a first call that is bound as it is called: 21,303
- * bytes, 19,191, 6,071 and 5,735, and 3,319.
+ * Group, for the cost rates, for Write and for Read, 8 KiB for the others. Measured, in a first call that is bound as
+ * it is called: 21,303 bytes; 19,191; 6,071, 5,735, 10,808 and 8,248; and 3,319.
  *
  * Replies. A refusal of 0 means accepted. Otherwise `refusal` says which rule is broken and `place` where; every
  * other field of the reply is 0, and what was lent is as it was. No earlier call is trusted: each checks the whole
@@ -51,12 +52,16 @@
  *   19       no cost rate is above 1,000,000 millionths  0                           insurer's cost sheet
  *   20       the buffer is as long as Report room tells  0                           caller
  *   21       on age basis 2, a class is not 0            the record's first byte + 2 portfolio desk
+ *   22       lists and buffers have their lengths        0                           caller
  *
  * Where several rules are broken, the reply names one. 14 to 16 are tested first, in this order; then 1 to 8, also in
  * order, and where a number has several places it is given with the lowest. 9 to 13 come last, chain by chain and
  * record by record: docs/BOOK.md has their order. 20 is tested after all of them. 17 to 19 are those of accounts, and
  * are tested in this order: 17 on all figures before 18 on any. Convert alone reads books on age basis 2: there 3
  * means a basis that is not 2, 11 and 13 go by class 121 in place of 120, and 21 is tested between 10 and 11.
+ *
+ * Write refuses values and lists, not a book: each time with place 0, and in the order 11 (a first class above 121),
+ * 22, 4 (the year), 6, 7, 8, 12. Read refuses the book first, then gives 22.
  */
 #ifndef XAROPINTO_H
 #define XAROPINTO_H
@@ -92,6 +97,11 @@
 #define XAROPINTO_LAPSE_AT 12
 #define XAROPINTO_PREMIUM_AT 16
 #define XAROPINTO_CLAIMS_AT 20
+
+/* The first class of a chain that has no records. */
+#define XAROPINTO_NO_CLASS (XAROPINTO_LAST_CLASS + 1)
+#define XAROPINTO_CURVE_RATES 49
+#define XAROPINTO_MORTALITIES (2 * (XAROPINTO_LAST_CLASS + 1))
 
 /* The numbers that Group writes: four for each of fifty years. */
 #define XAROPINTO_TABLE_NUMBERS 200
@@ -160,6 +170,31 @@ typedef struct {
     uint64_t length;
 } xaropinto_report_reply;
 
+/* What a book says before its records, and where its chains begin; all numbers have 64 bits, so that none is cut before
+ * it is tested. cost_rates: PG1 to PG5. curve: the rates for k = 1 to 49. mortality: classes 0 to 120 of men, then of
+ * women. first_classes: of the 14 chains in the order of their heads, 121 for a chain that has no records. */
+typedef struct {
+    uint64_t year;
+    uint64_t cost_rates[XAROPINTO_PRODUCT_GROUPS];
+    int64_t curve[XAROPINTO_CURVE_RATES];
+    uint64_t mortality[XAROPINTO_MORTALITIES];
+    uint64_t first_classes[XAROPINTO_CHAINS];
+} xaropinto_values;
+
+/* length: of the book that was written. */
+typedef struct {
+    uint64_t refusal;
+    uint64_t place;
+    uint64_t length;
+} xaropinto_write_reply;
+
+/* values: of the book that was read. */
+typedef struct {
+    uint64_t refusal;
+    uint64_t place;
+    xaropinto_values values;
+} xaropinto_read_reply;
+
 /* Check: is this a book? Refusals 1 to 13. */
 xaropinto_verdict xaropinto_check(const uint8_t *book, size_t length);
 
@@ -197,6 +232,24 @@ xaropinto_report_reply xaropinto_report_room(const uint8_t *book, size_t length,
  * the class of every linked record is one less, all else is as in the book. Later bytes are as they were. Check then
  * accepts the converted book with the same n. */
 xaropinto_verdict xaropinto_convert(const uint8_t *book, size_t length, uint8_t *out, size_t room);
+
+/* Write: the book of these values and lists, into the first bytes of `out`, which has room for so many. Refusals 11,
+ * 22, 4, 6, 7, 8, 12, each with place 0.
+ *
+ * Count, lapse, premium and claims are four lists of numbers. Each holds the lists of the chains end to end, in the
+ * order of the heads; a chain's has 121 less its first class, by rising class. 22 where one is shorter or longer than
+ * that, or where `out` has no room for the book: 1,220 bytes and 24 for each number of a list. */
+xaropinto_write_reply xaropinto_write(xaropinto_values values, const uint64_t *counts, size_t counts_length,
+                                      const uint64_t *lapses, size_t lapses_length, const uint64_t *premiums,
+                                      size_t premiums_length, const uint64_t *claims, size_t claims_length,
+                                      uint8_t *out, size_t room);
+
+/* Read: the values of a book, and its lists as Write takes them. Records that no chain links are left out. Refusals 1
+ * to 13; then 22 where a list has room for fewer numbers than the book has linked records. XAROPINTO_MOST_RECORDS are
+ * enough for any book. What Read gives of a book in chain order Write makes into the same bytes again. */
+xaropinto_read_reply xaropinto_read(const uint8_t *book, size_t length, uint64_t *counts, size_t counts_length,
+                                    uint64_t *lapses, size_t lapses_length, uint64_t *premiums,
+                                    size_t premiums_length, uint64_t *claims, size_t claims_length);
 
 #ifdef __cplusplus
 }

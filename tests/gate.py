@@ -29,7 +29,7 @@ def script(name, module, least, *words):
     return Part(name, [sys.executable, "-m", module, *words], least)
 
 
-PROOFS = Part("proofs, must-fail edits and programs", ["rt", "ci"], 141)
+PROOFS = Part("proofs, must-fail edits and programs", ["rt", "ci"], 182)
 # What runs after the proofs, in this order.
 OUTSIDE = [
     script("must-fail edits fit the proof files", "tests.must_fail_reasons", 2),
@@ -47,11 +47,12 @@ OUTSIDE = [
     script("sample books", "tools.sample_books", 33, "test"),
     script("random books against the second check", "tests.random_books.check", 16),
     script("random listings against the second reckoning and the fractions", "tests.random_books.listing", 21),
-    script("callers in C and Rust", "tests.callers", 126),
+    script("callers in C and Rust", "tests.callers", 151),
     script("calls from Python, on random books", "tests.calls.base", 22),
     script("cost rates from Python, on random accounts", "tests.calls.accounts", 38),
     script("calls of the report", "tests.calls.report", 22),
     script("conversions from Python, on random books", "tests.calls.convert", 61),
+    script("Write and Read from Python, on random values and lists", "tests.calls.desk", 23),
 ]
 PARTS = [PROOFS, *OUTSIDE]
 

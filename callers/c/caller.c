@@ -329,8 +329,10 @@ static void test_sizes(void)
 {
     test("replies_have_no_gaps", sizeof(xaropinto_verdict) == 24 && sizeof(xaropinto_group_reply) == 32 &&
                                      sizeof(xaropinto_totals_reply) == 120 && sizeof(xaropinto_record_reply) == 32 &&
-                                     sizeof(xaropinto_cost_rates_reply) == 56 && sizeof(xaropinto_report_reply) == 24);
+                                     sizeof(xaropinto_cost_rates_reply) == 56 && sizeof(xaropinto_report_reply) == 24 &&
+                                     sizeof(xaropinto_write_reply) == 24 && sizeof(xaropinto_read_reply) == 8 * 313);
     test("accounts_have_no_gaps", sizeof(xaropinto_accounts) == 48 * sizeof(uint64_t));
+    test("values_have_no_gaps", sizeof(xaropinto_values) == 311 * sizeof(uint64_t));
 }
 
 static void test_one_record(void)
@@ -696,6 +698,150 @@ static void test_convert(void)
     free(book.bytes);
 }
 
+/* ---- the desk that writes books ---- */
+
+enum { LISTS = 4, LIST_SIZE = 8, OUT_SIZE = 1300 };
+
+/* Four lists of so many numbers each. */
+typedef struct {
+    uint64_t numbers[LISTS][LIST_SIZE];
+    size_t length[LISTS];
+} lists;
+
+/* The paper's book: ten contracts of PG2 men at class 120. */
+static xaropinto_values one_record_values(void)
+{
+    xaropinto_values values;
+    memset(&values, 0, sizeof values);
+    values.year = 2021;
+    values.cost_rates[PG2 - 1] = 100000;
+    for (size_t chain = 0; chain < CHAINS; chain++)
+        values.first_classes[chain] = chain == PG2_MEN ? LAST_CLASS : XAROPINTO_NO_CLASS;
+    return values;
+}
+
+static lists one_record_lists(void)
+{
+    lists held = {{{10}, {0}, {100000}, {80000}}, {1, 1, 1, 1}};
+    return held;
+}
+
+static xaropinto_write_reply write_into(uint8_t *out, size_t room, xaropinto_values values, const lists *held)
+{
+    return xaropinto_write(values, held->numbers[0], held->length[0], held->numbers[1], held->length[1],
+                           held->numbers[2], held->length[2], held->numbers[3], held->length[3], out, room);
+}
+
+static xaropinto_read_reply read_into(lists *filled, parameter_book book)
+{
+    return xaropinto_read(book.bytes, book.length, filled->numbers[0], filled->length[0], filled->numbers[1],
+                          filled->length[1], filled->numbers[2], filled->length[2], filled->numbers[3],
+                          filled->length[3]);
+}
+
+/* The refusal is given with place 0, and every byte is as it was. */
+static int write_refused(xaropinto_values values, lists held, size_t room, uint64_t refusal)
+{
+    uint8_t out[OUT_SIZE];
+    memset(out, 0xA5, sizeof out);
+    xaropinto_write_reply reply = write_into(out, room, values, &held), due = {refusal, 0, 0};
+    int holds = memcmp(&reply, &due, sizeof due) == 0;
+    for (size_t i = 0; i < sizeof out; i++)
+        holds &= out[i] == 0xA5;
+    return holds;
+}
+
+static void test_write(void)
+{
+    uint8_t out[OUT_SIZE];
+    parameter_book book = one_record_book();
+    lists held = one_record_lists();
+    memset(out, 0xA5, sizeof out);
+    xaropinto_write_reply reply = write_into(out, sizeof out, one_record_values(), &held);
+    test("the_papers_book_is_written", reply.refusal == 0 && reply.place == 0 && reply.length == 1244 &&
+                                           memcmp(out, book.bytes, book.length) == 0);
+    int later = 1;
+    for (size_t i = book.length; i < sizeof out; i++)
+        later &= out[i] == 0xA5;
+    test("bytes_past_the_book_stay", later);
+    free(book.bytes);
+}
+
+/* Two chains: PG1a men of classes 119 and 120, PG1a women of class 120; a rate of -1 for k = 49. */
+static void test_links(void)
+{
+    uint8_t out[OUT_SIZE];
+    xaropinto_values values = one_record_values();
+    lists held = {{{1, 2, 3}, {4, 5, 6}, {7, 8, 9}, {10, 11, 12}}, {3, 3, 3, 3}};
+    values.first_classes[PG2_MEN] = XAROPINTO_NO_CLASS;
+    values.first_classes[0] = LAST_CLASS - 1;
+    values.first_classes[1] = LAST_CLASS;
+    values.curve[48] = -1;
+    xaropinto_write_reply reply = write_into(out, sizeof out, values, &held);
+    test("three_records_are_written", reply.refusal == 0 && reply.length == record_start(4));
+    test("heads_are_1_and_3_and_no_others", out[HEADS] == 1 && out[HEADS + 2] == 3 && out[HEADS + 4] == 0);
+    test("next_is_one_higher_but_a_chains_last", out[record_start(1) + XAROPINTO_NEXT_AT] == 2 &&
+                                                     out[record_start(2) + XAROPINTO_NEXT_AT] == 0 &&
+                                                     out[record_start(3) + XAROPINTO_NEXT_AT] == 0);
+    test("classes_rise_in_each_chain", out[record_start(1) + XAROPINTO_CLASS_AT] == 119 &&
+                                           out[record_start(2) + XAROPINTO_CLASS_AT] == 120 &&
+                                           out[record_start(3) + XAROPINTO_CLASS_AT] == 120);
+    test("lists_go_chain_by_chain", out[record_start(2) + XAROPINTO_COUNT_AT] == 2 &&
+                                        out[record_start(3) + XAROPINTO_PREMIUM_AT] == 9 &&
+                                        out[record_start(3) + XAROPINTO_CLAIMS_AT] == 12);
+    test("minus_one_is_four_bytes_of_255", memcmp(out + MORTALITY - 4, "\377\377\377\377", 4) == 0);
+}
+
+static void test_write_refusals(void)
+{
+    xaropinto_values good = one_record_values(), values = good;
+    lists held = one_record_lists(), broken = held;
+    values.mortality[241] = 1000001;
+    broken.numbers[3][0] = 10000001;
+    test("claims_too_large_are_12", write_refused(good, broken, OUT_SIZE, 12));
+    test("mortality_comes_before_the_lists", write_refused(values, broken, OUT_SIZE, 8));
+    values.curve[0] = -10001;
+    test("curve_comes_before_mortality", write_refused(values, broken, OUT_SIZE, 7));
+    values.cost_rates[4] = HIGH_BIT;
+    test("cost_rate_above_32_bits_is_6", write_refused(values, broken, OUT_SIZE, 6));
+    values.year = 65536 + 2021;
+    test("year_above_16_bits_is_4", write_refused(values, broken, OUT_SIZE, 4));
+    test("a_byte_too_few_is_22", write_refused(values, broken, 1243, 22));
+    broken.length[1] = 2;
+    test("a_longer_list_is_22", write_refused(values, broken, OUT_SIZE, 22));
+    broken.length[1] = 0;
+    test("a_shorter_list_is_22", write_refused(values, broken, OUT_SIZE, 22));
+    values.first_classes[13] = XAROPINTO_NO_CLASS + 1;
+    test("first_class_122_is_11", write_refused(values, broken, 0, 11));
+}
+
+static void test_read(void)
+{
+    parameter_book book = one_record_book();
+    xaropinto_values values = one_record_values();
+    lists held = one_record_lists(), filled;
+    for (size_t kind = 0; kind < LISTS; kind++) {
+        filled.length[kind] = LIST_SIZE;
+        for (size_t i = 0; i < LIST_SIZE; i++)
+            filled.numbers[kind][i] = mark(i);
+    }
+    lists untouched = filled;
+    filled.length[2] = 0;
+    xaropinto_read_reply reply = read_into(&filled, book), refused = {22, 0, {0, {0}, {0}, {0}, {0}}};
+    filled.length[2] = LIST_SIZE;
+    test("a_list_without_room_is_22_and_fills_nothing", memcmp(&reply, &refused, sizeof reply) == 0 &&
+                                                            memcmp(&filled, &untouched, sizeof filled) == 0);
+    reply = read_into(&filled, book);
+    int lists_hold = 1;
+    for (size_t kind = 0; kind < LISTS; kind++)
+        lists_hold &= filled.numbers[kind][0] == held.numbers[kind][0] &&
+                      marks_stand(filled.numbers[kind], 1, LIST_SIZE);
+    test("the_papers_book_is_read", reply.refusal == 0 && reply.place == 0 &&
+                                        memcmp(&reply.values, &values, sizeof values) == 0);
+    test("numbers_past_the_lists_stay", lists_hold);
+    free(book.bytes);
+}
+
 int main(void)
 {
     test_sizes();
@@ -715,6 +861,10 @@ int main(void)
     test_report();
     test_report_refusals();
     test_convert();
+    test_write();
+    test_links();
+    test_write_refusals();
+    test_read();
     printf("%d passed, %d failed\n", passed, failed);
     return failed != 0;
 }

@@ -66,6 +66,32 @@ class ReportReply(NamedTuple):
     length: int
 
 
+class Values(NamedTuple):
+    """A book's values: the SST year; 5 cost rates, 49 curve rates, 242 of mortality; the first classes of 14 chains."""
+
+    year: int
+    cost_rates: tuple
+    curve: tuple
+    mortality: tuple
+    first_classes: tuple
+
+
+class WriteReply(NamedTuple):
+    """The length of the book that was written."""
+
+    refusal: int
+    place: int
+    length: int
+
+
+class ReadReply(NamedTuple):
+    """The values of the book that was read; zeros where it is refused."""
+
+    refusal: int
+    place: int
+    values: Values
+
+
 class _Verdict(ctypes.Structure):
     _fields_ = [("refusal", ctypes.c_uint64), ("place", ctypes.c_uint64), ("n", ctypes.c_uint64)]
 
@@ -102,7 +128,21 @@ class _ReportReply(ctypes.Structure):
     _fields_ = [("refusal", ctypes.c_uint64), ("place", ctypes.c_uint64), ("length", ctypes.c_uint64)]
 
 
+class _Values(ctypes.Structure):
+    _fields_ = [("year", ctypes.c_uint64), ("cost_rates", ctypes.c_uint64 * 5), ("curve", ctypes.c_int64 * 49),
+                ("mortality", ctypes.c_uint64 * 242), ("first_classes", ctypes.c_uint64 * 14)]
+
+
+class _WriteReply(ctypes.Structure):
+    _fields_ = [("refusal", ctypes.c_uint64), ("place", ctypes.c_uint64), ("length", ctypes.c_uint64)]
+
+
+class _ReadReply(ctypes.Structure):
+    _fields_ = [("refusal", ctypes.c_uint64), ("place", ctypes.c_uint64), ("values", _Values)]
+
+
 _BOOK = [ctypes.c_char_p, ctypes.c_size_t]
+_LISTS = [ctypes.POINTER(ctypes.c_uint64), ctypes.c_size_t] * 4
 # How a buffer names numbers that may be unsigned and of 64 bits; its item size tells.
 _UNSIGNED = {order + letter for order in ("", "@", "=", "<") for letter in "QL"}
 
@@ -127,6 +167,10 @@ _REPORT = _declared("xaropinto_report", _ReportReply, ctypes.c_size_t,
                     ctypes.POINTER(ctypes.c_uint8), ctypes.c_size_t)
 _REPORT_ROOM = _declared("xaropinto_report_room", _ReportReply, ctypes.c_size_t)
 _CONVERT = _declared("xaropinto_convert", _Verdict, ctypes.POINTER(ctypes.c_uint8), ctypes.c_size_t)
+_READ = _declared("xaropinto_read", _ReadReply, *_LISTS)
+_WRITE = _LIBRARY.xaropinto_write
+_WRITE.restype = _WriteReply
+_WRITE.argtypes = [_Values, *_LISTS, ctypes.POINTER(ctypes.c_uint8), ctypes.c_size_t]
 
 
 def check(book):
@@ -213,6 +257,58 @@ def convert(book, out):
     return Verdict(reply.refusal, reply.place, reply.n)
 
 
+def write(values, counts, lapses, premiums, claims, out):
+    """The book of the values and lists, written into a buffer of bytes; its length.
+
+    The lists of one kind stand end to end, in head order, in one row of unsigned 64-bit numbers that can be
+    written, such as an `array.array("Q")`; each list has 121 less its chain's first class. Bytes of the buffer
+    past the book stay as they were.
+    """
+    lists = [_lent_table(numbers) for numbers in (counts, lapses, premiums, claims)]
+    room = _lent_buffer(out)
+    for numbers in lists:
+        _need_apart(numbers, room)
+    reply = _WRITE(_lent_values(values), *_with_lengths(lists), room, len(room))
+    return WriteReply(reply.refusal, reply.place, reply.length)
+
+
+def read(book, counts, lapses, premiums, claims):
+    """The values of a book; its lists fill the four rows, whose later numbers stay as they were."""
+    lists = [_lent_table(numbers) for numbers in (counts, lapses, premiums, claims)]
+    for at, numbers in enumerate(lists):
+        for others in lists[:at]:
+            _need_apart(numbers, others)
+    reply = _READ(*_lent_book(book), *_with_lengths(lists))
+    held = reply.values
+    values = Values(held.year, tuple(held.cost_rates), tuple(held.curve), tuple(held.mortality),
+                    tuple(held.first_classes))
+    return ReadReply(reply.refusal, reply.place, values)
+
+
+def _lent_values(values):
+    """The values in C's form; each table has the length that it must have, and each number fits."""
+    tables = []
+    for name, kind in _Values._fields_[1:]:
+        table = tuple(getattr(values, name))
+        if len(table) != kind._length_:
+            raise ValueError(f"{name} must have {kind._length_} numbers")
+        fits = _signed_word if name == "curve" else _word
+        tables.append(kind(*map(fits, table)))
+    return _Values(_word(values.year), *tables)
+
+
+def _with_lengths(lists):
+    """Each list and then its length."""
+    return [word for numbers in lists for word in (numbers, len(numbers))]
+
+
+def _need_apart(one, other):
+    """Two lent buffers, one of which the call writes, must not overlap."""
+    start, other_start = ctypes.addressof(one), ctypes.addressof(other)
+    if start < other_start + ctypes.sizeof(other) and other_start < start + ctypes.sizeof(one):
+        raise ValueError("buffers that are lent together must not overlap")
+
+
 def _lent_book(book):
     """Bytes that stay as they are during a call, and how many they are."""
     if not isinstance(book, bytes):
@@ -248,5 +344,12 @@ def _lent_buffer(out):
 def _word(number):
     """A number that fits; ctypes would cut it silently."""
     if not 0 <= number < WORD_LIMIT:
+        raise ValueError(f"{number} does not fit in 64 bits")
+    return number
+
+
+def _signed_word(number):
+    """The same of a signed number."""
+    if not -(WORD_LIMIT // 2) <= number < WORD_LIMIT // 2:
         raise ValueError(f"{number} does not fit in 64 bits")
     return number

@@ -58,6 +58,32 @@ pub struct ReportReply {
     pub length: u64,
 }
 
+/// What a book says before its records, and where its chains begin; `include/xaropinto.h` has
+/// the order of each table.
+#[repr(C)]
+#[derive(Clone, Copy, Debug, PartialEq, Eq)]
+pub struct Values {
+    pub year: u64,
+    pub cost_rates: [u64; 5],
+    pub curve: [i64; 49],
+    pub mortality: [u64; 242],
+    pub first_classes: [u64; 14],
+}
+
+#[repr(C)]
+pub struct WriteReply {
+    pub refusal: u64,
+    pub place: u64,
+    pub length: u64,
+}
+
+#[repr(C)]
+pub struct ReadReply {
+    pub refusal: u64,
+    pub place: u64,
+    pub values: Values,
+}
+
 extern "C" {
     pub fn xaropinto_check(book: *const u8, length: usize) -> Verdict;
 
@@ -87,4 +113,31 @@ extern "C" {
     pub fn xaropinto_report_room(book: *const u8, length: usize, setting: usize) -> ReportReply;
 
     pub fn xaropinto_convert(book: *const u8, length: usize, out: *mut u8, room: usize) -> Verdict;
+
+    pub fn xaropinto_write(
+        values: Values,
+        counts: *const u64,
+        counts_length: usize,
+        lapses: *const u64,
+        lapses_length: usize,
+        premiums: *const u64,
+        premiums_length: usize,
+        claims: *const u64,
+        claims_length: usize,
+        out: *mut u8,
+        room: usize,
+    ) -> WriteReply;
+
+    pub fn xaropinto_read(
+        book: *const u8,
+        length: usize,
+        counts: *mut u64,
+        counts_length: usize,
+        lapses: *mut u64,
+        lapses_length: usize,
+        premiums: *mut u64,
+        premiums_length: usize,
+        claims: *mut u64,
+        claims_length: usize,
+    ) -> ReadReply;
 }

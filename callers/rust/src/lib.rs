@@ -8,11 +8,11 @@ mod boundary;
 use std::error::Error;
 use std::fmt;
 
-pub use boundary::Accounts;
+pub use boundary::{Accounts, Values};
 
 use boundary::{
-    xaropinto_check, xaropinto_convert, xaropinto_cost_rates, xaropinto_group, xaropinto_record,
-    xaropinto_totals,
+    xaropinto_check, xaropinto_convert, xaropinto_cost_rates, xaropinto_group, xaropinto_read,
+    xaropinto_record, xaropinto_totals, xaropinto_write,
 };
 use boundary::{xaropinto_report, xaropinto_report_room};
 
@@ -158,6 +158,66 @@ pub fn convert(book: &[u8], out: &mut [u8]) -> Result<Accepted, Refusal> {
         unsafe { xaropinto_convert(book.as_ptr(), book.len(), out.as_mut_ptr(), out.len()) };
     unless_refused(reply.refusal, reply.place)?;
     Ok(Accepted { n: reply.n })
+}
+
+/// The book of these values and lists, in the first bytes of `out`; its length.
+///
+/// Each list holds the lists of the chains end to end; a chain's has 121 less its first class, by
+/// rising class.
+pub fn write(
+    values: &Values,
+    counts: &[u64],
+    lapses: &[u64],
+    premiums: &[u64],
+    claims: &[u64],
+    out: &mut [u8],
+) -> Result<usize, Refusal> {
+    // SAFETY: as in `group`; the lists are only read.
+    let reply = unsafe {
+        xaropinto_write(
+            *values,
+            counts.as_ptr(),
+            counts.len(),
+            lapses.as_ptr(),
+            lapses.len(),
+            premiums.as_ptr(),
+            premiums.len(),
+            claims.as_ptr(),
+            claims.len(),
+            out.as_mut_ptr(),
+            out.len(),
+        )
+    };
+    unless_refused(reply.refusal, reply.place)?;
+    Ok(reply.length as usize)
+}
+
+/// The values of a book; its lists fill the first numbers of the four lists, and all others stay as
+/// they were.
+pub fn read(
+    book: &[u8],
+    counts: &mut [u64],
+    lapses: &mut [u64],
+    premiums: &mut [u64],
+    claims: &mut [u64],
+) -> Result<Values, Refusal> {
+    // SAFETY: as in `group`; each list is lent to this call alone, so no two overlap.
+    let reply = unsafe {
+        xaropinto_read(
+            book.as_ptr(),
+            book.len(),
+            counts.as_mut_ptr(),
+            counts.len(),
+            lapses.as_mut_ptr(),
+            lapses.len(),
+            premiums.as_mut_ptr(),
+            premiums.len(),
+            claims.as_mut_ptr(),
+            claims.len(),
+        )
+    };
+    unless_refused(reply.refusal, reply.place)?;
+    Ok(reply.values)
 }
 
 fn unless_refused(number: u64, place: u64) -> Result<(), Refusal> {

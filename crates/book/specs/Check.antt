@@ -10,7 +10,7 @@ use Rattle.field.specs.Verdicts.{pick, need, _andThen_, plus, joinAll}
 use Rattle.field.specs.Fields.{within, checkField, checkFields}
 use Rattle.field.specs.declared.Verdict.{Verdict}
 use Rattle.field.specs.declared.Verdict.the-variants.{Accepted}
-use Rattle.book.specs.Layout.{headerSize, recordSize, mostRecords, lastClass, lowestClass, edition, ageBasis, sstYear, records, spareBytes, chains, chainCode, chainSex, headPlace, headOf, costPlace, curvePlace, mortalityPlace, mostRate, curveLift, curveSpan, recordAt, classOf, nextOf, countOffset, lapseOffset, premiumOffset, claimsOffset, mostCount, mostAmount}
+use Rattle.book.specs.Layout.{headerSize, recordSize, mostRecords, lastClass, lowestClass, edition, ageBasis, sstYear, firstYear, lastYear, records, spareBytes, chains, chainCode, chainSex, headPlace, headOf, costPlace, curvePlace, mortalityPlace, mostRate, curveLift, curveSpan, recordAt, classOf, nextOf, countOffset, lapseOffset, premiumOffset, claimsOffset, mostCount, mostAmount}
 use Rattle.book.specs.Cells.{holds}
 
 -- 4, of bytes 6 and 7
@@ -22,7 +22,7 @@ unfoldable pub checkHeader : ℕ → List ℕ → Verdict
 checkHeader basis b =
     need (eqb (edition b) 1) 2 0 andThen
     need (eqb (ageBasis b) basis) 3 1 andThen
-    need (within 2017 2100 (sstYear b)) 4 2 andThen
+    need (within firstYear lastYear (sstYear b)) 4 2 andThen
     need (leb (records b) mostRecords) 4 4 andThen
     checkSpare b andThen
     need (eqb (length b) (headerSize + recordSize * records b)) 5 (length b)

@@ -34,6 +34,13 @@ ageBasis b = byteAt b 1
 abbrev pub sstYear : List ℕ → ℕ
 sstYear b = readU16 b 2
 
+-- an SST year is from the first to the last, both allowed
+abbrev pub firstYear : ℕ
+firstYear = 2017
+
+abbrev pub lastYear : ℕ
+lastYear = 2100
+
 unfoldable pub records : List ℕ → ℕ
 records b = readU16 b 4
 

@@ -5,13 +5,13 @@ use mathlib.Core.List.{List}
 use lib.ListN.{length}
 use Rattle.field.specs.Bytes.{byteAt, readU16, readU32}
 use Rattle.field.specs.Fields.{raised}
-use Rattle.book.specs.Layout.{headerSize, recordSize, mostRecords, lastClass, lowestClass, edition, ageBasis, sstYear, records, spareBytes, chains, chainCode, chainSex, headOf, costPlace, curvePlace, mortalityPlace, mostRate, curveLift, curveSpan, recordAt, codeOf, sexOf, classOf, nextOf, fieldOf, countOffset, lapseOffset, premiumOffset, claimsOffset, mostCount, mostAmount, linkAt}
+use Rattle.book.specs.Layout.{headerSize, recordSize, mostRecords, lastClass, lowestClass, edition, ageBasis, sstYear, firstYear, lastYear, records, spareBytes, chains, chainCode, chainSex, headOf, costPlace, curvePlace, mortalityPlace, mostRate, curveLift, curveSpan, recordAt, codeOf, sexOf, classOf, nextOf, fieldOf, countOffset, lapseOffset, premiumOffset, claimsOffset, mostCount, mostAmount, linkAt}
 
 pub record HeaderRules (basis : ℕ) (b : List ℕ) : Type 0 where
   pub edition-one : edition b ≡ 1
   pub basis-is : ageBasis b ≡ basis
-  pub year-low : 2017 ≤ sstYear b
-  pub year-high : sstYear b ≤ 2100
+  pub year-low : firstYear ≤ sstYear b
+  pub year-high : sstYear b ≤ lastYear
   pub few : records b ≤ mostRecords
   pub spare : spareBytes b ≡ 0
   pub size : length b ≡ headerSize + recordSize * records b

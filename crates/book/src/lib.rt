@@ -15,6 +15,10 @@ pub const RECORD_SIZE: usize = 24;
 
 pub const MOST_RECORDS: usize = 1694;
 
+pub const FIRST_YEAR: usize = 2017;
+
+pub const LAST_YEAR: usize = 2100;
+
 pub const CHAINS: usize = 14;
 
 pub const HEADS_PLACE: usize = 8;

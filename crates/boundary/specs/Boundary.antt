@@ -11,9 +11,13 @@ use Rattle.reckoning.specs.declared.GroupReply.{GroupReply}
 use Rattle.year_report.specs.Report.{reportRefusal, reportPlace, reportLength, writeReply, roomReply}
 use Rattle.year_report.specs.Report.{ReportPromised, RoomPromised}
 use Rattle.year_report.specs.declared.ReportReply.{ReportReply}
+use Rattle.contents.specs.Contents.{Contents}
+use Rattle.contents.specs.Promises.{writeRefusal, writePlace, writeLength, writeReply as bookReply, WritePromised}
+use Rattle.contents.specs.declared.WriteReply.{WriteReply}
 use Rattle.boundary.specs.declared.VerdictFields.{VerdictFields}
 use Rattle.boundary.specs.declared.GroupFields.{GroupFields}
 use Rattle.boundary.specs.declared.ReportFields.{ReportFields}
+use Rattle.boundary.specs.declared.WriteFields.{WriteFields}
 
 -- a verdict: the paper's number and place of a refusal, and n
 abbrev pub verdictFields : Verdict → VerdictFields
@@ -46,3 +50,12 @@ pub record RoomHanded (b : List ℕ) (setting : ℕ) (r : ReportFields) : Type 0
 pub record ConvertHanded (b before after : List ℕ) (r : VerdictFields) : Type 0 where
   pub fields-are : r ≡ verdictFields (convertCheck b (length before))
   pub promised : ConvertPromised b before after (convertCheck b (length before))
+
+-- Write's reply
+abbrev pub writeFields : WriteReply → WriteFields
+writeFields r = record { refusal = writeRefusal r; place = writePlace r; length = writeLength r }
+
+-- Write across the boundary, likewise
+pub record WriteHanded (v : Contents) (before after : List ℕ) (r : WriteFields) : Type 0 where
+  pub fields-are : r ≡ writeFields (bookReply v (length before))
+  pub promised : WritePromised v before after (bookReply v (length before))

@@ -5,10 +5,15 @@ ghost use Rattle.book.specs.Check.{checkBook};
 ghost use Rattle.look.specs.Looker.{locatedIn};
 ghost use Rattle.reckoning.specs.Totals.{TotalsPromised};
 ghost use Rattle.accounts.specs.Replies.{RatesPromised};
-ghost use Rattle.boundary.specs.Boundary.{verdictFields, GroupHanded, ConvertHanded};
+ghost use Rattle.contents.specs.Contents.{given};
+ghost use Rattle.contents.specs.Promises.{ReadPromised};
+ghost use Rattle.boundary.specs.Boundary.{verdictFields, GroupHanded, ConvertHanded, WriteHanded};
 ghost use Rattle.boundary.specs.Boundary.{reportFields, ReportHanded, RoomHanded};
 use accounts::Accounts;
 use accounts::CostRates;
+use contents::ReadReply;
+use contents::Values;
+use contents::WriteReply;
 use field::Verdict;
 use look::Located;
 use reckoning::GroupReply;
@@ -147,4 +152,56 @@ pub extern "C" fn xaropinto_convert(book: &[u8], out: &mut [u8]) -> VerdictField
     ensures { λ r. ⌜ ConvertHanded (now (book .entry)) (now (out .entry)) (now (out .exit)) r ⌝ }
 {
     in_fields(conversion::convert(book, out))
+}
+
+// Write's reply in fields: refusal and place are 0 where written, length is 0 where refused.
+#[repr(C)]
+pub struct WriteFields {
+    pub refusal: u64,
+    pub place: usize,
+    pub length: usize,
+}
+
+// The values by value: a C programmer fills one struct, and what Read hands back can be handed on as it is.
+#[no_mangle]
+pub extern "C" fn xaropinto_write(
+    values: Values,
+    counts: &[u64],
+    lapses: &[u64],
+    premiums: &[u64],
+    claims: &[u64],
+    out: &mut [u8],
+) -> WriteFields
+    ensures { λ r. ⌜ WriteHanded
+        (given values (now (counts .entry)) (now (lapses .entry)) (now (premiums .entry)) (now (claims .entry)))
+        (now (out .entry)) (now (out .exit)) r ⌝ }
+{
+    let reply = writer::write(values, counts, lapses, premiums, claims, out);
+    match reply {
+        WriteReply::Written(length) => WriteFields {
+            refusal: 0,
+            place: 0,
+            length,
+        },
+        WriteReply::Refused(refusal, place) => WriteFields {
+            refusal,
+            place,
+            length: 0,
+        },
+    }
+}
+
+#[no_mangle]
+pub extern "C" fn xaropinto_read(
+    book: &[u8],
+    counts: &mut [u64],
+    lapses: &mut [u64],
+    premiums: &mut [u64],
+    claims: &mut [u64],
+) -> ReadReply
+    ensures { λ r. ⌜ ReadPromised (now (book .entry)) (now (counts .entry)) (now (lapses .entry))
+        (now (premiums .entry)) (now (claims .entry)) (now (counts .exit)) (now (lapses .exit)) (now (premiums .exit))
+        (now (claims .exit)) r ⌝ }
+{
+    reader::read(book, counts, lapses, premiums, claims)
 }

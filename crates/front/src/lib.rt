@@ -9,7 +9,9 @@ use book::COST_PLACE;
 use book::CURVE_LIFT;
 use book::CURVE_PLACE;
 use book::CURVE_SPAN;
+use book::FIRST_YEAR;
 use book::HEADER_SIZE;
+use book::LAST_YEAR;
 use book::MORTALITY_PLACE;
 use book::MOST_RATE;
 use book::MOST_RECORDS;
@@ -35,7 +37,7 @@ pub fn check_header(b: &[u8], basis: usize) -> Verdict
     let count = book::records(b);
     field::need(edition == 1, 2, 0)
         .require(age_basis == basis, 3, 1)
-        .require(field::within(2017, 2100, year), 4, 2)
+        .require(field::within(FIRST_YEAR, LAST_YEAR, year), 4, 2)
         .require(count <= MOST_RECORDS, 4, 4)
         .and_then(check_spare(b))
         .require(b.len() == HEADER_SIZE + RECORD_SIZE * count, 5, b.len())

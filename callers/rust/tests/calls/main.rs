@@ -1,6 +1,7 @@
 //! The archive's replies, held against the paper's figures and against the second check and reckoning.
 
 mod accounts;
+mod desk;
 mod differential;
 mod replies;
 mod report;

@@ -1,0 +1,112 @@
+-- Contents are not refused, with room enough, exactly where they keep the rules. Assumes nothing.
+use mathlib.Core.Path.{_≡_}
+use mathlib.Core.Logic.{⊎-elim}
+use mathlib.Core.List.{List}
+use mathlib.Core.Bool.{true}
+use Prim.Native.Nat.{ℕ, _<_, _≤_, zero-le}
+use native.Mathlib.Omega.{arith}
+use borrow.Author.Tests.{leb-true, le-leb, eqb-true, eq-eqb}
+use lib.Dec.{leb}
+use lib.IntN.{ℤ, pos}
+use lib.ListN.{length, getD, List·getD-eq-default}
+use Rattle.field.specs.Verdicts.{need}
+use Rattle.field.specs.declared.Verdict.the-variants.{Accepted}
+use Rattle.field.proofs.Verdicts.{need-true, need-good, then-left, then-right, then-good, all-each, all-zero}
+use Rattle.field.proofs.Ranges.{within-means, within-good}
+use Rattle.book.specs.Layout.{mostRate, mostCount, mostAmount}
+use Rattle.text.proofs.Laws.{le-or-lt}
+use Rattle.contents.specs.Contents.{Contents, noClass}
+use Rattle.contents.specs.Written.{bookSize}
+use Rattle.contents.specs.Limits.{checkMost, curveRate, checkCurve, checkSizes, checkRates, checkLists}
+use Rattle.contents.specs.Limits.{checkContents, Fit}
+
+module _ (number most : ℕ) (l : List ℕ) where
+  most-means : (n : ℕ) → checkMost number most l ≡ Accepted n → (j : ℕ) → getD l j 0 ≤ most
+  unfolding checkMost
+  most-means n e j =
+      ⊎-elim
+      (λ (h : length l ≤ j). omega (arith, List·getD-eq-default l 0 {n = j} h))
+      (λ (h : j < length l). leb-true (getD l j 0) most
+      (need-true _ number 0 _
+      (all-each (λ (i : ℕ). need (leb (getD l i 0) most) number 0) (length l) 0 n j e zero-le (omega arith))))
+      (le-or-lt (length l) j)
+
+  most-good : ((j : ℕ) → getD l j 0 ≤ most) → checkMost number most l ≡ Accepted 0
+  unfolding checkMost
+  most-good h = all-zero _ (length l) 0 (λ j lo hi. need-good _ _ _ (le-leb _ _ (h j)))
+
+curve-means : (l : List ℤ) (n : ℕ) → checkCurve l ≡ Accepted n → (j : ℕ) → curveRate (getD l j (pos 0)) ≡ true
+unfolding checkCurve curveRate
+curve-means l n e j =
+    ⊎-elim
+    (λ (h : length l ≤ j). rw (List·getD-eq-default l (pos 0) {n = j} h))
+    (λ (h : j < length l). need-true _ 7 0 _
+    (all-each (λ (i : ℕ). need (curveRate (getD l i (pos 0))) 7 0) (length l) 0 n j e zero-le (omega arith)))
+    (le-or-lt (length l) j)
+
+curve-good : (l : List ℤ) → ((j : ℕ) → curveRate (getD l j (pos 0)) ≡ true) → checkCurve l ≡ Accepted 0
+unfolding checkCurve
+curve-good l h = all-zero _ (length l) 0 (λ j lo hi. need-good _ _ _ (h j))
+
+module _ (v : Contents) (room : ℕ) where
+  pub fit : (n : ℕ) → checkContents v room ≡ Accepted n → Fit v
+  unfolding checkContents checkSizes checkRates checkLists
+  fit n e =
+      let e₁ = then-left _ _ _ e in
+      let s = then-left _ _ _ e₁ in
+      let s₁ = then-left _ _ _ s in
+      let s₂ = then-left _ _ _ s₁ in
+      let s₃ = then-left _ _ _ s₂ in
+      let s₄ = then-left _ _ _ s₃ in
+      let r = then-right _ _ _ e₁ in
+      let r₁ = then-left _ _ _ r in
+      let r₂ = then-left _ _ _ r₁ in
+      let l = then-right _ _ _ e in
+      let l₁ = then-left _ _ _ l in
+      let l₂ = then-left _ _ _ l₁ in
+      let year = within-means _ _ _ (need-true _ _ _ _ (then-left _ _ _ r₂)) in
+      record {
+        first = most-means 11 noClass _ _ (then-left _ _ _ s₄);
+        counts-size = eqb-true _ _ (need-true _ _ _ _ (then-right _ _ _ s₄));
+        lapses-size = eqb-true _ _ (need-true _ _ _ _ (then-right _ _ _ s₃));
+        premiums-size = eqb-true _ _ (need-true _ _ _ _ (then-right _ _ _ s₂));
+        claims-size = eqb-true _ _ (need-true _ _ _ _ (then-right _ _ _ s₁));
+        year-low = year .0;
+        year-high = year .1;
+        cost = most-means 6 mostRate _ _ (then-right _ _ _ r₂);
+        curve = curve-means _ _ (then-right _ _ _ r₁);
+        mortality = most-means 8 mostRate _ _ (then-right _ _ _ r);
+        count = most-means 12 mostCount _ _ (then-left _ _ _ l₂);
+        lapse = most-means 12 mostRate _ _ (then-right _ _ _ l₂);
+        premium = most-means 12 mostAmount _ _ (then-right _ _ _ l₁);
+        claim = most-means 12 mostAmount _ _ (then-right _ _ _ l);
+      }
+
+  -- the lent buffer takes the book
+  pub room-enough : (n : ℕ) → checkContents v room ≡ Accepted n → bookSize (v .values .first) ≤ room
+  unfolding checkContents checkSizes
+  room-enough n e = leb-true _ _ (need-true _ _ _ _ (then-right _ _ _ (then-left _ _ _ (then-left _ _ _ e))))
+
+  pub fit-good : Fit v → bookSize (v .values .first) ≤ room → checkContents v room ≡ Accepted 0
+  unfolding checkContents checkSizes checkRates checkLists
+  fit-good f enough =
+      then-good _ _ _ _
+      (then-good _ _ _ _
+      (then-good _ _ _ _
+      (then-good _ _ _ _
+      (then-good _ _ _ _
+      (then-good _ _ _ _
+      (then-good _ _ _ _ (most-good _ _ _ (f .first)) (need-good _ _ _ (eq-eqb _ _ (f .counts-size))))
+      (need-good _ _ _ (eq-eqb _ _ (f .lapses-size))))
+      (need-good _ _ _ (eq-eqb _ _ (f .premiums-size))))
+      (need-good _ _ _ (eq-eqb _ _ (f .claims-size))))
+      (need-good _ _ _ (le-leb _ _ enough)))
+      (then-good _ _ _ _
+      (then-good _ _ _ _
+      (then-good _ _ _ _ (need-good _ _ _ (within-good _ _ _ (f .year-low) (f .year-high))) (most-good _ _ _ (f .cost)))
+      (curve-good _ (f .curve)))
+      (most-good _ _ _ (f .mortality))))
+      (then-good _ _ _ _
+      (then-good _ _ _ _ (then-good _ _ _ _ (most-good _ _ _ (f .count)) (most-good _ _ _ (f .lapse)))
+      (most-good _ _ _ (f .premium)))
+      (most-good _ _ _ (f .claim)))

@@ -1,0 +1,16 @@
+pub mod Stands
+pub mod Numbers
+pub mod Laid
+pub mod Fit
+pub mod Entries
+pub mod Linked
+pub mod Accepted
+pub mod Lists
+pub mod Back
+pub mod Again
+pub mod Walk
+pub mod Round
+pub mod Told
+pub mod Promised
+pub mod Ordered
+pub mod Trial

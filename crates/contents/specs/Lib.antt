@@ -1,0 +1,5 @@
+pub mod Contents
+pub mod Written
+pub mod Limits
+pub mod Reading
+pub mod Promises

@@ -1,0 +1,89 @@
+-- When contents are refused: the tests in their order, each with place 0; and the rules that they keep, in no order.
+use Prim.Native.Nat.{ℕ, _+_, _≤_}
+use mathlib.Core.Path.{_≡_}
+use mathlib.Core.Bool.{Bool, true}
+use mathlib.Core.List.{List}
+use lib.Dec.{leb, eqb}
+use lib.IntN.{ℤ, pos, negsuc}
+use lib.ListN.{length, getD}
+use Rattle.field.specs.Verdicts.{need, _andThen_, joinAll}
+use Rattle.field.specs.Fields.{within}
+use Rattle.field.specs.declared.Verdict.{Verdict}
+use Rattle.book.specs.Layout.{firstYear, lastYear, chains, mostRate, curveLift, curveSpan, mostCount, mostAmount}
+use Rattle.contents.specs.declared.Values.{Values}
+use Rattle.contents.specs.Contents.{Contents, noClass, before}
+use Rattle.contents.specs.Written.{bookSize}
+
+-- refused with the number where one of a list is above the most
+unfoldable pub checkMost : ℕ → ℕ → List ℕ → Verdict
+checkMost number most l = joinAll (λ (j : ℕ). need (leb (getD l j 0) most) number 0) 0 (length l)
+
+-- a curve rate is at most curveLift below 0, and from there at most curveSpan higher: from -10,000 to 200,000
+unfoldable pub curveRate : ℤ → Bool
+curveRate (pos n) = leb (n + curveLift) curveSpan
+curveRate (negsuc m) = leb (m + 1) curveLift
+
+unfoldable pub checkCurve : List ℤ → Verdict
+checkCurve l = joinAll (λ (j : ℕ). need (curveRate (getD l j (pos 0))) 7 0) 0 (length l)
+
+-- 22: the list buffer is as long as its lists together
+abbrev pub checkSize : List ℕ → List ℕ → Verdict
+checkSize first l = need (eqb (length l) (before first chains)) 22 0
+
+-- 11 the first classes; 22 the four list buffers, and a byte buffer of so many bytes, which takes the book
+unfoldable pub checkSizes : Contents → ℕ → Verdict
+checkSizes v room =
+    checkMost 11 noClass (v .values .first) andThen
+    checkSize (v .values .first) (v .counts) andThen
+    checkSize (v .values .first) (v .lapses) andThen
+    checkSize (v .values .first) (v .premiums) andThen
+    checkSize (v .values .first) (v .claims) andThen
+    need (leb (bookSize (v .values .first)) room) 22 0
+
+-- 4 the year, 6 the cost rates, 7 the curve, 8 mortality
+unfoldable pub checkRates : Values → Verdict
+checkRates h =
+    need (within firstYear lastYear (h .year)) 4 0 andThen
+    checkMost 6 mostRate (h .cost) andThen
+    checkCurve (h .curve) andThen
+    checkMost 8 mostRate (h .mortality)
+
+-- 12 the lists
+unfoldable pub checkLists : List ℕ → List ℕ → List ℕ → List ℕ → Verdict
+checkLists counts lapses premiums claims =
+    checkMost 12 mostCount counts andThen
+    checkMost 12 mostRate lapses andThen
+    checkMost 12 mostAmount premiums andThen
+    checkMost 12 mostAmount claims
+
+-- what stands against writing the contents into a buffer of so many bytes
+unfoldable pub checkContents : Contents → ℕ → Verdict
+checkContents v room =
+    checkSizes v room andThen
+    checkRates (v .values) andThen
+    checkLists (v .counts) (v .lapses) (v .premiums) (v .claims)
+
+-- The rules that contents keep, one by one and in no order of tests. They are not refused, with room enough, exactly
+-- where they keep them all (proofs/Fit). Past its end a list reads 0, which every rule takes.
+pub record Fit (v : Contents) : Type 0 where
+  pub first : (k : ℕ) → getD (v .values .first) k 0 ≤ noClass
+  pub counts-size : length (v .counts) ≡ before (v .values .first) chains
+  pub lapses-size : length (v .lapses) ≡ before (v .values .first) chains
+  pub premiums-size : length (v .premiums) ≡ before (v .values .first) chains
+  pub claims-size : length (v .claims) ≡ before (v .values .first) chains
+  pub year-low : firstYear ≤ v .values .year
+  pub year-high : v .values .year ≤ lastYear
+  pub cost : (j : ℕ) → getD (v .values .cost) j 0 ≤ mostRate
+  pub curve : (j : ℕ) → curveRate (getD (v .values .curve) j (pos 0)) ≡ true
+  pub mortality : (j : ℕ) → getD (v .values .mortality) j 0 ≤ mostRate
+  pub count : (i : ℕ) → getD (v .counts) i 0 ≤ mostCount
+  pub lapse : (i : ℕ) → getD (v .lapses) i 0 ≤ mostRate
+  pub premium : (i : ℕ) → getD (v .premiums) i 0 ≤ mostAmount
+  pub claim : (i : ℕ) → getD (v .claims) i 0 ≤ mostAmount
+
+-- the tables have as many numbers as the arrays of the call have by their types
+pub record Shaped (h : Values) : Type 0 where
+  pub cost : length (h .cost) ≡ 5
+  pub curve : length (h .curve) ≡ 49
+  pub mortality : length (h .mortality) ≡ 242
+  pub first : length (h .first) ≡ chains

@@ -1,0 +1,73 @@
+// What stands before the records of a book, written: front, heads, cost rates, curve and mortality.
+ghost use mathlib.Core.Bool.{true};
+ghost use mathlib.Core.List.{[], _∷_, _++_};
+ghost use mathlib.Core.Path.{_≡_};
+ghost use Prim.Native.Nat.{ℕ, _+_, _<_, _^_};
+ghost use lib.IntN.{pos};
+ghost use lib.ListN.{getD};
+ghost use Rattle.text.specs.Text.{Wrote};
+ghost use Rattle.contents.specs.Contents.{before};
+ghost use Rattle.contents.specs.Written.{twoBytes, headFor, headBytes, headerBytes};
+ghost use Rattle.contents.specs.Limits.{curveRate};
+use book::CHAINS;
+use contents::Values;
+use limits::size_of;
+use limits::total;
+use numbers::put_curve;
+use numbers::put_fields;
+use numbers::put_two;
+use text::put_byte;
+
+// What stands before the heads, with N, the number of records.
+fn put_front(out: &mut [u8], year: u64, n: usize) -> usize
+    ensures { λ r. ⌜ Wrote (now (out .entry)) 0 (1 ∷ 1 ∷ [] ++ twoBytes year ++ twoBytes n ++ twoBytes 0)
+        (now (out .exit)) r × (r ≡ 8) ⌝ }
+{
+    let basis_at = put_byte(out, 0, 1);
+    let year_at = put_byte(out, basis_at, 1);
+    let records_at = put_two(out, year_at, year);
+    let spare_at = put_two(out, records_at, n as u64);
+    put_two(out, spare_at, 0)
+}
+
+// The head of chain k, with so many records before its own.
+fn head_for(first: &[u64; 14], k: usize, sum: usize) -> u64
+    requires { ⌜ (k < 14) × (sum ≡ before (now first) k) × (sum < 65536) ⌝ }
+    ensures { λ r. ⌜ r ≡ headFor (now (first .entry)) k ⌝ }
+{
+    if size_of(first, k) == 0 {
+        return 0;
+    }
+    (sum + 1) as u64
+}
+
+fn put_heads(out: &mut [u8], at: usize, first: &[u64; 14]) -> usize
+    requires { ⌜ at + 64 < 2 ^ 64 ⌝ }
+    ensures { λ r. ⌜ Wrote (now (out .entry)) at (headBytes (now (first .entry))) (now (out .exit)) r
+        × (r ≡ at + 28) ⌝ }
+{
+    let mut next = at;
+    let mut sum = 0;
+    for k in 0..CHAINS {
+        next = put_two(out, next, head_for(first, k, sum));
+        sum = sum + size_of(first, k);
+    }
+    next
+}
+
+// What stands before the records.
+pub fn put_header(out: &mut [u8], values: Values) -> usize
+    requires { ⌜ ((j : ℕ) → curveRate (getD (values .curve) j (pos 0)) ≡ true) ⌝ }
+    ensures { λ r. ⌜ Wrote (now (out .entry)) 0 (headerBytes values) (now (out .exit)) r × (r ≡ 1220) ⌝ }
+{
+    let first = values.first;
+    let cost = values.cost;
+    let curve = values.curve;
+    let mortality = values.mortality;
+    let n = total(&first);
+    let heads_at = put_front(out, values.year, n);
+    let cost_at = put_heads(out, heads_at, &first);
+    let curve_at = put_fields(out, cost_at, &cost);
+    let mortality_at = put_curve(out, curve_at, &curve);
+    put_fields(out, mortality_at, &mortality)
+}

@@ -1,0 +1,26 @@
+-- `writer::put_book` meets its contract: the header, and then the chains. Assumes nothing.
+use native.Mathlib.Omega.{arith}
+use Rattle.text.proofs.Laws.{_then_, kept}
+use Rattle.contents.specs.Written.{bookOf}
+use Rattle.writer.proofs.put_book.Statement.{statement}
+use Rattle.writer.proofs.put_book.Tie as tie
+
+put-header-requires : tie.Need-put-header-requires
+put-header-requires c κs = c .before .before .before .before .before .before .pre .curve
+
+put-chains-requires : tie.Need-put-chains-requires
+put-chains-requires c κs = (
+  omega (arith, c .before .before .before .put-header .ensures .1),
+  c .before .before .before .before .before .before .before .before .before .before .pre,
+)
+
+returns : tie.Need-returns
+unfolding bookOf
+returns c = c .before .before .before .before .before .before .put-header .ensures .0
+    then c .before .before .put-chains .ensures
+
+same-length : tie.Need-same-length
+same-length c = kept (returns c)
+
+pub put-book-spec : {M : Type 1} → statement M
+put-book-spec = tie.close (tie.spec put-header-requires put-chains-requires same-length returns)
