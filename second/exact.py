@@ -46,16 +46,18 @@ def add_chain(premium, claims, values, chain, setting):
     """Add a chain's cells to the sums, in parts of SHARE to the power of k for year k.
 
     In force after k years is a whole number over that power, so that whole numbers
-    carry it exactly and no common divisor need be sought in the years between.
+    carry it exactly and no common divisor need be sought in the years between. A contract
+    renews while the insured lives: from class 120 on it goes by that class each year.
     """
     early, late = (chain_shares(values, chain, setting, k) for k in (0, 5))
     cells = values.portfolios[chain].cells
     for start, cell in enumerate(cells):
         in_force = cell.count
-        for k, reached in zip(YEARS, cells[start:]):
-            premium[k] += in_force * reached.premium
-            claims[k] += in_force * reached.claims
-            in_force *= (early if k < 5 else late)[start + k]
+        for k in YEARS:
+            place = min(start + k, len(cells) - 1)
+            premium[k] += in_force * cells[place].premium
+            claims[k] += in_force * cells[place].claims
+            in_force *= (early if k < 5 else late)[place]
 
 
 def exact_sums(values, setting, product_group):

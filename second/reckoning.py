@@ -58,6 +58,11 @@ def next_in_force(in_force, mortality, lapse):
     return survivors * (BILLION - lapse) // BILLION
 
 
+def reached(by_class, k):
+    """What a chain has for each class, as its cells meet it in year k: those that come to the last stay there."""
+    return by_class[k:] + by_class[-1:] * min(k, len(by_class))
+
+
 def in_force_by_year(values, chain, setting):
     """For each k what is in force of every cell, by its class at the start."""
     first_class, cells = values.portfolios[chain]
@@ -66,17 +71,16 @@ def in_force_by_year(values, chain, setting):
     for k in range(YEARS):
         yield in_force
         weights = weights_of(setting, k)
-        mortality = [weighted(rate, weights.mortality[sex])
-                     for rate in values.mortality[sex][first_class + k:]]
-        lapse = [weighted(cell.lapse, weights.lapse) for cell in cells[k:]]
-        # The last cell stands at class 120 and ends there.
-        in_force = [next_in_force(*each) for each in zip(in_force[:-1], mortality, lapse)]
+        mortality = [weighted(rate, weights.mortality[sex]) for rate in values.mortality[sex][first_class:]]
+        lapse = [weighted(cell.lapse, weights.lapse) for cell in cells]
+        in_force = [next_in_force(*each) for each in
+                    zip(in_force, reached(mortality, k), reached(lapse, k), strict=True)]
 
 
 def years_in_force(values, chain, setting):
     """W-203: the first year in which a chain's first cell has nothing in force, or 50 where there is none."""
     for k, in_force in enumerate(in_force_by_year(values, chain, setting)):
-        if not in_force or in_force[0] == 0:
+        if in_force[0] == 0:
             return k
     return YEARS
 
@@ -88,7 +92,7 @@ def year_sums(values, setting, product_group):
         if CHAINS[chain].code not in SUBGROUP_CODES[product_group]:
             continue
         for k, in_force in enumerate(in_force_by_year(values, chain, setting)):
-            for contracts, cell in zip(in_force, portfolio.cells[k:], strict=True):
+            for contracts, cell in zip(in_force, reached(portfolio.cells, k), strict=True):
                 premium[k] += contracts * cell.premium // BILLION
                 claims[k] += contracts * cell.claims // BILLION
     return zip(premium, claims)

@@ -66,8 +66,8 @@ class Listings(unittest.TestCase):
         self.hold(b"", b"refused 1 0\n")
 
     def test_rate_200000_passes(self):
-        self.hold(changed(one_record_book(), (CURVE[3], 200_000)), PAPER_LISTING)
-        self.hold(changed(one_record_book(), (CURVE[3], 200_001)), b"refused 7 68\n")
+        self.hold(changed(empty_book(), (CURVE[3], 200_000)), NOTHING_LISTED)
+        self.hold(changed(empty_book(), (CURVE[3], 200_001)), b"refused 7 68\n")
 
 
 class Input(unittest.TestCase):

@@ -9,7 +9,7 @@ from second.book import (PG2_MEN, Cell, Portfolio, Values, empty_book, full_book
                          random_book, random_values, read_values)
 from second.check import check
 from second.exact import exact_liability
-from second.layout import CHAINS, CLASSES, CURVE, PRODUCT_GROUPS, SETTINGS, changed
+from second.layout import CHAINS, CLASSES, CURVE, OLDEST_CLASS, PRODUCT_GROUPS, SETTINGS, changed
 from second.reckoning import (capped, discounted, group, in_force_by_year, listing, next_in_force, outgo_of,
                               totals, weighted, weights_of)
 from tests.books import trial as trials
@@ -35,12 +35,13 @@ def naive_liability(values, setting, product_group):
             continue
         for start, cell in enumerate(cells):
             contracts = Fraction(cell.count)
-            for k in range(min(50, len(cells) - start)):
-                reached = cells[start + k]
+            for k in range(50):
+                age_class = min(first_class + start + k, OLDEST_CLASS)
+                reached = cells[age_class - first_class]
                 premium[k] += contracts * reached.premium
                 claims[k] += contracts * reached.claims
                 weights = weights_of(setting, k)
-                death = values.mortality[sex][first_class + start + k] * weights.mortality[sex]
+                death = values.mortality[sex][age_class] * weights.mortality[sex]
                 contracts *= 1 - min(Fraction(death, 10**9), 1)
                 contracts *= 1 - min(Fraction(reached.lapse * weights.lapse, 10**9), 1)
     liability = Fraction(0)
@@ -90,9 +91,8 @@ class TrialFigures(unittest.TestCase):
             self.assertEqual(listing(book), f"refused {refusal} {place}\n".encode())
 
     def test_rate_200000_passes(self):
-        book = one_record_book()
-        self.assertEqual(listing(changed(book, (CURVE[3], 200_000))), trials.PAPER_LISTING)
-        self.assertEqual(listing(changed(book, (CURVE[3], 200_001))), b"refused 7 68\n")
+        self.assertEqual(listing(changed(empty_book(), (CURVE[3], 200_000))), listing(empty_book()))
+        self.assertEqual(listing(changed(empty_book(), (CURVE[3], 200_001))), b"refused 7 68\n")
 
     def test_no_records_give_zeros(self):
         for setting in SETTINGS:
@@ -104,7 +104,16 @@ class TrialFigures(unittest.TestCase):
 
     def test_paper_listing(self):
         self.assertEqual(listing(one_record_book()), trials.PAPER_LISTING)
-        self.assertEqual(totals(one_record_book())[4], [0, 0, 40_000, 40_000])
+        self.assertEqual(totals(one_record_book())[4], [0, 0, 200_000, 200_000])
+
+    def test_paper_listing_year_by_year(self):
+        # Ten ninths of 900,000 are 1,000,000: from k = 5 the cap stands just at the premium and cuts nothing.
+        for k in range(50):
+            self.assertEqual(year(one_record_book(), k), (1_000_000, 900_000) * 2)
+        # Dearer or cheaper in the first five years alone, which have no cap.
+        for setting, outgo in ((5, 920_000), (6, 880_000), (7, 940_000)):
+            self.assertEqual(year(one_record_book(), 4, setting), (1_000_000, outgo) * 2)
+            self.assertEqual(year(one_record_book(), 5, setting), (1_000_000, 900_000) * 2)
 
     def test_listing_takes_41877_bytes(self):
         full = full_book(random.Random(2))
@@ -171,8 +180,22 @@ class Steps(unittest.TestCase):
         mortality = [[0] * CLASSES, [0] * CLASSES]
         mortality[1][118] = 1_000_000
         book = make_book(Values(mortality=mortality, portfolios={7: Portfolio(118, cells)}))
-        # Of women 14 percent outlive class 118, and half of them leave in class 119.
-        self.assertEqual([year(book, k)[1] for k in range(4)], [5, 84, 490, 0])
+        # Of women 14 percent outlive class 118, and half of them leave in class 119. The others stay in class 120.
+        self.assertEqual([year(book, k)[1] for k in (0, 1, 2, 3, 49)], [5, 84, 490, 490, 490])
+
+    def test_the_very_old_stay_insured(self):
+        # Of men 0.565 outlive class 119 and 0.8 of these stay; in class 120 it is 0.913 and 0.95, each year.
+        book, contracts = trials.very_old_book(), 10**9
+        self.assertEqual(year(book, 0), (10_000_000, 0) * 2)
+        for k in range(1, 50):
+            living, staying = (565, 800) if k == 1 else (913, 950)
+            contracts = contracts * living // 1_000 * staying // 1_000
+            self.assertEqual(in_force(book, k), contracts)
+            self.assertEqual(year(book, k), (0, contracts // 100) * 2)
+
+    def test_the_very_old_have_the_exact_value_of_fifty_years(self):
+        exact = sum(10**7 * Fraction(452, 1_000) * Fraction(86_735, 100_000)**years for years in range(49))
+        self.assertEqual(exact_liability(trials.very_old_book(), 0, 2), exact - 10**7)
 
     def test_each_subgroup_enters_its_group(self):
         for chain, product_group in enumerate((1, 1, 1, 1, 1, 1, 2, 2, 3, 3, 4, 4, 5, 5)):
@@ -208,7 +231,7 @@ class Rounding(unittest.TestCase):
     def test_each_cell_is_rounded(self):
         cell = Cell(count=1, lapse=400_000, premium=1, claims=1)
         book = make_book(Values(portfolios={PG2_MEN: Portfolio(118, (cell,) * 3)}))
-        # In the second year 0.6 of a centime twice is nothing.
+        # In the second year 0.6 of a centime three times is nothing.
         self.assertEqual([year(book, k)[:2] for k in (0, 1)], [(3, 3), (0, 0)])
 
     def test_cost_is_rounded_once_and_apart_from_claims(self):

@@ -27,9 +27,9 @@ def worked_book():
     """The book that docs/RECKONING works through by hand."""
     values = flat_values(150_000, 0, 0)
     values.curve[:2] = [10_000, -5_000]
-    values.mortality[0][118:] = [400_001, 500_000, 600_000]
+    values.mortality[0][118:] = [400_001, 500_000, 1_000_000]
     cells = (Cell(3, 70_001, 60_123, 30_456), Cell(2, 100_000, 60_321, 40_877),
-             Cell(1, 0, 60_111, 56_789))
+             Cell(1, 500_000, 60_111, 56_789))
     values.portfolios[PG2_MEN] = Portfolio(118, cells)
     return make_book(values)
 

@@ -117,27 +117,42 @@ static parameter_book one_record_book(void)
     return book;
 }
 
-/* One man of PG2 who meets these amounts in the years k = 0 to years - 1, up to class 120. */
+/* One man of PG2 who meets these amounts in the years k = 0 to years - 1, and nothing from class 120 on. */
 static parameter_book one_man_book(size_t years, contracts each_year)
 {
-    parameter_book book = unlinked_book(years);
+    parameter_book book = unlinked_book(years + 1);
+    contracts nothing = {0, 0, 0, 0};
     put(book, HEADS + 2 * PG2_MEN, 2, 1);
     for (size_t k = 0; k < years; k++) {
         each_year.count = k == 0;
-        put_record(book, k + 1, PG2_MEN, LAST_CLASS + 1 - years + k, each_year);
+        put_record(book, k + 1, PG2_MEN, LAST_CLASS - years + k, each_year);
     }
+    put_record(book, years + 1, PG2_MEN, LAST_CLASS, nothing);
     return book;
 }
 
-/* The same on age basis 2, with a record behind that no chain reaches and whose class is 0. */
+/* One man of PG2 at class 119, with premiums; in class 120 there are claims, and other deaths and lapses. */
+static parameter_book very_old_book(void)
+{
+    parameter_book book = unlinked_book(2);
+    contracts one = {1, 200000, 10000000, 0}, last = {0, 50000, 0, 10000000};
+    put(book, HEADS + 2 * PG2_MEN, 2, 1);
+    put(book, MORTALITY + 4 * (LAST_CLASS - 1), 4, 500000);
+    put(book, MORTALITY + 4 * LAST_CLASS, 4, 100000);
+    put_record(book, 1, PG2_MEN, LAST_CLASS - 1, one);
+    put_record(book, 2, PG2_MEN, LAST_CLASS, last);
+    return book;
+}
+
+/* One man's book on age basis 2, with a record behind that no chain reaches and whose class is 0. */
 static parameter_book one_man_newer_book(size_t years, contracts each_year)
 {
     parameter_book older = one_man_book(years, each_year);
     parameter_book book = blank(older.length + RECORD_SIZE);
     memcpy(book.bytes, older.bytes, older.length);
     put(book, XAROPINTO_AGE_BASIS_AT, 1, 2);
-    put(book, RECORD_COUNT, 2, years + 1);
-    for (size_t i = 1; i <= years; i++)
+    put(book, RECORD_COUNT, 2, years + 2);
+    for (size_t i = 1; i <= years + 1; i++)
         book.bytes[record_start(i) + XAROPINTO_CLASS_AT]++;
     free(older.bytes);
     return book;
@@ -335,10 +350,13 @@ static void test_sizes(void)
     test("values_have_no_gaps", sizeof(xaropinto_values) == 311 * sizeof(uint64_t));
 }
 
+/* Premiums of 1,000,000 less claims of 800,000 and costs of 100,000, in fifty years. Settings 5, 6 and 7 have other
+ * costs or claims in five of them: 120,000, 80,000 and 840,000. */
 static void test_one_record(void)
 {
-    static const int64_t totals[8] = {-100000, -100000, -100000, -100000, -100000, -80000, -120000, -60000};
-    static const int64_t differences[4] = {0, 0, 40000, 40000};
+    static const int64_t totals[8] = {-5000000, -5000000, -5000000, -5000000,
+                                      -5000000, -4900000, -5100000, -4800000};
+    static const int64_t differences[4] = {0, 0, 200000, 200000};
     parameter_book book = one_record_book();
     int groups_hold = 1, empty_groups_hold = 1;
     for (size_t setting = 0; setting < SETTINGS; setting++)
@@ -354,17 +372,18 @@ static void test_one_record(void)
     free(book.bytes);
 }
 
+/* The contracts stay at class 120. From k = 5 on the cap, ten ninths of 900,000, is just the premium. */
 static void test_year_table(void)
 {
+    static const uint64_t year[4] = {1000000, 900000, 1000000, 900000};
     parameter_book book = one_record_book();
     uint64_t *table = marked_table(TABLE_SIZE);
     xaropinto_group(book.bytes, book.length, 0, PG2, table, TABLE_SIZE);
     int later_years = 1;
-    for (size_t i = 4; i < XAROPINTO_TABLE_NUMBERS; i++)
-        later_years &= table[i] == 0;
-    test("year_0_has_premium_and_outgo_twice",
-         table[0] == 1000000 && table[1] == 900000 && table[2] == 1000000 && table[3] == 900000);
-    test("years_after_class_120_are_0", later_years);
+    for (size_t k = 1; k < XAROPINTO_TABLE_NUMBERS / 4; k++)
+        later_years &= memcmp(table + 4 * k, year, sizeof year) == 0;
+    test("year_0_has_premium_and_outgo_twice", memcmp(table, year, sizeof year) == 0);
+    test("later_years_of_class_120_are_the_same", later_years);
     test("numbers_past_200_stay", marks_stand(table, XAROPINTO_TABLE_NUMBERS, TABLE_SIZE));
     free(table);
     free(book.bytes);
@@ -470,17 +489,17 @@ static void test_record(void)
     free(book.bytes);
 }
 
-/* A chain has 121 - k cells in year k: 4,825 in fifty years, times 14 chains. In setting 7 the five percent of the
- * first five years, rounded down by product group, are 177 for PG1 and 57 for each other group. */
+/* A chain has 121 cells in each of fifty years: 6,050, times 14 chains. In setting 7 the five percent of the first
+ * five years, rounded down by year and product group, are 5 times 36 for PG1 and 5 times 12 for each other group. */
 static void test_full_book(void)
 {
-    static const int64_t totals[8] = {67550, 67550, 67550, 67550, 67550, 67550, 67550, 67955};
-    static const int64_t differences[4] = {0, 0, 0, 405};
+    static const int64_t totals[8] = {84700, 84700, 84700, 84700, 84700, 84700, 84700, 85120};
+    static const int64_t differences[4] = {0, 0, 0, 420};
     parameter_book book = full_book();
     test("a_full_book_is_accepted", book.length == XAROPINTO_LONGEST_BOOK && verdict_is(book, 0, 0, MOST_RECORDS));
     test("a_full_book_has_its_totals", totals_are(book, MOST_RECORDS, totals, differences));
-    test("pg1_has_six_chains", group_is(book, 0, 1, 28950, 726) && group_is(book, 7, 1, 29127, 726));
-    test("pg5_has_two_chains", group_is(book, 0, 5, 9650, 242) && group_is(book, 7, 5, 9707, 242));
+    test("pg1_has_six_chains", group_is(book, 0, 1, 36300, 726) && group_is(book, 7, 1, 36480, 726));
+    test("pg5_has_two_chains", group_is(book, 0, 5, 12100, 242) && group_is(book, 7, 5, 12160, 242));
     free(book.bytes);
 }
 
@@ -493,7 +512,7 @@ static void test_settings(void)
     contracts each_year = {0, 100000, 1000000, 10000000};
     parameter_book book = one_man_book(2, each_year);
     put(book, COST_RATES + 4 * (PG2 - 1), 4, 100000);
-    put(book, MORTALITY + 4 * (LAST_CLASS - 1), 4, 100000);
+    put(book, MORTALITY + 4 * (LAST_CLASS - 2), 4, 100000);
     test("every_setting_and_difference_is_its_own", totals_are(book, 1, totals, differences));
     free(book.bytes);
 }
@@ -543,6 +562,19 @@ static void test_in_force(void)
                                                table_number(leaving, 0, 2, PREMIUM) == 4444448);
     free(dying.bytes);
     free(leaving.bytes);
+}
+
+/* After a year 0.565 times 0.8 of the contract is left; then each year 0.913 times 0.95 of what was. */
+static void test_very_old(void)
+{
+    parameter_book book = very_old_book();
+    test("class_119_pays_premiums", table_number(book, 0, 0, PREMIUM) == 10000000);
+    test("class_120_has_its_own_amounts",
+         table_number(book, 0, 1, PREMIUM) == 0 && table_number(book, 0, 1, OUTGO) == 4520000);
+    test("class_120_has_its_own_rates_each_year",
+         table_number(book, 0, 2, OUTGO) == 3920422 && table_number(book, 0, 3, OUTGO) == 3400378);
+    test("class_120_stays_up_to_year_49", table_number(book, 0, 49, OUTGO) == 4880);
+    free(book.bytes);
 }
 
 /* ---- accounts ---- */
@@ -630,23 +662,34 @@ static void test_cost_rate_refusals(void)
     test("a_rate_above_1000000_is_refused", accounts_refused(even_accounts(1000, 189), 19));
 }
 
+/* A report of the paper's book: a line for each of the first five years, another for each of the 45 after them. */
+static int one_record_report_is(size_t setting, const char *first, const char *later)
+{
+    enum { YEARS = XAROPINTO_TABLE_NUMBERS / 4 };
+    parameter_book book = one_record_book();
+    const char *lines[YEARS];
+    for (size_t k = 0; k < YEARS; k++)
+        lines[k] = k < 5 ? first : later;
+    int holds = report_is(book, setting, lines, YEARS);
+    free(book.bytes);
+    return holds;
+}
+
 /* Ten premiums of 100,000; claims of 800,000, in setting 7 a twentieth more; costs of a tenth of the premiums, in
  * setting 5 a fifth more. Then trial figures T3 and T4, in six years. */
 static void test_report(void)
 {
-    static const char *const base[] = {"1000000,900000"}, *const costs_up[] = {"1000000,920000"},
-                      *const claims_up[] = {"1000000,940000"};
+    static const char base[] = "1000000,900000", costs_up[] = "1000000,920000", claims_up[] = "1000000,940000";
     static const char *const capped[] = {"1001,900", "1001,900", "1001,900", "1001,900", "1001,900", "1000,900"};
     contracts rich = {0, 0, 1001, 900};
     parameter_book none = unlinked_book(0);
-    parameter_book book = one_record_book();
     parameter_book six_years = one_man_book(6, rich);
     test("a_report_without_records_is_all_zeros", report_is(none, 0, NULL, 0));
-    test("a_report_has_premium_and_outgo_of_pg2", report_is(book, 0, base, 1));
-    test("a_report_goes_by_its_setting", report_is(book, 5, costs_up, 1) && report_is(book, 7, claims_up, 1));
+    test("a_report_has_premium_and_outgo_of_pg2", one_record_report_is(0, base, base));
+    test("a_report_goes_by_its_setting",
+         one_record_report_is(5, costs_up, base) && one_record_report_is(7, claims_up, base));
     test("a_report_has_the_premium_after_the_cap", report_is(six_years, 0, capped, 6));
     free(six_years.bytes);
-    free(book.bytes);
     free(none.bytes);
 }
 
@@ -670,7 +713,7 @@ static void test_report_refusals(void)
 static void test_convert(void)
 {
     contracts each_year = {0, 0, 1000, 900};
-    parameter_book book = one_man_newer_book(2, each_year);
+    parameter_book book = one_man_newer_book(1, each_year);
     size_t room = book.length + 7, same = 0;
     uint8_t *out = exact_memory(room);
     memset(out, 0xA5, room);
@@ -856,6 +899,7 @@ int main(void)
     test_discounting();
     test_cap();
     test_in_force();
+    test_very_old();
     test_cost_rates();
     test_cost_rate_refusals();
     test_report();

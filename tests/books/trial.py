@@ -6,21 +6,22 @@ from second.layout import CLASSES, COST_RATES, CURVE
 PG1A_MEN, PG1B_WOMEN = 0, 3
 CERTAIN_DEATH = [[1_000_000] * CLASSES, [1_000_000] * CLASSES]
 FALLING_CURVE = [-10_000] * len(CURVE)
-# What the paper prints of its one-record book.
-PAPER_LISTING = b"""0 -100000 1
-1 -100000 1
-2 -100000 1
-3 -100000 1
-4 -100000 1
-5 -80000 1
-6 -120000 1
-7 -60000 1
+# Of the paper's one-record book, which stays at class 120: fifty times a credit of 100,000; in settings 5, 6 and 7
+# five of these years have one of 80,000, of 120,000 and of 60,000.
+PAPER_LISTING = b"""0 -5000000 1
+1 -5000000 1
+2 -5000000 1
+3 -5000000 1
+4 -5000000 1
+5 -4900000 1
+6 -5100000 1
+7 -4800000 1
 """
 
 
 def contract(amounts, lapse=0, count=1):
-    """Contracts of one class that meet these (premium, claims) year by year up to class 120."""
-    cells = [Cell(0, lapse, premium, claims) for premium, claims in amounts]
+    """Contracts of one class that meet these (premium, claims) year by year, and nothing from class 120 on."""
+    cells = [Cell(0, lapse, premium, claims) for premium, claims in [*amounts, (0, 0)]]
     cells[0] = cells[0]._replace(count=count)
     return Portfolio(CLASSES - len(cells), tuple(cells))
 
@@ -39,7 +40,15 @@ def one_contract_book(amounts, lapse=0, cost_rate=0, chain=PG2_MEN, **tables):
 def in_force_book(mortality, lapse):
     """One man from class 100, with the same rates for everyone at every class."""
     rates = [[mortality] * CLASSES for _ in range(2)]
-    return one_contract_book([(10_000_000, 0)] * 21, lapse, mortality=rates)
+    return one_contract_book([(10_000_000, 0)] * 20, lapse, mortality=rates)
+
+
+def very_old_book():
+    """A man who comes to class 120 in the second year; its rates and amounts are unlike those of class 119."""
+    mortality = [[0] * CLASSES for _ in range(2)]
+    mortality[0][119:] = [500_000, 100_000]
+    cells = (Cell(1, 200_000, 10_000_000, 0), Cell(0, 50_000, 0, 10_000_000))
+    return make_book(Values(mortality=mortality, portfolios={PG2_MEN: Portfolio(119, cells)}))
 
 
 def rich_and_poor_book(rich=PG1A_MEN, poor=PG1B_WOMEN):
@@ -81,9 +90,9 @@ def loss_in_discounting_book():
 
 def loss_in_every_step_book(chains=(PG2_MEN,)):
     """For each chain of men a contract that all but ends in a year, then loses a unit at each rounding."""
+    first_class, cells = contract([(0, 98)] + [(0, 9_889_000)] * 49, lapse=1)
     mortality = [[1] * CLASSES for _ in range(2)]
-    mortality[0][71] = 1_000_000
-    cells = list(contract([(0, 98)] + [(0, 9_889_000)] * 49, lapse=1).cells)
-    cells[0] = cells[0]._replace(lapse=999_923)
+    mortality[0][first_class] = 1_000_000
+    cells = (cells[0]._replace(lapse=999_923), *cells[1:])
     return make_book(Values(curve=FALLING_CURVE, mortality=mortality,
-                            portfolios=dict.fromkeys(chains, Portfolio(71, tuple(cells)))))
+                            portfolios=dict.fromkeys(chains, Portfolio(first_class, cells))))

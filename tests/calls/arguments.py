@@ -49,7 +49,7 @@ def test_taken(report, library):
         reply = library.group(one_record_book(), 0, 2, table)
         first_year = list(table)[:4]
         report.test(f"{words} is a table", (reply, first_year) == (
-            (0, 0, -100_000, 1), [1_000_000, 900_000, 1_000_000, 900_000]), (reply, first_year))
+            (0, 0, -5_000_000, 1), [1_000_000, 900_000, 1_000_000, 900_000]), (reply, first_year))
     report.test("an empty array is a table of no numbers",
                 library.group(one_record_book(), 0, 2, array("Q")) == (16, 0, 0, 0))
 

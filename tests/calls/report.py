@@ -171,7 +171,7 @@ def test_worked(report, library):
                 [line.split(",")[:2] for line in lines[1:251]]
                 == [[str(group), str(k)] for group, k in product(range(1, 6), range(50))])
     report.test("PG2 has ten premiums, eight in ten of them claims and one in ten costs",
-                lines[51:53] == ["2,0,1000000,900000", "2,1,0,0"], lines[51:53])
+                lines[51:53] == ["2,0,1000000,900000", "2,1,1000000,900000"], lines[51:53])
     capped = lines_of(library, sixth_year_book())[55:57]
     report.test("the premium is that after the cap", capped == ["2,4,0,0", "2,5,1000,900"], capped)
     # 1,600 of premium in all and 1,100 of claims in every year: from the sixth on ten ninths of 1,100 count.

@@ -70,7 +70,7 @@ def trial_calls():
 
 
 def class_calls():
-    """Contracts that pass class 120 at once, after a year, or just within 50 years."""
+    """Contracts that stay at class 120 from the start, after a year, or just within 50 years."""
     plain = books.Cell(3, 41_000, 250_000, 190_000)
     for chain, first_class in ((0, 120), (3, 119), (7, 120), (8, 119), (11, 119), (13, 120),
                                (4, 72), (6, 71), (9, 70)):
@@ -78,6 +78,8 @@ def class_calls():
         yield Call(f"{CHAINS[chain].name.replace(' ', '_')}_from_class_{first_class}",
                    chain % 8, group_of(chain),
                    books.repeated_book(values, chain, first_class, plain))
+    for setting in (0, 1, 2, 3, 4):
+        yield Call(f"very_old_setting_{setting}", setting, 2, trials.very_old_book())
 
 
 def end_calls():

@@ -84,6 +84,8 @@ def cover_figures(report, accepted):
     liabilities = [entry.reply[2] for entry in accepted]
     report.test("debts, credits and zero", min(liabilities) < 0 < max(liabilities)
                 and 0 in liabilities)
+    report.test("a cell of class 120 with outgo in all fifty years",
+                any(len(entry.cells()) == 1 and all(entry.reply[4][1::4]) for entry in accepted))
     at_cap, below_cap, above_cap = set(), set(), set()
     for entry in accepted:
         numbers = entry.reply[4]

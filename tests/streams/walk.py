@@ -66,9 +66,11 @@ def cases_by_lapse():
 
 
 def cases_by_age():
-    """A cell ends with class 120: from class 72 on within the fifty years."""
+    """Who comes to class 120 stays there: for good, or until all leave it, from class 72 on within the fifty years."""
     for first_class, years in ((120, 1), (117, 4), (116, 5), (72, 49), (71, 50), (0, 50)):
-        yield Case(f"from_class_{first_class}", 0, PG2_MEN, one_cell_book(first_class, 100_000), years)
+        all_leave = one_cell_book(first_class, 100_000, {OLDEST_CLASS - first_class: 1_000_000})
+        yield Case(f"from_class_{first_class}_until_all_leave_class_120", 0, PG2_MEN, all_leave, years)
+        yield Case(f"from_class_{first_class}_for_good", 0, PG2_MEN, one_cell_book(first_class, 100_000), YEARS)
 
 
 def cases_of_remnants():
@@ -89,10 +91,11 @@ def cases_by_death():
     for setting in SETTINGS:
         yield Case(f"certain_death_in_setting_{setting}", setting, PG2_MEN, in_force_book(1_000_000, 0),
                    1 if setting == 1 else None)
-    for k, setting, years in ((4, 0, 21), (4, 1, 5), (5, 1, 21)):
+    for k, setting, years in ((4, 0, YEARS), (4, 1, 5), (5, 1, YEARS)):
+        man = contract([(7, 5)] * 20)
         mortality = [[0] * CLASSES, [0] * CLASSES]
-        mortality[0][100 + k] = 1_000_000
-        book = make_book(Values(mortality=mortality, portfolios={PG2_MEN: contract([(7, 5)] * 21)}))
+        mortality[0][man.first_class + k] = 1_000_000
+        book = make_book(Values(mortality=mortality, portfolios={PG2_MEN: man}))
         yield Case(f"certain_death_in_year_{k}_in_setting_{setting}", setting, PG2_MEN, book, years)
 
 
@@ -148,7 +151,7 @@ def cover(report, entries):
     worked = [entry for entry in reckoned if entry.case.worked is not None]
     wrong = [entry.name for entry in entries if entry.case.worked not in (None, entry.years)]
     report.test("what was worked by hand", not wrong, wrong[:5])
-    report.test("28 cells worked by hand", len(worked) == 28, len(worked))
+    report.test("34 cells worked by hand", len(worked) == 34, len(worked))
     report.test("21 entries without a cell", len(entries) - len(reckoned) == 21, len(entries) - len(reckoned))
     for chain in (PG2_MEN, PG2_WOMEN):
         seen = {entry.years for entry in worked if entry.case.chain == chain}

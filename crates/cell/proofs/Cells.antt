@@ -3,12 +3,11 @@ use mathlib.Core.Path.{_≡_, refl}
 use mathlib.Core.Bool.{Bool, true, false}
 use mathlib.Core.List.{List}
 use Prim.Native.Nat.{ℕ, zero, suc, _+_, _-_, _*_, _/_, _≤_, _<_}
-use native.Mathlib.Nat.{le-trans, mul-le-mul, mul-le-mul-left, div-le-of-le-mul, mul-zero, zero-mul, zero-div}
+use native.Mathlib.Nat.{le-trans, mul-le-mul, mul-le-mul-left, div-le-of-le-mul}
 use native.Mathlib.Numerals.{add-one}
 use native.Mathlib.Omega.{arith}
 use lib.Dec.{ltb}
 use borrow.Author.Tests.{ltb-true}
-use Rattle.field.specs.Verdicts.{pick}
 use Rattle.book.specs.Layout.{chainSex, sexOf, classOf, nextOf, fieldOf, lapseOffset}
 use Rattle.book.specs.Reading.{Standing}
 use Rattle.settings.specs.Settings.{mortalityIn, lapseIn}
@@ -32,17 +31,16 @@ module _ (b : List ℕ) (w : Decrements) (chain i : ℕ) (few : chain < 14) (s :
   abbrev here : ℕ → ℕ
   here k = rowAt b i k
 
+  abbrev deaths : ℕ → ℕ
+  deaths k = mortalityOf b (sexOf b i) (classOf b (here k))
+
   -- what the reckoning has in force is no more than the contracts
   inforce-le : (k : ℕ) → inForce rounded (cellOf b w i) k ≤ 100_000_000_000_000
   unfolding inForce cellOf
   inforce-le zero = omega (arith, s .0 .count)
   inforce-le (suc k) =
       le-trans (share-le _ _ (one-less-le (fieldOf b (here k) lapseOffset) (lapseIn w k)))
-      (le-trans (share-le _ _ (living-le (ltb (classOf b (here k)) 120))) (inforce-le k))
-    where
-      living-le : (t : Bool) → pick t (oneLess (mortalityOf b (sexOf b i) (classOf b (here k))) (mortalityIn w (sexOf b i) k)) 0 ≤ 1_000_000_000
-      living-le true = one-less-le (mortalityOf b (sexOf b i) (classOf b (here k))) (mortalityIn w (sexOf b i) k)
-      living-le false = omega arith
+      (le-trans (share-le _ _ (one-less-le (deaths k) (mortalityIn w (sexOf b i) k))) (inforce-le k))
 
   -- every state of the reckoning can go on
   pub state-ready : (k : ℕ) → Ready b (stateOf b w chain i k)
@@ -61,7 +59,9 @@ module _ (b : List ℕ) (w : Decrements) (chain i : ℕ) (few : chain < 14) (s :
       let rise : classOf b (nextOf b (here k)) ≡ classOf b (here k) + 1 = row-class b chain (here k) r (ltb-true _ _ e) in
       let sex : sexOf b i ≡ chainSex chain = s .0 .sex in
       rw (e, rise, sex)
-  next-by k false e = rw (e, mul-zero, zero-div, zero-mul, zero-div)
+  next-by k false e =
+      let sex : sexOf b i ≡ chainSex chain = s .0 .sex in
+      rw (e, sex)
 
   pub state-next : (k : ℕ) → nextYear b w k (stateOf b w chain i k) ≡ stateOf b w chain i (k + 1)
   state-next k = rw (add-one k) (next-by k (ltb (classOf b (here k)) 120) refl)

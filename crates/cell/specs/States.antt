@@ -23,12 +23,12 @@ survivors b w k c =
     c .inforce * oneLess (mortalityOf b (chainSex (c .chain)) (c .class)) (mortalityIn w (chainSex (c .chain)) k) / 1_000_000_000
     * oneLess (fieldOf b (c .row) lapseOffset) (lapseIn w k) / 1_000_000_000
 
--- the state a year after year k. A cell of the last class keeps its row, with nothing in force.
+-- the state a year after year k: the next class, or again the last
 unfoldable pub nextYear : List ℕ → Decrements → ℕ → Cell → Cell
 nextYear b w k c =
     pickCell (ltb (c .class) (lastClass 1))
     (record { chain = c .chain; row = nextOf b (c .row); class = c .class + 1; inforce = survivors b w k c })
-    (record { chain = c .chain; row = c .row; class = c .class; inforce = 0 })
+    (record { chain = c .chain; row = c .row; class = c .class; inforce = survivors b w k c })
 
 -- the state at k = 0
 abbrev pub startOf : List ℕ → ℕ → ℕ → Cell

@@ -68,7 +68,7 @@ impl Cell {
         arith::share(arith::share(self.inforce, living), staying)
     }
 
-    // The state a year after year k.
+    // The state a year after year k. A contract renews while the insured lives: at the last class it stays there.
     pub fn next_year(self, book: &[u8], w: Decrements, k: usize) -> Cell
         requires { ⌜ Weighed w × ValidBook 1 (now book) × Ready (now book) self ⌝ }
         ensures { λ r. ⌜ r ≡ nextYear (now (book .entry)) w k self ⌝ }
@@ -76,19 +76,20 @@ impl Cell {
         let chain = self.chain;
         let row = self.row;
         let class = self.class;
+        let inforce = self.survivors(book, w, k);
         if class < book::LAST_CLASS {
             Cell {
                 chain,
                 row: book::next_of(book, row),
                 class: class + 1,
-                inforce: self.survivors(book, w, k),
+                inforce,
             }
         } else {
             Cell {
                 chain,
                 row,
                 class,
-                inforce: 0,
+                inforce, // who lives on stays insured
             }
         }
     }

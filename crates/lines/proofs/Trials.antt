@@ -1,30 +1,57 @@
 -- The paper's listing and its refusal T11, byte by byte. Assumes nothing.
 use mathlib.Core.List.{List, [], _∷_}
 use mathlib.Core.Path.{_≡_, refl}
+use lib.Dec.{lit≤}
 use lib.IntN.{ℤ, negsuc}
 use lib.ListN.{replicate}
 use Rattle.book.proofs.Trials.{t11}
 use Rattle.reckoning.specs.Totals.{totalsReply}
 use Rattle.text.specs.Text.{spelled, decimal, signed, ended, signedEnded, refusalText, joined}
+use Rattle.text.proofs.Laws.{decimal-one, decimal-thousands}
 use Rattle.lines.specs.Listing.{listingLine, lineOf, listingText, listingOf}
 
--- the totals of the paper's book: -100000 five times, -80000, -120000, -60000
+-- the totals of the paper's book, whose contracts stay at class 120: -5000000 five times, -4900000, -5100000, -4800000
 abbrev pub paperTotals : List ℤ
 paperTotals =
-    negsuc 99999 ∷ negsuc 99999 ∷ negsuc 99999 ∷ negsuc 99999 ∷ negsuc 99999 ∷ negsuc 79999 ∷ negsuc 119999 ∷ negsuc 59999 ∷ []
+    negsuc 4999999 ∷ negsuc 4999999 ∷ negsuc 4999999 ∷ negsuc 4999999 ∷ negsuc 4999999 ∷
+    negsuc 4899999 ∷ negsuc 5099999 ∷ negsuc 4799999 ∷ []
+
+-- To compute the digits of such numbers takes the checker too much. It can for their thousands, and a law has the rest.
+thousands : (decimal 5000 ≡ 53 ∷ 48 ∷ 48 ∷ 48 ∷ []) × (decimal 4900 ≡ 52 ∷ 57 ∷ 48 ∷ 48 ∷ [])
+    × (decimal 5100 ≡ 53 ∷ 49 ∷ 48 ∷ 48 ∷ []) × (decimal 4800 ≡ 52 ∷ 56 ∷ 48 ∷ 48 ∷ [])
+unfolding decimal spelled
+thousands = (refl, refl, refl, refl)
 
 -- a line here is a line of the listing
 pub paper-listing : listingText paperTotals 1 ≡
-    48 ∷ 32 ∷ 45 ∷ 49 ∷ 48 ∷ 48 ∷ 48 ∷ 48 ∷ 48 ∷ 32 ∷ 49 ∷ 10 ∷
-    49 ∷ 32 ∷ 45 ∷ 49 ∷ 48 ∷ 48 ∷ 48 ∷ 48 ∷ 48 ∷ 32 ∷ 49 ∷ 10 ∷
-    50 ∷ 32 ∷ 45 ∷ 49 ∷ 48 ∷ 48 ∷ 48 ∷ 48 ∷ 48 ∷ 32 ∷ 49 ∷ 10 ∷
-    51 ∷ 32 ∷ 45 ∷ 49 ∷ 48 ∷ 48 ∷ 48 ∷ 48 ∷ 48 ∷ 32 ∷ 49 ∷ 10 ∷
-    52 ∷ 32 ∷ 45 ∷ 49 ∷ 48 ∷ 48 ∷ 48 ∷ 48 ∷ 48 ∷ 32 ∷ 49 ∷ 10 ∷
-    53 ∷ 32 ∷ 45 ∷ 56 ∷ 48 ∷ 48 ∷ 48 ∷ 48 ∷ 32 ∷ 49 ∷ 10 ∷
-    54 ∷ 32 ∷ 45 ∷ 49 ∷ 50 ∷ 48 ∷ 48 ∷ 48 ∷ 48 ∷ 32 ∷ 49 ∷ 10 ∷
-    55 ∷ 32 ∷ 45 ∷ 54 ∷ 48 ∷ 48 ∷ 48 ∷ 48 ∷ 32 ∷ 49 ∷ 10 ∷ []
-unfolding listingText joined lineOf listingLine ended signedEnded signed decimal spelled
-paper-listing = refl
+    48 ∷ 32 ∷ 45 ∷ 53 ∷ 48 ∷ 48 ∷ 48 ∷ 48 ∷ 48 ∷ 48 ∷ 32 ∷ 49 ∷ 10 ∷
+    49 ∷ 32 ∷ 45 ∷ 53 ∷ 48 ∷ 48 ∷ 48 ∷ 48 ∷ 48 ∷ 48 ∷ 32 ∷ 49 ∷ 10 ∷
+    50 ∷ 32 ∷ 45 ∷ 53 ∷ 48 ∷ 48 ∷ 48 ∷ 48 ∷ 48 ∷ 48 ∷ 32 ∷ 49 ∷ 10 ∷
+    51 ∷ 32 ∷ 45 ∷ 53 ∷ 48 ∷ 48 ∷ 48 ∷ 48 ∷ 48 ∷ 48 ∷ 32 ∷ 49 ∷ 10 ∷
+    52 ∷ 32 ∷ 45 ∷ 53 ∷ 48 ∷ 48 ∷ 48 ∷ 48 ∷ 48 ∷ 48 ∷ 32 ∷ 49 ∷ 10 ∷
+    53 ∷ 32 ∷ 45 ∷ 52 ∷ 57 ∷ 48 ∷ 48 ∷ 48 ∷ 48 ∷ 48 ∷ 32 ∷ 49 ∷ 10 ∷
+    54 ∷ 32 ∷ 45 ∷ 53 ∷ 49 ∷ 48 ∷ 48 ∷ 48 ∷ 48 ∷ 48 ∷ 32 ∷ 49 ∷ 10 ∷
+    55 ∷ 32 ∷ 45 ∷ 52 ∷ 56 ∷ 48 ∷ 48 ∷ 48 ∷ 48 ∷ 48 ∷ 32 ∷ 49 ∷ 10 ∷ []
+unfolding listingText joined lineOf listingLine ended signedEnded signed
+paper-listing =
+    rw (
+      decimal-thousands 5000 (lit≤ tt),
+      decimal-thousands 4900 (lit≤ tt),
+      decimal-thousands 5100 (lit≤ tt),
+      decimal-thousands 4800 (lit≤ tt),
+      thousands .0,
+      thousands .1,
+      thousands .2,
+      thousands .3,
+      decimal-one 0 (lit≤ tt),
+      decimal-one 1 (lit≤ tt),
+      decimal-one 2 (lit≤ tt),
+      decimal-one 3 (lit≤ tt),
+      decimal-one 4 (lit≤ tt),
+      decimal-one 5 (lit≤ tt),
+      decimal-one 6 (lit≤ tt),
+      decimal-one 7 (lit≤ tt),
+    )
 
 -- `refused 2 0`
 pub refused-line : refusalText 2 0 ≡

@@ -2,15 +2,15 @@
 use mathlib.Core.Path.{_≡_, refl}
 use mathlib.Core.List.{List, [], _∷_, _++_}
 use mathlib.Core.Bool.{Bool, true, false}
-use Prim.Native.Nat.{ℕ, zero, suc, _+_, _-_, _*_, _<_, _≤_, zero-le}
+use Prim.Native.Nat.{ℕ, zero, suc, _+_, _-_, _*_, _<_, _≤_}
 use native.Mathlib.Omega.{arith}
 use borrow.Author.Tests.{eqb-true, eqb-false, ltb-true, leb-true}
-use lib.Dec.{eqb, ltb}
+use lib.Dec.{eqb}
 use Rattle.field.specs.Verdicts.{pick}
 use Rattle.field.specs.declared.Verdict.the-variants.{Accepted}
 use Rattle.field.proofs.Verdicts.{need-true, then-left, then-right}
 use Rattle.field.proofs.Ranges.{within-means}
-use Rattle.book.specs.Layout.{lastClass, chains, headOf, classOf, nextOf, mortalityPlace, mostRate}
+use Rattle.book.specs.Layout.{lastClass, chains, headOf, nextOf, mortalityPlace, mostRate}
 use Rattle.book.specs.Cells.{firstChain, chainsOf}
 use Rattle.book.specs.Reading.{ChainFrom, Standing, ValidBook}
 use Rattle.book.proofs.Valid.{valid, chain-next}
@@ -18,7 +18,7 @@ use Rattle.settings.specs.declared.Decrements.{Decrements}
 use Rattle.settings.proofs.Laws.{costs-most, claims-most}
 use Rattle.reckoning.specs.Steps.{Cell}
 use Rattle.reckoning.specs.Bounds.{GoodCell, GoodCells, GoodTerms}
-use Rattle.reckoning.specs.Portfolio.{mortalityOf, costRateOf, divisorOf, oneLess, rowAt, cellOf, linksFrom, chainLinks, linksOf, cellsOf, groupCells, termsOf}
+use Rattle.reckoning.specs.Portfolio.{mortalityOf, costRateOf, divisorOf, oneLess, cellOf, linksFrom, chainLinks, linksOf, cellsOf, groupCells, termsOf}
 use Rattle.reckoning.specs.Replies.{groupCheck}
 use Rattle.reckoning.proofs.Rows.{chain-standing, row-standing}
 use Rattle.reckoning.proofs.Members.{counted, links-counted, cells-append}
@@ -97,10 +97,10 @@ module _ (b : List ℕ) (w : Decrements) where
   pub good-cell : (k i : ℕ) → Standing b (lastClass 1) k i → GoodCell (cellOf b w i)
   unfolding cellOf
   good-cell k i s = record {
-    living-most = λ j year. pick-each (λ n. n ≤ 1_000_000_000) (ltb (classOf b (rowAt b i j)) (lastClass 1)) _ _ (oneLess-most _ _) zero-le;
+    living-most = λ j year. oneLess-most _ _;
     staying-most = λ j year. oneLess-most _ _;
-    premium-most = λ j year. row-standing b k i s j .0 .premium;
-    claims-most = λ j year. row-standing b k i s j .0 .claims;
+    premium-most = λ j year. row-standing b k i s _ .0 .premium;
+    claims-most = λ j year. row-standing b k i s _ .0 .claims;
   }
 
   counted-good : (k left i : ℕ) → ChainFrom b (lastClass 1) k left i → left ≤ lastClass 1 → GoodCells (cellsOf b w (counted b left i))

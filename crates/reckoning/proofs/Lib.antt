@@ -3,6 +3,7 @@ pub mod Errors
 pub mod Differences
 pub mod Distance
 pub mod Rows
+pub mod Oldest
 pub mod Members
 pub mod Accepted
 pub mod Promised

@@ -25,7 +25,7 @@ module _ (b : List ℕ) (i mortality lapse : ℕ) (o : OneMan b i mortality laps
   unfolding cellOf
   living-is k two =
       let young = young-row k two in
-      rw (lt-ltb _ _ young, o .man, o .dies (classOf b (rowAt b i k)) (omega arith), lt-ltb k 5 (omega arith))
+      rw (o .man, o .dies (classOf b (rowAt b i k)) (omega arith), lt-ltb k 5 (omega arith))
 
   staying-is : (k : ℕ) → k < 2 → (cellOf b w i) .staying k ≡ oneLess lapse (w .first .lapse)
   unfolding cellOf

@@ -25,7 +25,8 @@ divisorOf b k = pick (eqb k 0) 1_000_000 ((readU32 b (curvePlace + 4 * (k - 1)) 
 unfoldable pub oneLess : ℕ → ℕ → ℕ
 oneLess rate weight = 1_000_000_000 - min (rate * weight) 1_000_000_000
 
--- the record that holds for a cell a year later: the next one of its chain; at the last class the same
+-- The record that holds for a cell a year later: the next one of its chain; at the last class the same, for a contract
+-- renews while the insured lives (FINMA 2.2, 4.2).
 abbrev pub onward : List ℕ → ℕ → ℕ
 onward b i = pick (ltb (classOf b i) (lastClass 1)) (nextOf b i) i
 
@@ -34,11 +35,11 @@ unfoldable pub rowAt : List ℕ → ℕ → ℕ → ℕ
 rowAt b i zero = i
 rowAt b i (suc k) = onward b (rowAt b i k)
 
--- The cell of record i at the weights w. Nothing goes on from the last class (house rule).
+-- The cell of record i at the weights w: in year k the rates and amounts of the class that it has reached.
 unfoldable pub cellOf : List ℕ → Decrements → ℕ → Cell
 cellOf b w i = record {
   count = fieldOf b i countOffset;
-  living = λ k. pick (ltb (classOf b (rowAt b i k)) (lastClass 1)) (oneLess (mortalityOf b (sexOf b i) (classOf b (rowAt b i k))) (mortalityIn w (sexOf b i) k)) 0;
+  living = λ k. oneLess (mortalityOf b (sexOf b i) (classOf b (rowAt b i k))) (mortalityIn w (sexOf b i) k);
   staying = λ k. oneLess (fieldOf b (rowAt b i k) lapseOffset) (lapseIn w k);
   premium = λ k. fieldOf b (rowAt b i k) premiumOffset;
   claims = λ k. fieldOf b (rowAt b i k) claimsOffset;

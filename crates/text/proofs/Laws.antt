@@ -44,6 +44,25 @@ decimal-more zero h = absurd (not-suc-le-zero h)
 decimal-more (suc n) h =
     rw (le-ltb (suc n) 10 h) (ap (λ (l : List ℕ). l ++ ((48 + suc n % 10) ∷ [])) (spelled-same n (suc n / 10) (suc n / 10) (omega arith) (omega arith)))
 
+-- ten times a number: a nought more; a thousand times: three
+pub decimal-tens : (n : ℕ) → 0 < n → decimal (n * 10) ≡ decimal n ++ 48 ∷ []
+decimal-tens n h =
+    let tenth : n * 10 / 10 ≡ n = omega arith in
+    let nought : n * 10 % 10 ≡ 0 = omega arith in
+    rw (decimal-more (n * 10) (omega arith), tenth, nought)
+
+pub decimal-thousands : (n : ℕ) → 0 < n → decimal (n * 1000) ≡ decimal n ++ 48 ∷ 48 ∷ 48 ∷ []
+decimal-thousands n h =
+    let thrice : n * 1000 ≡ n * 10 * 10 * 10 = omega arith in
+    rw (
+      thrice,
+      decimal-tens (n * 10 * 10) (omega arith),
+      decimal-tens (n * 10) (omega arith),
+      decimal-tens n h,
+      append-assoc,
+      append-assoc,
+    )
+
 -- no more digits than k + 1 where n has no more
 spelled-most : (f k n : ℕ) → n < 10 ^ (k + 1) → length (spelled f n) ≤ k + 1
 unfolding spelled

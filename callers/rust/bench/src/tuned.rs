@@ -59,6 +59,7 @@ struct Book {
 }
 
 /// A record under the weights of a setting; what lives on and what stays are in billionths.
+#[derive(Clone, Copy)]
 struct Row {
     count: u64,
     living_first: u64,
@@ -131,7 +132,7 @@ fn read_chain(bytes: &[u8], chain: usize) -> Vec<Record> {
 
 /// Steps 1 and 2 for every product group.
 fn project(book: &Book, weights: &Weights, walk: Walk) -> [Sums; PRODUCT_GROUPS] {
-    let mut rows = Vec::with_capacity(CLASSES);
+    let mut rows = Vec::with_capacity(CLASSES + YEARS);
     std::array::from_fn(|group| {
         let mut sums = Sums {
             premium: [0; YEARS],
@@ -148,6 +149,8 @@ fn project(book: &Book, weights: &Weights, walk: Walk) -> [Sums; PRODUCT_GROUPS]
     })
 }
 
+/// The rows of a chain, and after them that of class 120 again, without contracts of its own: whoever comes
+/// to it stays there.
 fn weigh(records: &[Record], sex: usize, weights: &Weights, rows: &mut Vec<Row>) {
     let [first, later] = weights.mortality[sex];
     rows.clear();
@@ -159,6 +162,10 @@ fn weigh(records: &[Record], sex: usize, weights: &Weights, rows: &mut Vec<Row>)
         premium: record.premium,
         claims: record.claims,
     }));
+    if let Some(last) = rows.last() {
+        let again = Row { count: 0, ..*last };
+        rows.resize(records.len() + YEARS - 1, again);
+    }
 }
 
 fn one_less(rate: u64, weight: u64) -> u64 {
@@ -166,17 +173,16 @@ fn one_less(rate: u64, weight: u64) -> u64 {
 }
 
 fn add_cell_by_cell(rows: &[Row], sums: &mut Sums) {
-    for own in 0..rows.len() {
-        add_cell(&rows[own..], sums);
+    for fifty in rows.windows(YEARS) {
+        add_cell(fifty, sums);
     }
 }
 
-/// Walks the cell of the first row up to class 120 or year 49, or until nothing is in force.
+/// Walks the cell of the first of fifty rows, until nothing is in force.
 fn add_cell(rows: &[Row], sums: &mut Sums) {
-    let rows = &rows[..rows.len().min(YEARS)];
-    let (first, later) = rows.split_at(rows.len().min(SHIFTED_YEARS));
-    let (first_premium, later_premium) = sums.premium.split_at_mut(first.len());
-    let (first_claims, later_claims) = sums.claims.split_at_mut(first.len());
+    let (first, later) = rows.split_at(SHIFTED_YEARS);
+    let (first_premium, later_premium) = sums.premium.split_at_mut(SHIFTED_YEARS);
+    let (first_claims, later_claims) = sums.claims.split_at_mut(SHIFTED_YEARS);
     let mut in_force = rows[0].count * BILLION;
     for ((row, premium), claims) in first.iter().zip(first_premium).zip(first_claims) {
         if in_force == 0 {
@@ -199,11 +205,10 @@ fn add_year_by_year(rows: &[Row], sums: &mut Sums) {
         *in_force = row.count * BILLION;
     }
     let mut runs = runs_with_contracts(rows);
-    for k in 0..rows.len().min(YEARS) {
+    for k in 0..YEARS {
         let (premium, claims) = (&mut sums.premium[k], &mut sums.claims[k]);
         for run in &mut runs {
-            let end = run.end.min(rows.len() - k).max(run.start);
-            run.end = end_in_force(&in_force, run.start, end);
+            run.end = end_in_force(&in_force, run.start, run.end);
             let reached = rows.iter().skip(run.start + k);
             for (in_force, row) in in_force[run.clone()].iter_mut().zip(reached) {
                 let living = if k < SHIFTED_YEARS {

@@ -149,7 +149,7 @@ fn next_in_force(in_force: u128, mortality: u128, lapse: u128) -> u128 {
 }
 
 /// Steps 1 and 2: the year sums of a product group. The records from a cell's own on are those of the
-/// classes that it reaches, and there is none above class 120.
+/// classes that it reaches; once at class 120, the last, it stays there.
 fn year_sums(book: &[u8], setting: usize, group: usize) -> [Sums; YEARS] {
     let mut sums = [Sums::default(); YEARS];
     let weights = &WEIGHTS[setting];
@@ -158,9 +158,10 @@ fn year_sums(book: &[u8], setting: usize, group: usize) -> [Sums; YEARS] {
         let records = chain_records(book, chain);
         for (own, cell) in records.iter().enumerate() {
             let mut in_force = cell.count * BILLION;
-            for (k, reached) in records[own..].iter().take(YEARS).enumerate() {
-                sums[k].premium += in_force * reached.premium / BILLION;
-                sums[k].claims += in_force * reached.claims / BILLION;
+            for (k, sums) in sums.iter_mut().enumerate() {
+                let reached = &records[(own + k).min(records.len() - 1)];
+                sums.premium += in_force * reached.premium / BILLION;
+                sums.claims += in_force * reached.claims / BILLION;
                 let mortality = four_bytes(book, mortality_place(sex, reached.class)) as u128;
                 in_force = next_in_force(
                     in_force,

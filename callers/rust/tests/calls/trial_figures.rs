@@ -10,7 +10,7 @@ const PG1A_MEN: usize = 0;
 const PG1B_WOMEN: usize = 3;
 const PG2_MEN: usize = 6;
 
-/// One contract that meets these (premium, claims) year by year up to class 120.
+/// One contract that meets these (premium, claims) year by year, and those of the last from then on.
 fn one_contract(amounts: &[(u32, u32)], lapse: u32) -> Vec<Cell> {
     let mut cells: Vec<Cell> = amounts
         .iter()
@@ -67,15 +67,38 @@ fn the_listing_of_one_record() {
     let due = Totals {
         n: 1,
         totals: [
-            -100_000, -100_000, -100_000, -100_000, -100_000, -80_000, -120_000, -60_000,
+            -5_000_000, -5_000_000, -5_000_000, -5_000_000, -5_000_000, -4_900_000, -5_100_000,
+            -4_800_000,
         ],
-        differences: [0, 0, 40_000, 40_000],
+        differences: [0, 0, 200_000, 200_000],
     };
     assert_eq!(agreed_totals(&book, "one record"), Ok(due));
     for (setting, liability) in due.totals.into_iter().enumerate() {
-        let (reply, _) = agreed_group(&book, setting, 2, 200, "one record");
+        let (reply, table) = agreed_group(&book, setting, 2, 200, "one record");
         assert_eq!(reply, Ok(Group { liability, n: 1 }));
+        // From the sixth year on the cap, ten ninths of 900,000, is just the premium.
+        for year in table.chunks(4).skip(5) {
+            assert_eq!(year, [1_000_000, 900_000, 1_000_000, 900_000]);
+        }
     }
+}
+
+#[test]
+fn the_very_old_stay_at_class_120() {
+    let mut values = Values::default();
+    values.mortality[0][119] = 500_000;
+    values.mortality[0][120] = 100_000;
+    values.chains[PG2_MEN] = [(1, 200_000, 0), (0, 50_000, 10_000_000)]
+        .map(|(count, lapse, claims)| Cell {
+            count,
+            lapse,
+            premium: 0,
+            claims,
+        })
+        .to_vec();
+    // 0.565 times 0.8 of a contract; then each year 0.913 times 0.95 of it.
+    let claims = [0, 1, 2, 3, 49].map(|k| year(&values, 0, 2, k)[1]);
+    assert_eq!(claims, [0, 4_520_000, 3_920_422, 3_400_378, 4_880]);
 }
 
 #[test]
