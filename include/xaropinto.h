@@ -21,7 +21,7 @@
  * Stack. A call takes what it needs from the caller's stack, and no proof says how much. A process that runs out of
  * stack stops. Beside what its own functions need, give a thread 40 KiB for Report, 32 KiB for Totals, 16 KiB for
  * Group, for the cost rates, for Write and for Read, 8 KiB for the others. Measured, in a first call that is bound as
- * it is called: 21,303 bytes; 19,191; 6,071, 5,735, 10,808 and 8,248; and 3,319.
+ * it is called: 21,303 bytes; 19,191; 6,071, 5,735, 10,872 and 8,248; and 3,319.
  *
  * Replies. A refusal of 0 means accepted. Otherwise `refusal` says which rule is broken and `place` where; every
  * other field of the reply is 0, and what was lent is as it was. No earlier call is trusted: each checks the whole
@@ -29,9 +29,10 @@
  *
  *   refusal  broken rule                                 place                       who mends it
  *    1       the book has at least 1,220 bytes           its length                  desk that writes the file
- *    2       edition                                     0                           desk that writes the file
+ *    2       the edition is 1 or 2                       0                           desk that writes the file
  *    3       age basis                                   1                           desk that writes the file
  *    4       SST year, number of records N, bytes 6-7    2, 4 or 6: the first        desk that writes the file
+ *            of edition 1
  *    5       the length is 1,220 + 24 N bytes            its length                  desk that writes the file
  *    6       cost rate                                   its first byte              insurer's cost sheet
  *    7       curve rate                                  its first byte              keeper of supervisor's tables
@@ -53,15 +54,18 @@
  *   20       the buffer is as long as Report room tells  0                           caller
  *   21       on age basis 2, a class is not 0            the record's first byte + 2 portfolio desk
  *   22       lists and buffers have their lengths        0                           caller
+ *   23       a percentage of edition 2 is 1 to 100       6 men, 7 women: the first   desk that writes the file
  *
  * Where several rules are broken, the reply names one. 14 to 16 are tested first, in this order; then 1 to 8, also in
- * order, and where a number has several places it is given with the lowest. 9 to 13 come last, chain by chain and
- * record by record: docs/BOOK.md has their order. 20 is tested after all of them. 17 to 19 are those of accounts, and
- * are tested in this order: 17 on all figures before 18 on any. Convert alone reads books on age basis 2: there 3
- * means a basis that is not 2, 11 and 13 go by class 121 in place of 120, and 21 is tested between 10 and 11.
+ * order, and where a number has several places it is given with the lowest. 23 is tested in edition 2 where 4 looks at
+ * bytes 6-7: after the other places of 4, and before 5. 9 to 13 come last, chain by chain and record by record:
+ * docs/BOOK.md has their order. 20 is tested after all of them. 17 to 19 are those of accounts, and are tested in this
+ * order: 17 on all figures before 18 on any. Convert alone reads books on age basis 2: there 3 means a basis that is
+ * not 2, 11 and 13 go by class 121 in place of 120, and 21 is tested between 10 and 11.
  *
  * Write refuses values and lists, not a book: each time with place 0, and in the order 11 (a first class above 121),
- * 22, 4 (the year), 6, 7, 8, 12. Read refuses the book first, then gives 22.
+ * 22, 2, 4 (the year; a percentage in edition 1), 23 (in edition 2), 6, 7, 8, 12. Read refuses the book first, then
+ * gives 22.
  */
 #ifndef XAROPINTO_H
 #define XAROPINTO_H
@@ -85,6 +89,7 @@
 #define XAROPINTO_AGE_BASIS_AT 1
 #define XAROPINTO_SST_YEAR_AT 2
 #define XAROPINTO_RECORD_COUNT_AT 4
+#define XAROPINTO_PERCENTAGES_AT 6
 #define XAROPINTO_HEADS_AT 8
 #define XAROPINTO_COST_RATES_AT 36
 #define XAROPINTO_CURVE_AT 56
@@ -101,6 +106,7 @@
 /* The first class of a chain that has no records. */
 #define XAROPINTO_NO_CLASS (XAROPINTO_LAST_CLASS + 1)
 #define XAROPINTO_CURVE_RATES 49
+#define XAROPINTO_SEXES 2
 #define XAROPINTO_MORTALITIES (2 * (XAROPINTO_LAST_CLASS + 1))
 
 /* The numbers that Group writes: four for each of fifty years. */
@@ -171,9 +177,12 @@ typedef struct {
 } xaropinto_report_reply;
 
 /* What a book says before its records, and where its chains begin; all numbers have 64 bits, so that none is cut before
- * it is tested. cost_rates: PG1 to PG5. curve: the rates for k = 1 to 49. mortality: classes 0 to 120 of men, then of
- * women. first_classes: of the 14 chains in the order of their heads, 121 for a chain that has no records. */
+ * it is tested. percentages: mortality of men and of women, both 0 in edition 1. cost_rates: PG1 to PG5. curve: the
+ * rates for k = 1 to 49. mortality: classes 0 to 120 of men, then of women. first_classes: of the 14 chains in the
+ * order of their heads, 121 for a chain that has no records. */
 typedef struct {
+    uint64_t edition;
+    uint64_t percentages[XAROPINTO_SEXES];
     uint64_t year;
     uint64_t cost_rates[XAROPINTO_PRODUCT_GROUPS];
     int64_t curve[XAROPINTO_CURVE_RATES];
@@ -195,27 +204,28 @@ typedef struct {
     xaropinto_values values;
 } xaropinto_read_reply;
 
-/* Check: is this a book? Refusals 1 to 13. */
+/* Check: is this a book? Refusals 1 to 13 and 23. */
 xaropinto_verdict xaropinto_check(const uint8_t *book, size_t length);
 
-/* Group: the liability of one product group, PG1 to PG5, in one setting. Refusals 14, 15, 16, then 1 to 13.
+/* Group: the liability of one product group, PG1 to PG5, in one setting. Refusals 14, 15, 16, then 1 to 13 and 23.
  *
  * `numbers` is how many numbers the table has. Where accepted, year k from 0 to 49 has four from number 4 k on:
  * premium after the cap, outgo, discounted premium, discounted outgo. Numbers from 200 on are as they were. */
 xaropinto_group_reply xaropinto_group(const uint8_t *book, size_t length, size_t setting, size_t group,
                                       uint64_t *table, size_t numbers);
 
-/* Totals: the liabilities of the five product groups added, in each of the eight settings. Refusals 1 to 13. */
+/* Totals: the liabilities of the five product groups added, in each of the eight settings. Refusals 1 to 13 and
+ * 23. */
 xaropinto_totals_reply xaropinto_totals(const uint8_t *book, size_t length);
 
-/* Record: where record `number`, counted from 1, stands in the book, linked or not. Refusals 1 to 13; then 9 with
- * place 0, the caller's, where the number is 0 or above N. */
+/* Record: where record `number`, counted from 1, stands in the book, linked or not. Refusals 1 to 13 and 23; then 9
+ * with place 0, the caller's, where the number is 0 or above N. */
 xaropinto_record_reply xaropinto_record(const uint8_t *book, size_t length, size_t number);
 
 /* Cost rates: those of the five product groups, out of three years of accounts. Refusals 17, 18, 19, with place 0. */
 xaropinto_cost_rates_reply xaropinto_cost_rates(xaropinto_accounts accounts);
 
-/* Report: the fifty years of all product groups in one setting, as text. Refusals 14, then 1 to 13, then 20.
+/* Report: the fifty years of all product groups in one setting, as text. Refusals 14, then 1 to 13 and 23, then 20.
  *
  * `bytes` is how many bytes `out` has. Where accepted, they begin with the line "group,year,premium,outgo" and 250
  * lines of these four numbers, commas between: groups 1 to 5, in each the years 0 to 49, the premium after the cap.
@@ -223,10 +233,10 @@ xaropinto_cost_rates_reply xaropinto_cost_rates(xaropinto_accounts accounts);
 xaropinto_report_reply xaropinto_report(const uint8_t *book, size_t length, size_t setting, uint8_t *out, size_t bytes);
 
 /* Report room: how many bytes Report wants of its buffer, for this book and setting: at least the report's length, and
- * at most 9,525. Nothing is written. Refusals 14, then 1 to 13. */
+ * at most 9,525. Nothing is written. Refusals 14, then 1 to 13 and 23. */
 xaropinto_report_reply xaropinto_report_room(const uint8_t *book, size_t length, size_t setting);
 
-/* Convert: a book on age basis 2 turned into basis 1. Refusals 16, then 1 to 13 and 21 as read on basis 2.
+/* Convert: a book on age basis 2 turned into basis 1. Refusals 16, then 1 to 13, 21 and 23 as read on basis 2.
  *
  * `room` is how many bytes `out` has. Where accepted, its first `length` bytes become the converted book: byte 1 is 1,
  * the class of every linked record is one less, all else is as in the book. Later bytes are as they were. Check then
@@ -234,7 +244,7 @@ xaropinto_report_reply xaropinto_report_room(const uint8_t *book, size_t length,
 xaropinto_verdict xaropinto_convert(const uint8_t *book, size_t length, uint8_t *out, size_t room);
 
 /* Write: the book of these values and lists, into the first bytes of `out`, which has room for so many. Refusals 11,
- * 22, 4, 6, 7, 8, 12, each with place 0.
+ * 22, 2, 4, 23, 6, 7, 8, 12, each with place 0.
  *
  * Count, lapse, premium and claims are four lists of numbers. Each holds the lists of the chains end to end, in the
  * order of the heads; a chain's has 121 less its first class, by rising class. 22 where one is shorter or longer than
@@ -245,8 +255,9 @@ xaropinto_write_reply xaropinto_write(xaropinto_values values, const uint64_t *c
                                       uint8_t *out, size_t room);
 
 /* Read: the values of a book, and its lists as Write takes them. Records that no chain links are left out. Refusals 1
- * to 13; then 22 where a list has room for fewer numbers than the book has linked records. XAROPINTO_MOST_RECORDS are
- * enough for any book. What Read gives of a book in chain order Write makes into the same bytes again. */
+ * to 13 and 23; then 22 where a list has room for fewer numbers than the book has linked records.
+ * XAROPINTO_MOST_RECORDS are enough for any book. What Read gives of a book in chain order Write makes into the same
+ * bytes again. */
 xaropinto_read_reply xaropinto_read(const uint8_t *book, size_t length, uint64_t *counts, size_t counts_length,
                                     uint64_t *lapses, size_t lapses_length, uint64_t *premiums,
                                     size_t premiums_length, uint64_t *claims, size_t claims_length);

@@ -1,10 +1,10 @@
 """The book maker: valid books from values and back, at random, full, empty, the paper's own."""
 
-from dataclasses import dataclass, field
+from dataclasses import dataclass, field, replace
 from typing import NamedTuple
 
 from second.layout import (AGE_BASIS, CHAINS, CLASSES, COST_RATES, CURVE, EDITION, MORTALITY, MOST_RECORDS,
-                           OLDEST_CLASS, RECORD_COUNT, RECORD_SIZE, SST_YEAR, record, record_start)
+                           OLDEST_CLASS, PERCENTAGES, RECORD_COUNT, RECORD_SIZE, SST_YEAR, record, record_start)
 
 PG2_MEN = 6
 
@@ -34,8 +34,13 @@ class Slot(NamedTuple):
 
 @dataclass
 class Values:
-    """All that a book says: `portfolios` maps a chain's index to its portfolio."""
+    """All that a book says: `portfolios` maps a chain's index to its portfolio.
 
+    The percentages are those that edition 2 carries, of men and of women; edition 1 carries none.
+    """
+
+    edition: int = 1
+    percentages: tuple = (0, 0)
     sst_year: int = 2021
     cost_rates: list = field(default_factory=lambda: [0] * len(COST_RATES))
     curve: list = field(default_factory=lambda: [0] * len(CURVE))
@@ -92,7 +97,12 @@ def put_header(book, values, record_count):
     """Everything before the records but the heads."""
     mortality = values.mortality[0] + values.mortality[1]
     tables = ((COST_RATES, values.cost_rates), (CURVE, values.curve), (MORTALITY, mortality))
-    put_checked(book, EDITION, 1)
+    put_checked(book, EDITION, values.edition)
+    if values.edition == 2:
+        for place, number in zip(PERCENTAGES, values.percentages, strict=True):
+            put_checked(book, place, number)
+    elif values.percentages != (0, 0):
+        raise ValueError("edition 1 carries no percentages")
     put_checked(book, AGE_BASIS, 1)
     put_checked(book, SST_YEAR, values.sst_year)
     put_checked(book, RECORD_COUNT, record_count)
@@ -124,8 +134,8 @@ def read_values(book):
 
     portfolios = {chain: read_portfolio(book, link.head.read(book))
                   for chain, link in enumerate(CHAINS) if link.head.read(book) != 0}
-    return Values(SST_YEAR.read(book), numbers(COST_RATES), numbers(CURVE),
-                  [numbers(MORTALITY[:CLASSES]), numbers(MORTALITY[CLASSES:])], portfolios)
+    return Values(EDITION.read(book), tuple(numbers(PERCENTAGES)), SST_YEAR.read(book), numbers(COST_RATES),
+                  numbers(CURVE), [numbers(MORTALITY[:CLASSES]), numbers(MORTALITY[CLASSES:])], portfolios)
 
 
 def read_portfolio(book, number):
@@ -173,15 +183,23 @@ def extreme_tables(chooser):
         mortality=[ends(MORTALITY[:CLASSES]), ends(MORTALITY[CLASSES:])])
 
 
+def with_random_edition(values, chooser):
+    """The values in edition 1, or in edition 2 with percentages near 87 and 86, anywhere or at an end of the range."""
+    if chooser.random() < 0.4:
+        return values
+    ranges = chooser.choice((((84, 90), (83, 89)), ((1, 100),) * 2, ((1, 1), (100, 100)), ((100, 100), (1, 1))))
+    return replace(values, edition=2, percentages=tuple(chooser.randint(*ends) for ends in ranges))
+
+
 def random_values(chooser, chain_count, least_class, extreme=False):
-    """Values for so many chains, each from a random class at or above the least."""
+    """Values of either edition for so many chains, each from a random class at or above the least."""
     values = extreme_tables(chooser) if extreme else realistic_tables(chooser)
     cell = extreme_cell if extreme else realistic_cell
     for chain in chooser.sample(range(len(CHAINS)), chain_count):
         first_class = chooser.randint(least_class, OLDEST_CLASS)
         cells = tuple(cell(chooser) for _ in range(first_class, CLASSES))
         values.portfolios[chain] = Portfolio(first_class, cells)
-    return values
+    return with_random_edition(values, chooser)
 
 
 def random_book(chooser, least_class=117, most_chains=4, most_junk=3):
@@ -201,6 +219,7 @@ def full_book(chooser, shuffle=False):
     for chain in range(len(CHAINS)):
         cells = tuple(realistic_cell(chooser) for _ in range(CLASSES))
         values.portfolios[chain] = Portfolio(0, cells)
+    values = with_random_edition(values, chooser)
     slots = slots_in_chain_order(values)
     return make_book(values, shuffled(slots, chooser) if shuffle else slots)
 

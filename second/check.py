@@ -1,7 +1,8 @@
 """The verdict on a book and the looker's reply, worked from the customer's paper alone."""
 
 from second.layout import (AGE_BASIS, BASIS_1, CHAINS, COST_RATES, CURVE, EDITION, FIRST_RECORD_PLACE,
-                           HEADER_SPARE, MORTALITY, RECORD_COUNT, RECORD_SIZE, SST_YEAR, record, record_start)
+                           HEADER_SPARE, MORTALITY, PERCENTAGES, RECORD_COUNT, RECORD_SIZE, SST_YEAR, record,
+                           record_start)
 
 
 class Refused(Exception):
@@ -46,14 +47,24 @@ def refuse_out_of_range(book, field, number):
 
 
 def check_header(book, basis):
-    """Refusals 1 to 5, for the desk that writes the file."""
+    """Refusals 1 to 5, and 23, for the desk that writes the file."""
     refuse_if(len(book) < FIRST_RECORD_PLACE, 1, len(book))
     refuse_out_of_range(book, EDITION, 2)
     refuse_if(AGE_BASIS.read(book) != basis.number, 3, AGE_BASIS.offset)
-    for field in (SST_YEAR, RECORD_COUNT, HEADER_SPARE):
+    for field in (SST_YEAR, RECORD_COUNT):
         refuse_out_of_range(book, field, 4)
+    check_by_edition(book)
     due_length = FIRST_RECORD_PLACE + RECORD_SIZE * RECORD_COUNT.read(book)
     refuse_if(len(book) != due_length, 5, len(book))
+
+
+def check_by_edition(book):
+    """Bytes 6 and 7: refusal 4 in edition 1, refusal 23 in edition 2."""
+    if EDITION.read(book) == 1:
+        refuse_out_of_range(book, HEADER_SPARE, 4)
+    else:
+        for percentage in PERCENTAGES:
+            refuse_out_of_range(book, percentage, 23)
 
 
 def check_tables(book):

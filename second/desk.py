@@ -2,7 +2,7 @@
 
 from second.check import check
 from second.layout import (AGE_BASIS, CHAINS, CLASSES, COST_RATES, CURVE, EDITION, FIRST_RECORD_PLACE, MORTALITY,
-                           RECORD_COUNT, RECORD_SIZE, SST_YEAR, record, record_start)
+                           PERCENTAGES, RECORD_COUNT, RECORD_SIZE, SST_YEAR, record, record_start)
 
 # The first class of a chain that has no records.
 NO_CLASS = CLASSES
@@ -31,7 +31,10 @@ def refusal_of(values, lists, room):
     tests = (
         (11, all(first_class <= NO_CLASS for first_class in values.first_classes)),
         (22, all(len(numbers) == due for numbers in lists) and book_size(values.first_classes) <= room),
-        (4, SST_YEAR.low <= values.year <= SST_YEAR.high),
+        (2, EDITION.low <= values.edition <= EDITION.high),
+        (4, SST_YEAR.low <= values.year <= SST_YEAR.high
+            and (values.edition != 1 or tuple(values.percentages) == (0, 0))),
+        (23, values.edition != 2 or keep_ranges(PERCENTAGES, values.percentages)),
         (6, keep_ranges(COST_RATES, values.cost_rates)),
         (7, keep_ranges(CURVE, values.curve)),
         (8, keep_ranges(MORTALITY, values.mortality)),
@@ -49,7 +52,9 @@ def keep_ranges(fields, numbers):
 def book_of(values, lists):
     """The bytes: the header, and then the records, chain after chain by rising class."""
     book = bytearray(book_size(values.first_classes))
-    EDITION.put(book, 1)
+    EDITION.put(book, values.edition)
+    for field, number in zip(PERCENTAGES, values.percentages, strict=True):
+        field.put(book, number)
     AGE_BASIS.put(book, 1)
     SST_YEAR.put(book, values.year)
     RECORD_COUNT.put(book, sum(list_sizes(values.first_classes)))
@@ -79,7 +84,8 @@ def put_record(book, number, chain, age_class, amounts):
 
 
 def read(book, rooms):
-    """(refusal, place, values, lists), the last two None where refused; values as (year, tables .., first classes)."""
+    """(refusal, place, values, lists), the last two None where refused; values as (edition, percentages,
+    year, tables .., first classes)."""
     verdict = check(book)
     if verdict[0] == "refused":
         return *verdict[1:], None, None
@@ -89,7 +95,8 @@ def read(book, rooms):
     first_classes = tuple(linked[0].age_class.read(book) if linked else NO_CLASS for linked in chains)
     tables = (tuple(field.read(book) for field in fields) for fields in (COST_RATES, CURVE, MORTALITY))
     lists = [[linked.amounts[kind].read(book) for linked in sum(chains, [])] for kind in range(len(KINDS))]
-    return 0, 0, (SST_YEAR.read(book), *tables, first_classes), lists
+    percentages = tuple(field.read(book) for field in PERCENTAGES)
+    return 0, 0, (EDITION.read(book), percentages, SST_YEAR.read(book), *tables, first_classes), lists
 
 
 def chain_records(book, chain):

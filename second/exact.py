@@ -9,7 +9,7 @@ YEARS = range(50)
 MILLIONTH = Fraction(1, 10**6)
 # What stays of a contract in a year is one whole number of billionths times another.
 SHARE = 10**18
-BASE_MORTALITY = {0: Fraction(87, 100), 1: Fraction(86, 100)}
+EDITION_1_PERCENTAGES = (87, 86)
 # What each setting moves, and by how many percent.
 MOVES = {0: (None, 0), 1: ("mortality", 20), 2: ("mortality", -20), 3: ("lapse", 30),
          4: ("lapse", -30), 5: ("costs", 20), 6: ("costs", -20), 7: ("claims", 5)}
@@ -21,6 +21,12 @@ def factor(setting, assumption, k):
     if assumption != moved or (k >= 5 and moved != "lapse"):
         return Fraction(1)
     return 1 + Fraction(percent, 100)
+
+
+def base_mortality(values, sex):
+    """The share of the book's mortality that is reckoned with: edition 2 carries its own percentage."""
+    percentages = values.percentages if values.edition == 2 else EDITION_1_PERCENTAGES
+    return Fraction(percentages[sex], 100)
 
 
 def remaining_share(mortality, lapse):
@@ -35,7 +41,7 @@ def chain_shares(values, chain, setting, k):
     """The remaining shares of a chain's classes in year k."""
     sex = CHAINS[chain].sex
     first_class, cells = values.portfolios[chain]
-    mortality_factor = BASE_MORTALITY[sex] * factor(setting, "mortality", k) * MILLIONTH
+    mortality_factor = base_mortality(values, sex) * factor(setting, "mortality", k) * MILLIONTH
     lapse_factor = factor(setting, "lapse", k) * MILLIONTH
     return [remaining_share(values.mortality[sex][age_class] * mortality_factor,
                             cell.lapse * lapse_factor)

@@ -103,11 +103,14 @@ def all_chains():
     return tuple(chains)
 
 
-EDITION = Field("edition", 0, 1, 1, 1)
+EDITION = Field("edition", 0, 1, 1, 2)
 AGE_BASIS = Field("age basis", 1, 1, 1, 1)
 SST_YEAR = Field("SST year", 2, 2, 2017, 2100)
 RECORD_COUNT = Field("number of records", 4, 2, 0, MOST_RECORDS)
+# Bytes 6 and 7 are spare in edition 1; edition 2 has the mortality percentages there.
 HEADER_SPARE = Field("spare bytes 6 and 7", 6, 2, 0, 0)
+PERCENTAGES = tuple(Field(f"mortality percentage of {people}", 6 + sex, 1, 1, 100)
+                    for sex, people in enumerate(SEXES))
 CHAINS = all_chains()
 COST_RATES = four_byte_fields(
     36, [f"cost rate of {group}" for group in GROUPS], 0, ONE_IN_MILLIONTHS)

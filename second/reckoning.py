@@ -15,10 +15,14 @@ SUBGROUP_CODES = {1: (1, 2, 3), 2: (4,), 3: (5,), 4: (6,), 5: (7,)}
 DIFFERENCES = ((1, 2), (3, 4), (5, 6), (7, 0))
 
 
-class Weights(NamedTuple):
-    """Thousandths on the book's rates and claims; mortality has one for men, one for women."""
+# Men's and women's, unless the book is of edition 2 and carries its own.
+EDITION_1_PERCENTAGES = (87, 86)
 
-    mortality: tuple = (870, 860)
+
+class Weights(NamedTuple):
+    """Thousandths on the book's rates and claims; on mortality so many for each percent of its percentage."""
+
+    mortality: int = 10
     lapse: int = 1_000
     costs: int = 1_000
     claims: int = 1_000
@@ -26,7 +30,7 @@ class Weights(NamedTuple):
 
 BASE = Weights()
 FIRST_YEARS = (BASE,
-               Weights(mortality=(1_044, 1_032)), Weights(mortality=(696, 688)),
+               Weights(mortality=12), Weights(mortality=8),
                Weights(lapse=1_300), Weights(lapse=700),
                Weights(costs=1_200), Weights(costs=800),
                Weights(claims=1_050))
@@ -45,6 +49,11 @@ class Year(NamedTuple):
 def weights_of(setting, k):
     """The weights of a setting in year k."""
     return FIRST_YEARS[setting] if k < SHIFTED_YEARS else LATER_YEARS[setting]
+
+
+def percentage_of(values, sex):
+    """The mortality percentage of a sex."""
+    return (values.percentages if values.edition == 2 else EDITION_1_PERCENTAGES)[sex]
 
 
 def weighted(rate, weight):
@@ -71,7 +80,8 @@ def in_force_by_year(values, chain, setting):
     for k in range(YEARS):
         yield in_force
         weights = weights_of(setting, k)
-        mortality = [weighted(rate, weights.mortality[sex]) for rate in values.mortality[sex][first_class:]]
+        weight = weights.mortality * percentage_of(values, sex)
+        mortality = [weighted(rate, weight) for rate in values.mortality[sex][first_class:]]
         lapse = [weighted(cell.lapse, weights.lapse) for cell in cells]
         in_force = [next_in_force(*each) for each in
                     zip(in_force, reached(mortality, k), reached(lapse, k), strict=True)]

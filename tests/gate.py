@@ -29,30 +29,30 @@ def script(name, module, least, *words):
     return Part(name, [sys.executable, "-m", module, *words], least)
 
 
-PROOFS = Part("proofs, must-fail edits and programs", ["rt", "ci"], 188)
+PROOFS = Part("proofs, must-fail edits and programs", ["rt", "ci"], 214)
 # What runs after the proofs, in this order.
 OUTSIDE = [
     script("must-fail edits fit the proof files", "tests.must_fail_reasons", 2),
     script("documents", "tests.documents", 13),
-    script("second check, by hand-worked examples", "tests.second_check", 32),
-    script("stream of the check", "tests.streams.check", 50, "test"),
+    script("second check, by hand-worked examples", "tests.second_check", 35),
+    script("stream of the check", "tests.streams.check", 53, "test"),
     script("stream of the looker", "tests.streams.look", 12, "test"),
-    script("second reckoning, by hand-worked examples", "tests.second_reckoning", 33),
+    script("second reckoning, by hand-worked examples", "tests.second_reckoning", 35),
     script("stream of Group, against the fractions", "tests.streams.group", 30, "test"),
     script("stream of listings, against the fractions", "tests.streams.listing", 35, "test"),
     script("stream of the walk", "tests.streams.walk", 11, "test"),
     script("listing program, by the paper's figures", "tests.listing_program", 9),
     script("report program", "tests.report_program", 9),
     script("convert program, by hand-worked books", "tests.convert_program", 9),
-    script("sample books", "tools.sample_books", 33, "test"),
-    script("random books against the second check", "tests.random_books.check", 16),
-    script("random listings against the second reckoning and the fractions", "tests.random_books.listing", 21),
-    script("callers in C and Rust", "tests.callers", 156),
+    script("sample books", "tools.sample_books", 37, "test"),
+    script("random books against the second check", "tests.random_books.check", 17),
+    script("random listings against the second reckoning and the fractions", "tests.random_books.listing", 22),
+    script("callers in C and Rust", "tests.callers", 169),
     script("calls from Python, on random books", "tests.calls.base", 22),
     script("cost rates from Python, on random accounts", "tests.calls.accounts", 38),
     script("calls of the report", "tests.calls.report", 22),
-    script("conversions from Python, on random books", "tests.calls.convert", 61),
-    script("Write and Read from Python, on random values and lists", "tests.calls.desk", 23),
+    script("conversions from Python, on random books", "tests.calls.convert", 63),
+    script("Write and Read from Python, on random values and lists", "tests.calls.desk", 28),
 ]
 PARTS = [PROOFS, *OUTSIDE]
 

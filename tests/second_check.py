@@ -11,13 +11,13 @@ from tests.report import run_unit_tests
 
 
 def packed(year=2021, count=None, spare=0, heads=None, costs=None, curve=None, mortality=None,
-           records=()):
+           records=(), edition=1):
     """A book packed field by field; tables are maps from a position to a number."""
     def table(size, numbers):
         return [(numbers or {}).get(position, 0) for position in range(size)]
 
     count = len(records) if count is None else count
-    return (struct.pack("<BBHHH", 1, 1, year, count, spare)
+    return (struct.pack("<BBHHH", edition, 1, year, count, spare)
             + struct.pack("<14H", *table(14, heads))
             + struct.pack("<5I", *table(5, costs))
             + struct.pack("<49i", *table(49, curve))
@@ -39,7 +39,7 @@ def pair_of_records(**second):
 
 
 class HeaderRules(unittest.TestCase):
-    """Refusals 1 to 5."""
+    """Refusals 1 to 5, and 23."""
 
     def test_zero_bytes_are_refused_for_their_edition(self):
         self.assertEqual(check(bytes(1_220)), ("refused", 2, 0))
@@ -52,7 +52,7 @@ class HeaderRules(unittest.TestCase):
         book = bytearray(packed())
         book[1] = 2
         self.assertEqual(check(bytes(book)), ("refused", 3, 1))
-        book[0] = 2
+        book[0] = 3
         self.assertEqual(check(bytes(book)), ("refused", 2, 0))
 
     def test_year_runs_from_2017_to_2100(self):
@@ -63,6 +63,19 @@ class HeaderRules(unittest.TestCase):
     def test_more_than_1694_records_are_refused_before_the_length(self):
         self.assertEqual(check(packed(count=1_695)), ("refused", 4, 4))
         self.assertEqual(check(packed(count=1_694)), ("refused", 5, 1_220))
+
+    def test_percentages_of_edition_2_run_from_1_to_100(self):
+        def verdict(men, women):
+            return check(packed(edition=2, spare=men + 256 * women))
+
+        self.assertEqual([verdict(1, 100), verdict(100, 1)], [("accepted", 0)] * 2)
+        self.assertEqual([verdict(0, 101), verdict(101, 0), verdict(255, 50)], [("refused", 23, 6)] * 3)
+        self.assertEqual([verdict(1, 0), verdict(100, 101)], [("refused", 23, 7)] * 2)
+
+    def test_percentages_come_after_the_number_of_records_and_before_the_length(self):
+        self.assertEqual(check(packed(edition=2, count=1_695)), ("refused", 4, 4))
+        self.assertEqual(check(packed(edition=2, count=1)), ("refused", 23, 6))
+        self.assertEqual(check(packed(edition=2, count=1, spare=257)), ("refused", 5, 1_220))
 
     def test_each_spare_byte_is_refused_at_6(self):
         self.assertEqual(check(packed(spare=1)), ("refused", 4, 6))
@@ -198,9 +211,15 @@ class BookMaker(unittest.TestCase):
         values = Values(curve=[-1] + [0] * 47 + [2], mortality=[[3] + [0] * 120, [0] * 120 + [4]])
         self.assertEqual(make_book(values), packed(curve={0: -1, 48: 2}, mortality={0: 3, 241: 4}))
 
+    def test_percentages_stand_in_bytes_6_and_7(self):
+        self.assertEqual(make_book(Values(2, (85, 84))), packed(edition=2, spare=85 + 256 * 84))
+
     def test_only_valid_values_make_a_book(self):
         with self.assertRaises(ValueError):
             make_book(Values(sst_year=2_016))
+        for edition, percentages in ((1, (87, 86)), (2, (0, 86)), (2, (87, 101)), (3, (0, 0))):
+            with self.assertRaises(ValueError):
+                make_book(Values(edition, percentages))
         with self.assertRaises(ValueError):
             make_book(Values(portfolios={0: Portfolio(119, (Cell(1, 0, 0, 0),))}))
 

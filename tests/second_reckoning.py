@@ -9,9 +9,10 @@ from second.book import (PG2_MEN, Cell, Portfolio, Values, empty_book, full_book
                          random_book, random_values, read_values)
 from second.check import check
 from second.exact import exact_liability
-from second.layout import CHAINS, CLASSES, CURVE, OLDEST_CLASS, PRODUCT_GROUPS, SETTINGS, changed
+from second.layout import (CHAINS, CLASSES, CURVE, EDITION, HEADER_SPARE, OLDEST_CLASS, PERCENTAGES,
+                           PRODUCT_GROUPS, SETTINGS, changed)
 from second.reckoning import (capped, discounted, group, in_force_by_year, listing, next_in_force, outgo_of,
-                              totals, weighted, weights_of)
+                              percentage_of, totals, weighted, weights_of)
 from tests.books import trial as trials
 from tests.report import run_unit_tests
 
@@ -41,7 +42,7 @@ def naive_liability(values, setting, product_group):
                 premium[k] += contracts * reached.premium
                 claims[k] += contracts * reached.claims
                 weights = weights_of(setting, k)
-                death = values.mortality[sex][age_class] * weights.mortality[sex]
+                death = values.mortality[sex][age_class] * weights.mortality * percentage_of(values, sex)
                 contracts *= 1 - min(Fraction(death, 10**9), 1)
                 contracts *= 1 - min(Fraction(reached.lapse * weights.lapse, 10**9), 1)
     liability = Fraction(0)
@@ -83,6 +84,23 @@ class TrialFigures(unittest.TestCase):
         lapsing = trials.in_force_book(0, 333_333)
         self.assertEqual([in_force(lapsing, k) for k in (0, 1, 2)],
                          [1_000_000_000, 666_667_000, 444_444_888])
+
+    def test_edition_2_has_its_own_percentages(self):
+        # Half of the men die in the base, three fifths and two fifths in settings 1 and 2.
+        halved = changed(trials.in_force_book(1_000_000, 0), (EDITION, 2), (PERCENTAGES[0], 50), (PERCENTAGES[1], 1))
+        for setting, contracts in ((0, 500_000_000), (1, 400_000_000), (2, 600_000_000), (7, 500_000_000)):
+            self.assertEqual(in_force(halved, 1, setting), contracts)
+        none_left = changed(halved, (PERCENTAGES[0], 100))
+        for setting, contracts in ((0, 0), (1, 0), (2, 200_000_000)):
+            self.assertEqual(in_force(none_left, 1, setting), contracts)
+
+    def test_87_and_86_in_edition_2_are_edition_1(self):
+        book = make_book(random_values(random.Random(3), 4, 112))
+        first = changed(book, (EDITION, 1), (HEADER_SPARE, 0))
+        second = changed(book, (EDITION, 2), (PERCENTAGES[0], 87), (PERCENTAGES[1], 86))
+        self.assertEqual(listing(first), listing(second))
+        swapped = changed(book, (EDITION, 2), (PERCENTAGES[0], 86), (PERCENTAGES[1], 87))
+        self.assertNotEqual(listing(first), listing(swapped))
 
     def test_refused_books_t11_t12(self):
         for book, refusal, place in ((bytes(1_220), 2, 0), (bytes(1_219), 1, 1_219)):

@@ -2,6 +2,7 @@
 
 import argparse
 import sys
+from dataclasses import replace
 
 from second.book import PG2_MEN, Cell, Portfolio, make_book, one_record_book
 from second.layout import changed, record
@@ -23,21 +24,32 @@ def refused_book():
     return changed(one_record_book(), (record(1).amounts[1], 1_000_001))
 
 
-def worked_book():
-    """The book that docs/RECKONING works through by hand."""
+def worked_values():
+    """What the book says that docs/RECKONING works through by hand."""
     values = flat_values(150_000, 0, 0)
     values.curve[:2] = [10_000, -5_000]
     values.mortality[0][118:] = [400_001, 500_000, 1_000_000]
     cells = (Cell(3, 70_001, 60_123, 30_456), Cell(2, 100_000, 60_321, 40_877),
              Cell(1, 500_000, 60_111, 56_789))
     values.portfolios[PG2_MEN] = Portfolio(118, cells)
-    return make_book(values)
+    return values
+
+
+def worked_book():
+    """The worked example's book."""
+    return make_book(worked_values())
+
+
+def edition_2_book():
+    """The worked example with mortality percentages of its own: 80 for men, 79 for women."""
+    return make_book(replace(worked_values(), edition=2, percentages=(80, 79)))
 
 
 # Each sample's name, its bytes and the verdict that README or docs/BOOK tells of it.
 SAMPLES = [
     ("one_record", one_record_book(), "accepted 1"),
     ("worked_example", worked_book(), "accepted 3"),
+    ("edition_2", edition_2_book(), "accepted 3"),
     ("small_insurer", insurer_book(MANY_PRODUCTS, 2021), "accepted 315"),
     ("full", dense_full_book(2021), "accepted 1694"),
     ("lapse_too_large", refused_book(), "refused 12 1232"),

@@ -4,7 +4,7 @@ import argparse
 import sys
 
 from second.layout import (CHAINS, COST_RATES, CURVE, FIRST_RECORD_PLACE, HEADER_FIELDS, MORTALITY,
-                           MOST_BYTES_TAKEN, RECORD_SIZE, SETTINGS, record)
+                           MOST_BYTES_TAKEN, PERCENTAGES, RECORD_SIZE, SETTINGS, record)
 from tests.program import ProgramFailed, run_program
 
 DESK = "the desk that writes the file"
@@ -14,10 +14,10 @@ PORTFOLIO = "the portfolio desk"
 
 RULES = {
     1: (DESK, "a book has at least 1,220 bytes"),
-    2: (DESK, "the edition is 1"),
+    2: (DESK, "the edition is 1 or 2"),
     3: (DESK, "the age basis is 1"),
     4: (DESK, "the SST year is 2017 to 2100, there are at most 1,694 records, "
-              "and bytes 6 and 7 are zero"),
+              "and bytes 6 and 7 are zero in edition 1"),
     5: (DESK, "the length is 1,220 bytes and 24 for each record"),
     6: (COSTS, "a cost rate is at most 1,000,000 millionths"),
     7: (TABLES, "a curve rate is -10,000 to 200,000 millionths"),
@@ -28,6 +28,7 @@ RULES = {
     12: (PORTFOLIO, "the count is at most 100,000, the lapse at most 1,000,000 millionths, "
                     "premium and claims each at most 10,000,000 centimes"),
     13: (PORTFOLIO, "a chain ends at class 120 and nowhere else"),
+    23: (DESK, "each mortality percentage of edition 2 is 1 to 100"),
 }
 
 
@@ -35,6 +36,8 @@ def name_place(number, place):
     """The name of the field that a refusal's place points at."""
     if number in (1, 5):
         return f"length of {place:,} bytes"
+    if number == 23:
+        return next(field.name for field in PERCENTAGES if field.offset == place)
     before_records = (*HEADER_FIELDS, *(chain.head for chain in CHAINS),
                       *COST_RATES, *CURVE, *MORTALITY)
     for field in before_records:

@@ -345,9 +345,9 @@ static void test_sizes(void)
     test("replies_have_no_gaps", sizeof(xaropinto_verdict) == 24 && sizeof(xaropinto_group_reply) == 32 &&
                                      sizeof(xaropinto_totals_reply) == 120 && sizeof(xaropinto_record_reply) == 32 &&
                                      sizeof(xaropinto_cost_rates_reply) == 56 && sizeof(xaropinto_report_reply) == 24 &&
-                                     sizeof(xaropinto_write_reply) == 24 && sizeof(xaropinto_read_reply) == 8 * 313);
+                                     sizeof(xaropinto_write_reply) == 24 && sizeof(xaropinto_read_reply) == 8 * 316);
     test("accounts_have_no_gaps", sizeof(xaropinto_accounts) == 48 * sizeof(uint64_t));
-    test("values_have_no_gaps", sizeof(xaropinto_values) == 311 * sizeof(uint64_t));
+    test("values_have_no_gaps", sizeof(xaropinto_values) == 314 * sizeof(uint64_t));
 }
 
 /* Premiums of 1,000,000 less claims of 800,000 and costs of 100,000, in fifty years. Settings 5, 6 and 7 have other
@@ -564,6 +564,37 @@ static void test_in_force(void)
     free(leaving.bytes);
 }
 
+/* Edition 2: half the men die in a year, three fifths in setting 1 and two fifths in setting 2; women's 1 percent is
+ * not theirs. */
+static void test_percentages(void)
+{
+    contracts stays = {0, 0, 10000000, 10000000};
+    parameter_book book = one_man_book(8, stays);
+    for (size_t class = 0; class <= LAST_CLASS; class++)
+        put(book, MORTALITY + 4 * class, 4, 1000000);
+    put(book, XAROPINTO_EDITION_AT, 1, 2);
+    put(book, XAROPINTO_PERCENTAGES_AT, 1, 50);
+    put(book, XAROPINTO_PERCENTAGES_AT + 1, 1, 101);
+    test("percentage_101_of_women_is_23_at_7", all_calls_refuse(book, 23, 7));
+    put(book, XAROPINTO_PERCENTAGES_AT, 1, 0);
+    test("percentage_0_of_men_is_23_at_6", all_calls_refuse(book, 23, 6));
+    put(book, XAROPINTO_PERCENTAGES_AT, 1, 50);
+    put(book, XAROPINTO_PERCENTAGES_AT + 1, 1, 1);
+    test("mortality_weighs_ten_times_the_percentage", table_number(book, 0, 1, PREMIUM) == 5000000);
+    test("mortality_up_weighs_twelve_times", table_number(book, 1, 1, PREMIUM) == 4000000);
+    test("mortality_down_weighs_eight_times", table_number(book, 2, 1, PREMIUM) == 6000000);
+    /* 0.4 to the fifth and 0.6 to the fifth are left at k = 5, and half of that a year later. */
+    test("mortality_up_ends_with_year_4",
+         table_number(book, 1, 5, OUTGO) == 102400 && table_number(book, 1, 6, OUTGO) == 51200);
+    test("mortality_down_ends_with_year_4",
+         table_number(book, 2, 5, OUTGO) == 777600 && table_number(book, 2, 6, OUTGO) == 388800);
+    put(book, XAROPINTO_EDITION_AT, 1, 1);
+    test("edition_1_takes_no_percentages", all_calls_refuse(book, 4, 6));
+    put(book, XAROPINTO_EDITION_AT, 1, 3);
+    test("edition_3_is_refused", all_calls_refuse(book, 2, 0));
+    free(book.bytes);
+}
+
 /* After a year 0.565 times 0.8 of the contract is left; then each year 0.913 times 0.95 of what was. */
 static void test_very_old(void)
 {
@@ -756,6 +787,7 @@ static xaropinto_values one_record_values(void)
 {
     xaropinto_values values;
     memset(&values, 0, sizeof values);
+    values.edition = 1;
     values.year = 2021;
     values.cost_rates[PG2 - 1] = 100000;
     for (size_t chain = 0; chain < CHAINS; chain++)
@@ -847,8 +879,16 @@ static void test_write_refusals(void)
     test("curve_comes_before_mortality", write_refused(values, broken, OUT_SIZE, 7));
     values.cost_rates[4] = HIGH_BIT;
     test("cost_rate_above_32_bits_is_6", write_refused(values, broken, OUT_SIZE, 6));
+    values.edition = 2;
+    values.percentages[0] = 100;
+    test("percentage_0_of_women_is_23", write_refused(values, broken, OUT_SIZE, 23));
+    values.edition = 1;
+    test("percentage_in_edition_1_is_4", write_refused(values, broken, OUT_SIZE, 4));
+    values.edition = 2;
     values.year = 65536 + 2021;
     test("year_above_16_bits_is_4", write_refused(values, broken, OUT_SIZE, 4));
+    values.edition = 256 + 2;
+    test("edition_above_8_bits_is_2", write_refused(values, broken, OUT_SIZE, 2));
     test("a_byte_too_few_is_22", write_refused(values, broken, 1243, 22));
     broken.length[1] = 2;
     test("a_longer_list_is_22", write_refused(values, broken, OUT_SIZE, 22));
@@ -870,7 +910,7 @@ static void test_read(void)
     }
     lists untouched = filled;
     filled.length[2] = 0;
-    xaropinto_read_reply reply = read_into(&filled, book), refused = {22, 0, {0, {0}, {0}, {0}, {0}}};
+    xaropinto_read_reply reply = read_into(&filled, book), refused = {22, 0, {0, {0}, 0, {0}, {0}, {0}, {0}}};
     filled.length[2] = LIST_SIZE;
     test("a_list_without_room_is_22_and_fills_nothing", memcmp(&reply, &refused, sizeof reply) == 0 &&
                                                             memcmp(&filled, &untouched, sizeof filled) == 0);
@@ -899,6 +939,7 @@ int main(void)
     test_discounting();
     test_cap();
     test_in_force();
+    test_percentages();
     test_very_old();
     test_cost_rates();
     test_cost_rate_refusals();

@@ -67,8 +67,11 @@ class ReportReply(NamedTuple):
 
 
 class Values(NamedTuple):
-    """A book's values: the SST year; 5 cost rates, 49 curve rates, 242 of mortality; the first classes of 14 chains."""
+    """A book's values: the edition, and its mortality percentages of men and women, both 0 in edition 1; the SST year;
+    5 cost rates, 49 curve rates, 242 of mortality; the first classes of 14 chains."""
 
+    edition: int
+    percentages: tuple
     year: int
     cost_rates: tuple
     curve: tuple
@@ -129,7 +132,8 @@ class _ReportReply(ctypes.Structure):
 
 
 class _Values(ctypes.Structure):
-    _fields_ = [("year", ctypes.c_uint64), ("cost_rates", ctypes.c_uint64 * 5), ("curve", ctypes.c_int64 * 49),
+    _fields_ = [("edition", ctypes.c_uint64), ("percentages", ctypes.c_uint64 * 2), ("year", ctypes.c_uint64),
+                ("cost_rates", ctypes.c_uint64 * 5), ("curve", ctypes.c_int64 * 49),
                 ("mortality", ctypes.c_uint64 * 242), ("first_classes", ctypes.c_uint64 * 14)]
 
 
@@ -280,21 +284,23 @@ def read(book, counts, lapses, premiums, claims):
             _need_apart(numbers, others)
     reply = _READ(*_lent_book(book), *_with_lengths(lists))
     held = reply.values
-    values = Values(held.year, tuple(held.cost_rates), tuple(held.curve), tuple(held.mortality),
-                    tuple(held.first_classes))
+    values = Values(held.edition, tuple(held.percentages), held.year, tuple(held.cost_rates), tuple(held.curve),
+                    tuple(held.mortality), tuple(held.first_classes))
     return ReadReply(reply.refusal, reply.place, values)
 
 
 def _lent_values(values):
     """The values in C's form; each table has the length that it must have, and each number fits."""
-    tables = []
-    for name, kind in _Values._fields_[1:]:
+    lent = _Values(edition=_word(values.edition), year=_word(values.year))
+    for name, kind in _Values._fields_:
+        if name in ("edition", "year"):
+            continue
         table = tuple(getattr(values, name))
         if len(table) != kind._length_:
             raise ValueError(f"{name} must have {kind._length_} numbers")
         fits = _signed_word if name == "curve" else _word
-        tables.append(kind(*map(fits, table)))
-    return _Values(_word(values.year), *tables)
+        setattr(lent, name, kind(*map(fits, table)))
+    return lent
 
 
 def _with_lengths(lists):

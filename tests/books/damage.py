@@ -1,9 +1,10 @@
 """Random damage to valid books: bytes, fields, cuts, extensions and links."""
 
 from second.layout import (AGE_BASIS, CHAINS, COST_RATES, CURVE, EDITION, FIRST_RECORD_PLACE, HEADER_SPARE,
-                           MORTALITY, MOST_BYTES_TAKEN, RECORD_COUNT, RECORD_SIZE, SST_YEAR, changed, record)
+                           MORTALITY, MOST_BYTES_TAKEN, PERCENTAGES, RECORD_COUNT, RECORD_SIZE, SST_YEAR, changed,
+                           record)
 
-FIELD_KINDS = ("identity", "header", "cost rate", "curve", "mortality", "head",
+FIELD_KINDS = ("identity", "header", "percentage", "cost rate", "curve", "mortality", "head",
                "ownership", "class", "next", "amount", "amount", "ownership", "class", "next")
 
 
@@ -59,6 +60,7 @@ def random_field(book, chooser):
     kind = chooser.choice(FIELD_KINDS)
     fields = {"identity": (EDITION, AGE_BASIS),
               "header": (SST_YEAR, RECORD_COUNT, HEADER_SPARE),
+              "percentage": PERCENTAGES,
               "cost rate": COST_RATES,
               "curve": CURVE,
               "mortality": MORTALITY,

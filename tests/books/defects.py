@@ -3,7 +3,7 @@
 from typing import NamedTuple
 
 from second.layout import (AGE_BASIS, CHAINS, COST_RATES, CURVE, EDITION, FIRST_RECORD_PLACE, HEADER_SPARE,
-                           MORTALITY, OLDEST_CLASS, RECORD_COUNT, RECORD_SIZE, SST_YEAR, record,
+                           MORTALITY, OLDEST_CLASS, PERCENTAGES, RECORD_COUNT, RECORD_SIZE, SST_YEAR, record,
                            record_start)
 
 
@@ -29,12 +29,16 @@ def defects(book):
 
 
 def header_defects(book):
-    """Defects 1 to 8, of every field that the book is long enough to hold."""
+    """Defects 1 to 8 and 23, of every field that the book is long enough to hold."""
     length = len(book)
     found = []
     if length < FIRST_RECORD_PLACE:
         found.append((1, length, "short"))
-    ruled = [(2, EDITION), (3, AGE_BASIS), (4, SST_YEAR), (4, RECORD_COUNT), (4, HEADER_SPARE)]
+    ruled = [(2, EDITION), (3, AGE_BASIS), (4, SST_YEAR), (4, RECORD_COUNT)]
+    if EDITION.is_within(book) and EDITION.read(book) == 2:
+        ruled += [(23, field) for field in PERCENTAGES]
+    else:
+        ruled.append((4, HEADER_SPARE))
     ruled += [(6, field) for field in COST_RATES]
     ruled += [(7, field) for field in CURVE]
     ruled += [(8, field) for field in MORTALITY]
@@ -44,7 +48,8 @@ def header_defects(book):
     if RECORD_COUNT.is_within(book):
         if length != FIRST_RECORD_PLACE + RECORD_SIZE * RECORD_COUNT.read(book):
             found.append((5, length, "length"))
-    return [Defect((0, number, place), number, place, cause) for number, place, cause in found]
+    # 23 is tested where 4 looks at the same bytes.
+    return [Defect((0, 4 if number == 23 else number, place), number, place, cause) for number, place, cause in found]
 
 
 def steps(book, chain):

@@ -207,7 +207,8 @@ class Tally:
     def test_coverage(self, report):
         """Every refusal of every call often enough, and figures of every setting and group."""
         for name, last in (("check", 13), ("record", 13), ("group", 16), ("totals", 13)):
-            rare = [number for number in range(last + 1) if self.refusals[name, number] < LEAST_TIMES]
+            due = (*range(last + 1), 23)
+            rare = [number for number in due if self.refusals[name, number] < LEAST_TIMES]
             report.test(f"every refusal of {name} is seen", not rare, f"rare: {rare}")
         pairs = product(SETTINGS, PRODUCT_GROUPS)
         report.covers("every setting with every group, with contracts", pairs, self.pairs)

@@ -22,7 +22,7 @@ BOOKS_FOR_COVERAGE = 2_000
 LEAST_TIMES = 10
 LEAST_CONVERSIONS = 500
 MOST_DIFFERENCES_SHOWN = 5
-BOOK_REFUSALS = (*range(1, 14), 21)
+BOOK_REFUSALS = (*range(1, 14), 21, 23)
 # How much longer than the book a lent buffer is, and how many bytes behind it are watched.
 LENT_MORE = (-1, 0, 7)
 WATCHED = 40

@@ -4,8 +4,8 @@ import ctypes
 from array import array
 
 from second.conversion import convert
-from second.layout import (AGE_BASIS, CHAINS, CURVE, EDITION, MORTALITY, RECORD_COUNT, SST_YEAR, changed, record,
-                           record_start)
+from second.layout import (AGE_BASIS, CHAINS, CURVE, EDITION, MORTALITY, PERCENTAGES, RECORD_COUNT, SST_YEAR, changed,
+                           record, record_start)
 from tests.calls.arguments import raises
 
 
@@ -24,7 +24,8 @@ CASES = [
     ("an unlinked class may be anything", pair_book(120, 121, (record(3).age_class, 255)), (0, 0, 1)),
     ("basis 1 is refused", pair_book(120, 121, (AGE_BASIS, 1)), (3, 1, 0)),
     ("basis 3 is refused", pair_book(120, 121, (AGE_BASIS, 3)), (3, 1, 0)),
-    ("edition comes before basis", pair_book(120, 121, (AGE_BASIS, 1), (EDITION, 2)), (2, 0, 0)),
+    ("edition comes before basis", pair_book(120, 121, (AGE_BASIS, 1), (EDITION, 3)), (2, 0, 0)),
+    ("percentages of edition 2 are tested", pair_book(120, 121, (EDITION, 2), (PERCENTAGES[0], 1)), (23, 7, 0)),
     ("a rate of the curve is refused", pair_book(0, 121, (CURVE[0], 200_001)), (7, 56, 0)),
     ("a mortality is refused", pair_book(0, 121, (MORTALITY[120], 1_000_001)), (8, 732, 0)),
     ("a head above N is refused", pair_book(120, 121, (CHAINS[3].head, 4)), (9, 14, 0)),

@@ -8,7 +8,8 @@ from itertools import combinations
 
 from second.book import full_book, one_record_book, random_book
 from second.desk import KINDS, NO_CLASS, book_size, in_order, list_sizes, read, write
-from second.layout import CHAINS, CLASSES, COST_RATES, CURVE, LONGEST_BOOK, MORTALITY, MOST_RECORDS, SST_YEAR, record
+from second.layout import (CHAINS, CLASSES, COST_RATES, CURVE, LONGEST_BOOK, MORTALITY, MOST_RECORDS, PERCENTAGES,
+                           SST_YEAR, record)
 from tests.calls.arguments import raises
 from tests.calls.library import open_library
 from tests.random_books.check import one_book
@@ -23,7 +24,8 @@ LEAST_TIMES = 3
 MOST_DIFFERENCES_SHOWN = 5
 
 # The order in which the rules of writing are tested.
-WRITE_ORDER = (11, 22, 4, 6, 7, 8, 12)
+WRITE_ORDER = (11, 22, 2, 4, 23, 6, 7, 8, 12)
+WAYS_TO_4 = ("year", "percentages in edition 1")
 WAYS_TO_22 = ("list too long", "list too short", "no room")
 CHAIN_SIZES = ("none", "one", "some", "all classes")
 AMOUNTS = record(1).amounts
@@ -75,21 +77,29 @@ def random_desk(library, chooser):
 def desk_of(library, first_classes, chooser):
     """A desk whose chains start at these classes."""
     tables = (tuple(within(field, chooser) for field in fields) for fields in (COST_RATES, CURVE, MORTALITY))
-    values = library.Values(within(SST_YEAR, chooser), *tables, tuple(first_classes))
+    edition = chooser.choice((1, 2))
+    percentages = tuple(within(field, chooser) for field in PERCENTAGES) if edition == 2 else (0, 0)
+    values = library.Values(edition, percentages, within(SST_YEAR, chooser), *tables, tuple(first_classes))
     size = sum(list_sizes(first_classes))
     lists = [[within(field, chooser) for _ in range(size)] for field in AMOUNTS]
     return Desk(values, lists, book_size(first_classes) + chooser.choice((0, 1, 700)))
 
 
 def break_rule(desk, number, chooser):
-    """Break the rule of one refusal; the way in which 22 was broken."""
+    """Break the rule of one refusal; the way in which 4 or 22 was broken."""
     if number == 11:
         desk.change_table("first_classes", chooser.randrange(len(CHAINS)),
                           chooser.choice((122, 255, 256 + 120, 2**32 + 121, 2**64 - 1)))
     elif number == 22:
         return break_length(desk, chooser)
+    elif number == 2:
+        desk.values = desk.values._replace(edition=chooser.choice((0, 3, 2**8 + 1, 2**32 + 2, 2**64 - 1)))
     elif number == 4:
-        desk.values = desk.values._replace(year=chooser.choice((0, 2016, 2101, 2**16 + 2021, 2**64 - 1)))
+        return break_year(desk, chooser)
+    elif number == 23:
+        desk.values = desk.values._replace(edition=2, percentages=(87, 86))
+        at = chooser.randrange(len(PERCENTAGES))
+        desk.change_table("percentages", at, chooser.choice((0, beyond(PERCENTAGES[at], chooser))))
     elif number == 12:
         kind = chooser.randrange(len(KINDS))
         numbers = desk.lists[kind] or [0]
@@ -100,6 +110,15 @@ def break_rule(desk, number, chooser):
         at = chooser.randrange(len(fields))
         desk.change_table(name, at, beyond(fields[at], chooser))
     return ""
+
+
+def break_year(desk, chooser):
+    """A year out of range or, in edition 1, a percentage; which of them."""
+    if desk.values.edition == 1 and chooser.random() < 0.5:
+        desk.change_table("percentages", chooser.randrange(len(PERCENTAGES)), chooser.choice((1, 87, 2**8, 2**64 - 1)))
+        return "percentages in edition 1"
+    desk.values = desk.values._replace(year=chooser.choice((0, 2016, 2101, 2**16 + 2021, 2**64 - 1)))
+    return "year"
 
 
 def break_length(desk, chooser):
@@ -152,7 +171,7 @@ class Tally:
         buffers = [array("Q", numbers) for numbers in marks]
         reply = self.library.read(book, *(memoryview(numbers)[:room] for numbers, room in zip(buffers, rooms)))
         due = marks if refusal else [found + kept[len(found):] for found, kept in zip(lists, marks)]
-        zeros = (0, (0,) * 5, (0,) * 49, (0,) * 242, (0,) * 14)
+        zeros = (0, (0, 0), 0, (0,) * 5, (0,) * 49, (0,) * 242, (0,) * 14)
         self.compare("read", case, (reply.refusal, reply.place, tuple(reply.values), [row.tolist() for row in buffers]),
                      (refusal, place, zeros if refusal else values, due))
         self.seen["read", refusal] += 1
@@ -161,6 +180,7 @@ class Tally:
     def round_trip(self, desk, case, chooser):
         """Write, check with n the counts that are not 0, and read back what went in."""
         book = self.write(desk, case, chooser)
+        self.seen["edition written", desk.values.edition] += 1
         for size in list_sizes(desk.values.first_classes):
             self.seen["chain", "none" if size == 0 else "one" if size == 1 else
                       "all classes" if size == CLASSES else "some"] += 1
@@ -187,6 +207,7 @@ class Tally:
             return
         values, lists = taken
         self.seen["read", "in order" if in_order(book) else "out of order"] += 1
+        self.seen["edition read", values.edition] += 1
         if lists[0]:
             short = chooser.randrange(len(KINDS))
             rooms[short] = chooser.choice((0, len(lists[0]) - 1))
@@ -210,9 +231,11 @@ class Tally:
             "every refusal of write is seen": [("write", number) for number in (0, *WRITE_ORDER)],
             "every two refusals of write are seen in their order":
                 [("order", numbers) for numbers in combinations(WRITE_ORDER, 2)],
-            "22 of write is seen for each reason": [("way", way) for way in WAYS_TO_22],
+            "4 and 22 of write are seen for each reason": [("way", way) for way in (*WAYS_TO_4, *WAYS_TO_22)],
+            "both editions are written and read":
+                [(call, edition) for call in ("edition written", "edition read") for edition in (1, 2)],
             "chains of every size are written": [("chain", size) for size in CHAIN_SIZES],
-            "every refusal of read is seen": [("read", number) for number in (*range(14), 22)],
+            "every refusal of read is seen": [("read", number) for number in (*range(14), 22, 23)],
             "22 of read is seen for each buffer": [("short", kind) for kind in KINDS],
             "books in order and out of it are read": [("read", "in order"), ("read", "out of order")],
         }
@@ -246,11 +269,15 @@ def try_named(report, tally, seed):
     # By hand: ten contracts of PG2 men at class 120.
     first_classes = [NO_CLASS] * len(CHAINS)
     first_classes[6] = 120
-    values = library.Values(2021, (0, 100_000, 0, 0, 0), (0,) * 49, (0,) * 242, tuple(first_classes))
+    values = library.Values(1, (0, 0), 2021, (0, 100_000, 0, 0, 0), (0,) * 49, (0,) * 242, tuple(first_classes))
     out = bytearray(LONGEST_BOOK)
     reply = library.write(values, *(array("Q", [number]) for number in (10, 0, 100_000, 80_000)), out)
     report.test("the paper's book is written", tuple(reply) == (0, 0, 1_244)
                 and bytes(out[:1_244]) == one_record_book(), reply)
+    carried = values._replace(edition=2, percentages=(100, 1))
+    library.write(carried, *(array("Q", [number]) for number in (10, 0, 100_000, 80_000)), out)
+    report.test("edition 2 stands in byte 0, its percentages in bytes 6 and 7",
+                (out[0], out[6], out[7]) == (2, 100, 1), list(out[:8]))
     below = values._replace(curve=(-1, -10_000) + (0,) * 47)
     library.write(below, *(array("Q", [number]) for number in (10, 0, 100_000, 80_000)), out)
     report.test("-1 is 255 four times, and -10,000 is 240, 216, 255, 255",
@@ -259,13 +286,16 @@ def try_named(report, tally, seed):
 
 def test_turned_away(report, library):
     """What the Python module takes for no desk at all."""
-    values = library.Values(2021, (0,) * 5, (0,) * 49, (0,) * 242, (NO_CLASS,) * 14)
+    values = library.Values(1, (0, 0), 2021, (0,) * 5, (0,) * 49, (0,) * 242, (NO_CLASS,) * 14)
     rows = [array("Q", [0] * 4) for _ in KINDS]
     out = bytearray(1_220)
     for words, error, changed in (
             ("a year above 64 bits", ValueError, values._replace(year=2**64)),
             ("a rate below 64 bits", ValueError, values._replace(curve=(-2**63 - 1,) + (0,) * 48)),
             ("a cost rate below 0", ValueError, values._replace(cost_rates=(-1,) + (0,) * 4)),
+            ("an edition above 64 bits", ValueError, values._replace(edition=2**64)),
+            ("a percentage below 0", ValueError, values._replace(percentages=(-1, 0))),
+            ("one percentage alone", ValueError, values._replace(percentages=(87,))),
             ("a mortality too few", ValueError, values._replace(mortality=(0,) * 241))):
         report.test(f"{words} is turned away", raises(error, library.write, changed, *rows, out))
     report.test("signed numbers are turned away",

@@ -27,7 +27,7 @@ MOST_DIFFERENCES_SHOWN = 5
 
 # Settings out of range, and some that would be in range if they lost their high bits.
 ODD_SETTINGS = (8, 9, 2**32, 2**32 + 1, 2**63, 2**64 - 1)
-BOOK_REFUSALS = range(1, 14)
+BOOK_REFUSALS = (*range(1, 14), 23)
 # Longer than any lent buffer, so that a byte written past what was lent shows.
 MEMORY_BYTES = MOST_ROOM + 600
 

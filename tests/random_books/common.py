@@ -35,12 +35,16 @@ def keep_book(book, test, seed, number):
     return path.relative_to(ROOT)
 
 
+# Acceptance and the refusals of a book: 1 to 13, and 23.
+VERDICTS = (*range(14), 23)
+
+
 def cover_verdicts(report, times, least_books, least_times):
     """Every verdict often enough; among fewer books one may be missed by chance. 0 is an acceptance."""
     if times.total() < least_books:
-        print("seen:", ", ".join(f"{number or 'accepted'} {times[number]}" for number in range(14)))
+        print("seen:", ", ".join(f"{number or 'accepted'} {times[number]}" for number in VERDICTS))
         return
-    for number in range(14):
+    for number in VERDICTS:
         words = f"refusal {number}" if number else "accepted"
         report.test(f"{words} seen {times[number]} times", times[number] >= least_times,
                     f"at least {least_times} are due")

@@ -6,8 +6,8 @@ from typing import NamedTuple
 from second.book import (Portfolio, empty_book, full_book, make_book, one_record_book, realistic_cell,
                          realistic_tables)
 from second.layout import (AGE_BASIS, CLASSES, COST_RATES, CURVE, EDITION, HEADER_SPARE, MORTALITY,
-                           MOST_BYTES_TAKEN, MOST_RECORDS, RECORD_COUNT, RECORD_SIZE, SST_YEAR, changed,
-                           record)
+                           MOST_BYTES_TAKEN, MOST_RECORDS, PERCENTAGES, RECORD_COUNT, RECORD_SIZE, SST_YEAR,
+                           changed, record)
 
 
 class Case(NamedTuple):
@@ -74,10 +74,10 @@ def full_cases():
 
 
 def identity_cases():
-    """Refusals 2 to 4: the first eight bytes."""
+    """Refusals 2 to 4, and 23: the first eight bytes."""
     base = base_book()
     for field in (EDITION, AGE_BASIS):
-        for number in (0, 1, 2, 127, 128, 255):
+        for number in (0, 1, 2, 3, 127, 128, 255):
             yield Case(f"{slug(field)}_{number}", changed(base, (field, number)))
     for year in (0, 1, 2_016, 2_017, 2_018, 2_099, 2_100, 2_101, 32_768, 65_535):
         yield Case(f"sst_year_{year}", changed(base, (SST_YEAR, year)))
@@ -85,6 +85,10 @@ def identity_cases():
         yield Case(f"number_of_records_{count}", changed(base, (RECORD_COUNT, count)))
     for spare in (1, 128, 255, 256, 32_768, 65_280, 65_535):
         yield Case(f"header_spare_bytes_hold_{spare}", changed(base, (HEADER_SPARE, spare)))
+    second = changed(base, (EDITION, 2), *((field, 50) for field in PERCENTAGES))
+    for field in PERCENTAGES:
+        for number in (0, 1, 87, 100, 101, 255):
+            yield Case(f"{slug(field)}_{number}", changed(second, (field, number)))
 
 
 def range_numbers(field):

@@ -3,12 +3,14 @@
 from itertools import combinations
 
 from second.book import make_book, slots_in_chain_order
-from second.layout import (AGE_BASIS, CHAINS, COST_RATES, CURVE, EDITION, HEADER_SPARE, MORTALITY,
+from second.layout import (AGE_BASIS, CHAINS, COST_RATES, CURVE, EDITION, HEADER_SPARE, MORTALITY, PERCENTAGES,
                            RECORD_COUNT, SST_YEAR, changed, record)
 from tests.streams.check_cases_chain import BASE_COUNT
 from tests.streams.check_cases_header import Case, base_book, base_values, slug
 
-HEADER_SPOILS = {2: (EDITION, 2), 3: (AGE_BASIS, 0), 4: (SST_YEAR, 2_101),
+# The refusals of a book: 1 to 13, and 23.
+BOOK_REFUSALS = (*range(1, 14), 23)
+HEADER_SPOILS = {2: (EDITION, 3), 3: (AGE_BASIS, 0), 4: (SST_YEAR, 2_101),
                  6: (COST_RATES[2], 1_000_001), 7: (CURVE[24], 200_001),
                  8: (MORTALITY[150], 1_000_001)}
 
@@ -25,6 +27,8 @@ def spoiled(numbers, base=None):
     """The base book, or one linked like it, with all these refusals caused, those of a record in record 2."""
     spoils = HEADER_SPOILS | record_spoils(2)
     book = changed(base or base_book(), *(spoils[number] for number in numbers if number in spoils))
+    if 23 in numbers:
+        book = changed(book, (EDITION, 2), *zip(PERCENTAGES, (101, 100)))
     if 5 in numbers:
         book += b"\0"
     if 1 in numbers:
@@ -53,6 +57,18 @@ def header_order_cases():
     wrong_count = changed(base_book(), (RECORD_COUNT, 1_695))
     yield Case("number_of_records_before_length", wrong_count)
     yield Case("spare_before_length", changed(base_book() + b"\0", (HEADER_SPARE, 1)))
+    yield from percentage_order_cases()
+
+
+def percentage_order_cases():
+    """23 stands where 4 looks at bytes 6 and 7: after the other places of 4, before 5 to 8 and the chains."""
+    for number in (1, 3, 4):
+        yield Case(f"refusal_{number}_before_23", spoiled((number, 23)))
+    for number in range(5, 14):
+        yield Case(f"refusal_23_before_{number}", spoiled((number, 23)))
+    yield Case("number_of_records_before_23", changed(spoiled((23,)), (RECORD_COUNT, 1_695)))
+    # 23 is of edition 2 alone.
+    yield Case("edition_3_whatever_its_percentages", changed(spoiled((23,)), (EDITION, 3)))
 
 
 def same_record_cases():
@@ -105,6 +121,9 @@ def across_chain_cases():
 def same_number_cases():
     """Two bad fields of one kind: the earlier place is named."""
     base = base_book()
+    men, women = PERCENTAGES
+    both_wrong = changed(base, (EDITION, 2), (men, 101), (women, 0))
+    yield Case(f"{slug(men)}_before_{slug(women)}", both_wrong)
     header = ((SST_YEAR, 2_016), (RECORD_COUNT, 1_695), (HEADER_SPARE, 1))
     for first, other in combinations(header, 2):
         yield Case(f"{slug(first[0])}_before_{slug(other[0])}", changed(base, first, other))

@@ -3,7 +3,8 @@
 from collections import Counter
 
 from second.layout import (AGE_BASIS, CHAINS, CLASSES, COST_RATES, CURVE, EDITION, HEADER_SPARE, MORTALITY,
-                           RECORD_COUNT, SST_YEAR, record)
+                           PERCENTAGES, RECORD_COUNT, SST_YEAR, record)
+from tests.streams.check_cases_order import BOOK_REFUSALS
 
 CORNERS = (MORTALITY[0], MORTALITY[CLASSES - 1], MORTALITY[CLASSES], MORTALITY[-1])
 CURVE_TRIED = (CURVE[0], CURVE[24], CURVE[48])
@@ -14,7 +15,7 @@ def cover_refusals(report, entries):
     times = Counter(entry.refusal[0] for entry in entries if not entry.accepted)
     often = [number for number, seen in times.items() if seen >= 3]
     places = {entry.refusal for entry in entries if not entry.accepted}
-    report.covers("each refusal from 1 to 13 at least three times", range(1, 14), often)
+    report.covers("each refusal from 1 to 13, and 23, at least three times", BOOK_REFUSALS, often)
     report.covers("refusal 4 at 2, 4 and 6", {(4, 2), (4, 4), (4, 6)}, places)
     report.covers("refusal 6 at each cost rate", {(6, f.offset) for f in COST_RATES}, places)
     report.covers("refusal 7 at every curve rate", {(7, f.offset) for f in CURVE}, places)
@@ -38,10 +39,10 @@ def cover_header(report, entries):
     report.covers("lengths around the shortest and the longest book",
                   {(0, (1, 0)), (1, (1, 1)), (1_219, (1, 1_219)), (1_220, (2, 0)), (1_220, None),
                    (1_221, (5, 1_221)), (41_876, None), (41_877, (5, 41_877))}, lengths)
-    for number, field in ((2, EDITION), (3, AGE_BASIS)):
+    for number, field, second in ((2, EDITION, None), (3, AGE_BASIS, AGE_BASIS.offset)):
         seen = numbers_seen(entries, [field], number)
-        report.covers(f"{field.name} 0, 1, 2 and 255",
-                      {(0, field.offset), (1, None), (2, field.offset), (255, field.offset)}, seen)
+        report.covers(f"{field.name} 0, 1, 2, 3 and 255",
+                      {(0, field.offset), (1, None), (2, second), (3, field.offset), (255, field.offset)}, seen)
     report.covers("SST year 2016, 2017, 2100 and 2101",
                   {(2_016, 2), (2_017, None), (2_100, None), (2_101, 2)},
                   numbers_seen(entries, [SST_YEAR], 4))
@@ -49,6 +50,10 @@ def cover_header(report, entries):
                   numbers_seen(entries, [RECORD_COUNT], 4))
     report.covers("spare bytes 6 and 7 each alone", {(0, None), (1, 6), (256, 6)},
                   numbers_seen(entries, [HEADER_SPARE], 4))
+    for field in PERCENTAGES:
+        report.covers(f"{field.name} 0, 1, 100, 101 and 255",
+                      {(0, field.offset), (1, None), (100, None), (101, field.offset), (255, field.offset)},
+                      numbers_seen(entries, [field], 23))
 
 
 def numbers_seen(entries, fields, refusal):

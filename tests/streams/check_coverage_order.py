@@ -40,6 +40,8 @@ def cover_order(report, entries):
     in_chain = ("9 at head", *in_record)
     header = {("header", *pair) for pair in header_pairs()}
     report.covers(f"a header refusal before any it can meet, {len(header)} pairs", header, seen)
+    percentages = {(1, 23), (3, 23), (4, 23), *((23, number) for number in range(5, 14))}
+    report.covers(f"23 between 4 and 5, {len(percentages)} pairs", {("header", *pair) for pair in percentages}, seen)
     report.covers("an earlier chain before a later one, every two numbers",
                   {("other chain", *pair) for pair in product(in_chain, in_chain)}, seen)
     report.covers("a record before a later one of its chain",
@@ -59,6 +61,6 @@ def cover_places(report, entries):
                 twice.add(first.number)
             if first.rank[0] == 1 and first.place > other.place:
                 against_file.add(scope(first, other))
-    report.covers("two bad fields of one kind, the earlier named", {4, 6, 7, 8, 9, 12}, twice)
+    report.covers("two bad fields of one kind, the earlier named", {4, 6, 7, 8, 9, 12, 23}, twice)
     report.covers("the chain's order before the file's",
                   {"same chain", "other chain"}, against_file)

@@ -4,11 +4,11 @@ import random
 from typing import NamedTuple
 
 from second.book import PG2_MEN, empty_book, one_record_book, random_book
-from second.layout import CHAINS, CURVE, PRODUCT_GROUPS, SETTINGS
+from second.layout import CHAINS, CURVE, EDITION, PERCENTAGES, PRODUCT_GROUPS, SETTINGS, changed
 from tests.books import insurers as books
 from tests.books import trial as trials
 from tests.streams.check_cases_header import base_book
-from tests.streams.check_cases_order import spoiled
+from tests.streams.check_cases_order import BOOK_REFUSALS, spoiled
 
 PG1C_WOMEN, PG3_MEN = 5, 8
 FAR_NUMBERS = (2**32, 2**63, 2**64 - 1)
@@ -24,15 +24,20 @@ class Call(NamedTuple):
     table_length: int = 200
 
 
+def in_edition_2(book, men, women):
+    """The book of edition 1 with these percentages."""
+    return changed(book, (EDITION, 2), *zip(PERCENTAGES, (men, women)))
+
+
 def group_of(chain):
     """The product group that a chain belongs to."""
     return max(1, CHAINS[chain].code - 2)
 
 
 def insurer_calls():
-    """Every setting and group of a plausible insurer, and some of another."""
+    """Every setting and group of a plausible insurer, and some of another, which has percentages of its own."""
     many = books.insurer_book(books.MANY_PRODUCTS, 320)
-    hospital = books.insurer_book(books.HOSPITAL_PRODUCT, 302)
+    hospital = in_edition_2(books.insurer_book(books.HOSPITAL_PRODUCT, 302), 83, 91)
     for setting in SETTINGS:
         for product_group in PRODUCT_GROUPS:
             yield Call(f"insurer_setting_{setting}_group_{product_group}",
@@ -56,6 +61,10 @@ def trial_calls():
     for setting in (0, 1, 2):
         yield Call(f"certain_death_setting_{setting}", setting, 2,
                    trials.in_force_book(1_000_000, 0))
+    for setting in (0, 1, 2, 7):
+        for men, women in ((50, 1), (100, 100), (1, 100)):
+            yield Call(f"certain_death_at_{men}_percent_setting_{setting}", setting, 2,
+                       in_edition_2(trials.in_force_book(1_000_000, 0), men, women))
     for setting in (0, 3, 4):
         yield Call(f"a_third_lapses_setting_{setting}", setting, 2,
                    trials.in_force_book(0, 333_333))
@@ -158,7 +167,7 @@ def caller_calls():
 
 def refused_calls():
     """Each refusal of the book, also where the defect stands in another group."""
-    for refusal in range(1, 14):
+    for refusal in BOOK_REFUSALS:
         yield Call(f"book_refused_by_{refusal}", refusal % 8, refusal % 5 + 1,
                    spoiled((refusal,)), 200 + refusal)
     yield Call("no_bytes", 0, 1, b"", 300)

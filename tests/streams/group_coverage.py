@@ -8,6 +8,7 @@ from second.exact import exact_liability
 from second.layout import (CHAINS, COST_RATES, CURVE, LONGEST_BOOK, MORTALITY, PRODUCT_GROUPS, SETTINGS,
                            record)
 from second.reckoning import year_table
+from tests.streams.check_cases_order import BOOK_REFUSALS
 from tests.streams.group_cases import Call
 
 MOST_STDIN_BYTES, MOST_STDOUT_BYTES = 3_000_000, 1_000_000
@@ -34,7 +35,7 @@ def cover_refusals(report, entries):
 
     refusals = {entry.reply[0] for entry in entries}
     report.covers("refusals 14, 15 and 16", {14, 15, 16}, refusals)
-    report.covers("each refusal of the book", range(1, 14), refusals)
+    report.covers("each refusal of the book", BOOK_REFUSALS, refusals)
     setting, product_group, table_length = map(Call._fields.index, (
         "setting", "product_group", "table_length"))
     report.covers("settings 8, 9 and 2^64 - 1 are 14", {8, 9, 2**64 - 1}, seen(14, setting))

@@ -5,6 +5,7 @@ from second.check import check
 from second.exact import exact_totals
 from second.layout import LONGEST_BOOK, MOST_BYTES_TAKEN, MOST_RECORDS, PRODUCT_GROUPS
 from second.reckoning import FIRST_CAPPED_YEAR, liability_of, year_sums, year_table
+from tests.streams.check_cases_order import BOOK_REFUSALS
 from tests.streams.group_coverage import cover_ends, has_rich_subgroup_behind_poor
 
 MOST_STDIN_BYTES = 600_000
@@ -38,7 +39,7 @@ def cover_sizes(report, entries):
 def cover_refusals(report, entries):
     """Each refusal of a book, T11 and T12, and no figures beside a refusal."""
     refused = [entry for entry in entries if not entry.accepted]
-    report.covers("each refusal of the book", range(1, 14), {entry.refusal for entry in refused})
+    report.covers("each refusal of the book", BOOK_REFUSALS, {entry.refusal for entry in refused})
     verdicts = {entry.book: (entry.refusal, entry.place) for entry in entries}
     report.test("T11: 1,220 zero bytes", verdicts.get(bytes(1_220)) == (2, 0))
     report.test("T12: 1,219 bytes", verdicts.get(bytes(1_219)) == (1, 1_219))

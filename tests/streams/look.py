@@ -10,7 +10,7 @@ from second.check import look
 from second.layout import CHAINS, LONGEST_BOOK, RECORD_COUNT, RECORD_SIZE, changed, record_start
 from tests.books.defects import without_unlinked
 from tests.streams.check_cases_header import base_values
-from tests.streams.check_cases_order import spoiled
+from tests.streams.check_cases_order import BOOK_REFUSALS, spoiled
 from tests.streams.files import book_frame, run_verbs, stream_output
 
 FAR_NUMBERS = (2**16, 2**16 + 1, 2**32, 2**32 + 1, 2**63, 2**63 + 1, 2**64 - 1)
@@ -53,7 +53,7 @@ def accepted_cases():
 
 def refused_cases():
     """(name, number, book) for a book of each refusal, numbers in range and out of it."""
-    for refusal in range(1, 14):
+    for refusal in BOOK_REFUSALS:
         book = spoiled((refusal,))
         for number in (0, 1, 9, 10, 2**64 - 1):
             yield f"refusal_{refusal}_before_record_{number}", number, book
@@ -122,7 +122,7 @@ def cover_refused(report, entries):
                          ("above N", lambda number, count: number > count)):
         numbers = {entry.reply[0] for entry in refused
                    if holds(entry.number, RECORD_COUNT.read(entry.book))}
-        report.covers(f"each book refusal with a number {words}", range(1, 14), numbers)
+        report.covers(f"each book refusal with a number {words}", BOOK_REFUSALS, numbers)
 
 
 if __name__ == "__main__":

@@ -63,6 +63,8 @@ pub struct ReportReply {
 #[repr(C)]
 #[derive(Clone, Copy, Debug, PartialEq, Eq)]
 pub struct Values {
+    pub edition: u64,
+    pub percentages: [u64; 2],
     pub year: u64,
     pub cost_rates: [u64; 5],
     pub curve: [i64; 49],

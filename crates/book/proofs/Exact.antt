@@ -1,10 +1,11 @@
 -- A book is accepted exactly where it keeps the rules, and then n is the number of its linked records that hold contracts.
 -- No record is linked twice. Assumes nothing.
 use mathlib.Core.Path.{_≡_, refl, sym}
+use mathlib.Core.Logic.{⊎-elim}
 use mathlib.Core.List.{List}
 use mathlib.Core.Bool.{Bool, true, false}
 use Prim.Native.Nat.{ℕ, zero, suc, _+_, _-_, _<_, _≤_, zero-le}
-use native.Mathlib.Nat.{pos-of-ne-zero, add-zero}
+use native.Mathlib.Nat.{pos-of-ne-zero, add-zero, eq-or-lt-of-le}
 use native.Mathlib.Omega.{arith}
 use borrow.Author.Tests.{le-leb, eq-eqb, ne-eqb, eqb-true, eqb-false}
 use lib.Dec.{leb, eqb}
@@ -14,8 +15,8 @@ use Rattle.field.specs.declared.Verdict.{Verdict}
 use Rattle.field.specs.declared.Verdict.the-variants.{Accepted}
 use Rattle.field.proofs.Verdicts.{need-good, then-good}
 use Rattle.field.proofs.Ranges.{within-good, field-good, fields-good}
-use Rattle.book.specs.Layout.{headerSize, lastClass, lowestClass, chains, records, headPlace, headOf, recordAt, classOf, nextOf, fieldOf, linkFrom, linkAt}
-use Rattle.book.specs.Check.{checkSpare, checkHeader, checkTables, checkOwner, checkClass, checkAmounts, endsRight, checkLink, checkFrom, checkChain, checkChains, checkBook}
+use Rattle.book.specs.Layout.{headerSize, lastClass, lowestClass, edition, chains, records, headPlace, headOf, recordAt, classOf, nextOf, fieldOf, linkFrom, linkAt}
+use Rattle.book.specs.Check.{checkSpare, checkPercents, checkByEdition, checkHeader, checkTables, checkOwner, checkClass, checkAmounts, endsRight, checkLink, checkFrom, checkChain, checkChains, checkBook}
 use Rattle.book.specs.Cells.{heldFrom, heldIn, sumOf, heldInAll}
 use Rattle.book.specs.Rules.{HeaderRules, TableRules, RecordRules, ChainRules, Rules}
 use Rattle.book.specs.Reading.{ChainFrom, ValidBook}
@@ -75,19 +76,33 @@ accepted-rules basis b n e =
     record { header = v .header; tables = v .tables; chain = chain-rules basis b v }
 
 -- From the rules to acceptance.
+by-edition-good : (basis : ℕ) (b : List ℕ) → HeaderRules basis b → checkByEdition b ≡ Accepted 0
+unfolding checkByEdition checkPercents checkSpare
+by-edition-good basis b h =
+    ⊎-elim
+    (λ (two : edition b ≡ 2).
+    rw (eq-eqb (edition b) 2 two)
+    (then-good _ _ _ _
+    (need-good _ _ _ (within-good _ _ _ (h .percent-low two 0 (omega arith)) (h .percent-high two 0 (omega arith))))
+    (need-good _ _ _ (within-good _ _ _ (h .percent-low two 1 (omega arith)) (h .percent-high two 1 (omega arith))))))
+    (λ (below : edition b < 2).
+    let other : edition b ≡ 2 → ⊥ = λ two. absurd (omega arith) in
+    rw (ne-eqb (edition b) 2 other) (need-good _ _ _ (eq-eqb _ _ (h .spare (omega arith)))))
+    (eq-or-lt-of-le (h .edition-high))
+
 header-good : (basis : ℕ) (b : List ℕ) → HeaderRules basis b → checkHeader basis b ≡ Accepted 0
-unfolding checkHeader checkSpare
+unfolding checkHeader
 header-good basis b h =
     then-good _ _ _ _
     (then-good _ _ _ _
     (then-good _ _ _ _
     (then-good _ _ _ _
     (then-good _ _ _ _
-    (need-good _ _ _ (eq-eqb _ _ (h .edition-one)))
+    (need-good _ _ _ (within-good _ _ _ (h .edition-low) (h .edition-high)))
     (need-good _ _ _ (eq-eqb _ _ (h .basis-is))))
     (need-good _ _ _ (within-good _ _ _ (h .year-low) (h .year-high))))
     (need-good _ _ _ (le-leb _ _ (h .few))))
-    (need-good _ _ _ (eq-eqb _ _ (h .spare))))
+    (by-edition-good basis b h))
     (need-good _ _ _ (eq-eqb _ _ (h .size)))
 
 tables-good : (b : List ℕ) → TableRules b → checkTables b ≡ Accepted 0

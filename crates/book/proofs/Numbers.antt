@@ -1,4 +1,4 @@
--- A refusal of the book has a number from 1 to 13, on basis 2 also 21: 0 stands for acceptance and for nothing else.
+-- A refusal of the book has a number from 1 to 13 or 23, on basis 2 also 21: 0 stands for acceptance and for nothing else.
 -- Assumes nothing.
 use mathlib.Core.Path.{_≡_, refl}
 use mathlib.Core.List.{List}
@@ -12,13 +12,14 @@ use Rattle.field.specs.Verdicts.{pick, need, _andThen_, plus, join, joinAll, co
 use Rattle.field.specs.Fields.{checkField, checkFields}
 use Rattle.field.specs.declared.Verdict.{Verdict}
 use Rattle.field.specs.declared.Verdict.the-variants.{Accepted, Refused}
-use Rattle.book.specs.Layout.{lastClass, lowestClass, headOf, nextOf}
+use Rattle.book.specs.Layout.{lastClass, lowestClass, edition, headOf, nextOf}
 use Rattle.book.specs.Cells.{holds}
-use Rattle.book.specs.Check.{checkSpare, checkHeader, checkTables, checkOwner, checkClass, checkAmounts, checkLink, checkFrom, checkChain, checkChains, checkBook}
+use Rattle.book.specs.Check.{checkSpare, checkPercents, checkByEdition, checkHeader, checkTables, checkOwner, checkClass, checkAmounts, checkLink, checkFrom, checkChain, checkChains, checkBook}
 
--- a number from 1 to 13; 21 only where some class is below the lowest
+-- a number from 1 to 13, or 23; 21 only where some class is below the lowest
 abbrev listed : ℕ → ℕ → Bool
-listed last q = pick (pick (leb 1 q) (leb q 13) false) true (pick (eqb q 21) (leb 1 (lowestClass last)) false)
+listed last q =
+    pick (pick (leb 1 q) (leb q 13) false) true (pick (eqb q 23) true (pick (eqb q 21) (leb 1 (lowestClass last)) false))
 
 -- accepted, or refused with such a number
 abbrev pub Numbered : ℕ → Verdict → Type 0
@@ -53,6 +54,10 @@ module _ (last : ℕ) where
       → Numbered last (w andThen need ok q p)
   by-test ok q p l w h = by-then w (need ok q p) h (by-need ok q p l)
 
+  by-pick : (t : Bool) (v w : Verdict) → Numbered last v → Numbered last w → Numbered last (pick t v w)
+  by-pick true v w hv hw = hv
+  by-pick false v w hv hw = hw
+
   -- no class is below 0
   by-lowest : (lowest x p : ℕ) → lowest ≡ lowestClass last → Numbered last (need (leb lowest x) 21 p)
   unfolding need
@@ -68,14 +73,19 @@ module _ (last : ℕ) where
     unfolding checkFields
     by-fields q lift span at count h = by-all _ count 0 (λ j. by-field q lift span _ h)
 
+    by-edition : Numbered last (checkByEdition b)
+    unfolding checkByEdition checkPercents checkSpare
+    by-edition = by-pick (eqb (edition b) 2) _ _ (by-test _ 23 7 tt _ (by-need _ 23 6 tt)) (by-need _ 4 6 tt)
+
     by-header : (basis : ℕ) → Numbered last (checkHeader basis b)
-    unfolding checkHeader checkSpare
+    unfolding checkHeader
     by-header basis =
         by-test _ 5 _ tt _
-        (by-test _ 4 6 tt _
+        (by-then _ _
         (by-test _ 4 4 tt _
         (by-test _ 4 2 tt _
-        (by-test _ 3 1 tt _ (by-need _ 2 0 tt)))))
+        (by-test _ 3 1 tt _ (by-need _ 2 0 tt))))
+        by-edition)
 
     by-tables : Numbered last (checkTables b)
     unfolding checkTables
@@ -121,11 +131,7 @@ module _ (last : ℕ) where
     by-chain : (k : ℕ) → Numbered last (checkChain b last k)
     unfolding checkChain
     by-chain k =
-        by-head (eqb (headOf b k) 0) _ (by-then _ _ (by-need _ 9 _ tt) (by-from k _ (headOf b k)))
-      where
-        by-head : (t : Bool) (v : Verdict) → Numbered last v → Numbered last (pick t (Accepted 0) v)
-        by-head true v h = tt
-        by-head false v h = h
+        by-pick (eqb (headOf b k) 0) (Accepted 0) _ tt (by-then _ _ (by-need _ 9 _ tt) (by-from k _ (headOf b k)))
 
 -- on basis 1 the rule of 21 never bites, and 11 alone is left of the class's two
 pub class-on-basis-1 : (b : List ℕ) (class at : ℕ)
@@ -133,7 +139,7 @@ pub class-on-basis-1 : (b : List ℕ) (class at : ℕ)
 unfolding checkClass need _andThen_
 class-on-basis-1 b class at = rw (le-leb 0 (byteAt b (at + 2)) zero-le)
 
--- on basis 1 a number from 1 to 13, on basis 2 one of these or 21
+-- on basis 1 a number from 1 to 13 or 23, on basis 2 one of these or 21
 pub numbered : (b : List ℕ) (basis : ℕ) → Numbered (lastClass basis) (checkBook basis b)
 unfolding checkBook checkChains
 numbered b basis =

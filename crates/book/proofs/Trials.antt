@@ -5,13 +5,14 @@ use Prim.Native.Nat.{ℕ}
 use native.Mathlib.Omega.{arith}
 use lib.ListN.{length, replicate}
 use Rattle.field.specs.Verdicts.{_andThen_, need}
+use Rattle.field.specs.Fields.{within}
 use Rattle.field.specs.declared.Verdict.the-variants.{Refused}
 use Rattle.book.specs.Check.{checkHeader, checkBook}
 use Rattle.book.proofs.Whole.{book-short}
 
 -- 1,220 zero bytes
 pub t11 : checkBook 1 (replicate 1220 0) ≡ Refused 2 0
-unfolding checkBook checkHeader need _andThen_
+unfolding checkBook checkHeader within need _andThen_
 t11 = refl
 
 -- any 1,219 bytes

@@ -13,7 +13,7 @@ use Rattle.field.specs.declared.Verdict.the-variants.{Accepted, Refused}
 use Rattle.field.proofs.Verdicts.{all-same}
 use Rattle.field.proofs.Same.{u16-same, field-same, fields-same}
 use Rattle.book.specs.Layout.{lastClass, chains, records, headPlace, headOf, costPlace, curvePlace, mortalityPlace, mostRate, curveLift, curveSpan, recordAt, classOf, nextOf, linkFrom, linkAt}
-use Rattle.book.specs.Check.{checkSpare, checkHeader, checkTables, checkOwner, checkClass, checkAmounts, endsRight, checkLink, checkFrom, checkChain, checkChains, checkBook}
+use Rattle.book.specs.Check.{checkSpare, checkPercents, checkByEdition, checkHeader, checkTables, checkOwner, checkClass, checkAmounts, endsRight, checkLink, checkFrom, checkChain, checkChains, checkBook}
 use Rattle.book.specs.Cells.{holds}
 use Rattle.book.specs.Rules.{SameButUnlinked}
 use Rattle.book.proofs.Links.{link-next}
@@ -107,12 +107,14 @@ module _ (b b′ : List ℕ) (last k : ℕ) (count : records b ≡ records b′)
 
 module _ (b b′ : List ℕ) (s : SameButUnlinked b b′) where
   header-same : (basis : ℕ) → checkHeader basis b ≡ checkHeader basis b′
-  unfolding checkHeader checkSpare
+  unfolding checkHeader checkByEdition checkPercents checkSpare
   header-same basis =
       rw (
         front-same b b′ s 0 (omega arith) (omega arith),
         front-same b b′ s 1 (omega arith) (omega arith),
         u16-same b b′ _ _ (front-same b b′ s) 2 (omega arith) (omega arith),
+        front-same b b′ s 6 (omega arith) (omega arith),
+        front-same b b′ s 7 (omega arith) (omega arith),
         u16-same b b′ _ _ (front-same b b′ s) 6 (omega arith) (omega arith),
         count-same b b′ s,
         s .size,

@@ -5,12 +5,12 @@ use Prim.Native.Nat.{ℕ, zero, suc, _+_, _-_, _<_, _≤_, zero-le}
 use native.Mathlib.Nat.{pos-of-ne-zero, sub-zero}
 use native.Mathlib.Numerals.{add-one}
 use native.Mathlib.Omega.{arith}
-use borrow.Author.Tests.{leb-true, eqb-true, ne-eqb}
+use borrow.Author.Tests.{leb-true, eqb-true, eq-eqb, ne-eqb}
 use Rattle.field.specs.declared.Verdict.the-variants.{Accepted}
 use Rattle.field.proofs.Verdicts.{need-true, then-left, then-right, plus-right, all-each}
 use Rattle.field.proofs.Ranges.{within-means, field-bound, fields-bound}
-use Rattle.book.specs.Layout.{lastClass, lowestClass, records, chains, headOf, classOf, nextOf, fieldOf, mostRate, curveLift, curveSpan, costPlace, curvePlace, mortalityPlace}
-use Rattle.book.specs.Check.{checkSpare, checkHeader, checkTables, checkOwner, checkClass, checkAmounts, endsRight, checkLink, checkFrom, checkChain, checkChains, checkBook}
+use Rattle.book.specs.Layout.{lastClass, lowestClass, edition, records, spareBytes, percentAt, mostPercent, chains, headOf, classOf, nextOf, fieldOf, mostRate, curveLift, curveSpan, costPlace, curvePlace, mortalityPlace}
+use Rattle.book.specs.Check.{checkSpare, checkPercents, checkByEdition, checkHeader, checkTables, checkOwner, checkClass, checkAmounts, endsRight, checkLink, checkFrom, checkChain, checkChains, checkBook}
 use Rattle.book.specs.Rules.{HeaderRules, TableRules, RecordRules}
 use Rattle.book.specs.Reading.{ChainFrom, ValidBook}
 use Rattle.book.proofs.Chains.{link-owner, link-class, link-amounts, link-ends, link-inside, link-some}
@@ -80,23 +80,45 @@ module _ (b : List ℕ) (last k : ℕ) where
       let w = rw (ne-eqb _ _ some) at e in
       from-valid _ _ n (pos-of-ne-zero some) (leb-true _ _ (need-true _ _ _ _ (then-left _ _ _ w))) (omega arith) (then-right _ _ _ w)
 
+-- bytes 6 and 7, by the edition
+module _ (b : List ℕ) (n : ℕ) (e : checkByEdition b ≡ Accepted n) where
+  spare-rule : edition b ≡ 1 → spareBytes b ≡ 0
+  unfolding checkByEdition checkSpare
+  spare-rule one =
+      let other : edition b ≡ 2 → ⊥ = λ two. absurd (omega arith) in
+      eqb-true _ _ (need-true _ _ _ _ (rw (ne-eqb (edition b) 2 other) at e))
+
+  percent-rule : edition b ≡ 2 → (sex : ℕ) → sex ≤ 1 → (1 ≤ percentAt b sex) × (percentAt b sex ≤ mostPercent)
+  unfolding checkByEdition checkPercents
+  percent-rule two zero h =
+      let men = within-means _ _ (percentAt b 0) (need-true _ _ _ _ (then-left _ _ _ (rw (eq-eqb (edition b) 2 two) at e))) in
+      (omega (arith, men .0), omega (arith, men .1))
+  percent-rule two (suc zero) h =
+      let women = within-means _ _ (percentAt b 1) (need-true _ _ _ _ (then-right _ _ _ (rw (eq-eqb (edition b) 2 two) at e))) in
+      (omega (arith, women .0), omega (arith, women .1))
+  percent-rule two (suc (suc sex)) h = absurd (omega arith)
+
 header-rules : (basis : ℕ) (b : List ℕ) (n : ℕ) → checkHeader basis b ≡ Accepted n → HeaderRules basis b
-unfolding checkHeader checkSpare
+unfolding checkHeader
 header-rules basis b n e =
     let h₅ = then-left _ _ _ e in
     let h₄ = then-left _ _ _ h₅ in
     let h₃ = then-left _ _ _ h₄ in
     let h₂ = then-left _ _ _ h₃ in
     let year = within-means _ _ _ (need-true _ _ _ _ (then-right _ _ _ h₃)) in
-    -- what the test says, whatever its bound
+    -- what the tests say, whatever their bounds
     let few = leb-true (records b) _ (need-true _ _ _ _ (then-right _ _ _ h₄)) in
+    let known = within-means _ _ (edition b) (need-true _ _ _ _ (then-left _ _ _ h₂)) in
     record {
-      edition-one = eqb-true _ _ (need-true _ _ _ _ (then-left _ _ _ h₂));
+      edition-low = omega (arith, known .0);
+      edition-high = omega (arith, known .1);
       basis-is = eqb-true _ _ (need-true _ _ _ _ (then-right _ _ _ h₂));
       year-low = year .0;
       year-high = year .1;
       few = omega (arith, few);
-      spare = eqb-true _ _ (need-true _ _ _ _ (then-right _ _ _ h₅));
+      spare = spare-rule b _ (then-right _ _ _ h₅);
+      percent-low = λ two sex h. percent-rule b _ (then-right _ _ _ h₅) two sex h .0;
+      percent-high = λ two sex h. percent-rule b _ (then-right _ _ _ h₅) two sex h .1;
       size = eqb-true _ _ (need-true _ _ _ _ (then-right _ _ _ e));
     }
 

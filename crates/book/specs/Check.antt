@@ -10,21 +10,31 @@ use Rattle.field.specs.Verdicts.{pick, need, _andThen_, plus, joinAll}
 use Rattle.field.specs.Fields.{within, checkField, checkFields}
 use Rattle.field.specs.declared.Verdict.{Verdict}
 use Rattle.field.specs.declared.Verdict.the-variants.{Accepted}
-use Rattle.book.specs.Layout.{headerSize, recordSize, mostRecords, lastClass, lowestClass, edition, ageBasis, sstYear, firstYear, lastYear, records, spareBytes, chains, chainCode, chainSex, headPlace, headOf, costPlace, curvePlace, mortalityPlace, mostRate, curveLift, curveSpan, recordAt, classOf, nextOf, countOffset, lapseOffset, premiumOffset, claimsOffset, mostCount, mostAmount}
+use Rattle.book.specs.Layout.{headerSize, recordSize, mostRecords, lastClass, lowestClass, edition, ageBasis, sstYear, firstYear, lastYear, records, spareBytes, percentPlace, percentAt, mostPercent, chains, chainCode, chainSex, headPlace, headOf, costPlace, curvePlace, mortalityPlace, mostRate, curveLift, curveSpan, recordAt, classOf, nextOf, countOffset, lapseOffset, premiumOffset, claimsOffset, mostCount, mostAmount}
 use Rattle.book.specs.Cells.{holds}
 
--- 4, of bytes 6 and 7
+-- 4, of the spare bytes of edition 1
 unfoldable pub checkSpare : List ℕ → Verdict
 checkSpare b = need (eqb (spareBytes b) 0) 4 6
 
--- 2 edition, 3 age basis, 4 year, N and spare bytes, 5 the length that N asks for
+-- 23, of the percentages of edition 2: men, then women
+unfoldable pub checkPercents : List ℕ → Verdict
+checkPercents b =
+    need (within 1 mostPercent (percentAt b 0)) 23 (percentPlace 0) andThen
+    need (within 1 mostPercent (percentAt b 1)) 23 (percentPlace 1)
+
+-- bytes 6 and 7, as the edition has them
+unfoldable pub checkByEdition : List ℕ → Verdict
+checkByEdition b = pick (eqb (edition b) 2) (checkPercents b) (checkSpare b)
+
+-- 2 neither edition, 3 age basis, 4 year and N, 4 or 23 bytes 6 and 7, 5 the length that N asks for
 unfoldable pub checkHeader : ℕ → List ℕ → Verdict
 checkHeader basis b =
-    need (eqb (edition b) 1) 2 0 andThen
+    need (within 1 2 (edition b)) 2 0 andThen
     need (eqb (ageBasis b) basis) 3 1 andThen
     need (within firstYear lastYear (sstYear b)) 4 2 andThen
     need (leb (records b) mostRecords) 4 4 andThen
-    checkSpare b andThen
+    checkByEdition b andThen
     need (eqb (length b) (headerSize + recordSize * records b)) 5 (length b)
 
 -- 6 the five cost rates, 7 the curve's 49 rates, 8 the 242 of mortality

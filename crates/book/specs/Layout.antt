@@ -24,7 +24,7 @@ lastClass basis = 119 + basis
 abbrev pub lowestClass : ℕ → ℕ
 lowestClass last = last - 120
 
--- The header: edition, age basis, SST year, number of records N, and two spare bytes.
+-- The header: edition, age basis, SST year, number of records N, and bytes 6 and 7, which edition 1 spares.
 abbrev pub edition : List ℕ → ℕ
 edition b = byteAt b 0
 
@@ -46,6 +46,16 @@ records b = readU16 b 4
 
 abbrev pub spareBytes : List ℕ → ℕ
 spareBytes b = readU16 b 6
+
+-- edition 2 has mortality percentages there: that of a sex, 0 men, 1 women, is from 1 to the most
+abbrev pub percentPlace : ℕ → ℕ
+percentPlace sex = 6 + sex
+
+abbrev pub percentAt : List ℕ → ℕ → ℕ
+percentAt b sex = byteAt b (percentPlace sex)
+
+abbrev pub mostPercent : ℕ
+mostPercent = 100
 
 -- Chains: there are 14, from 0. Subgroup codes 1 to 7 have two each, men's (sex 0) and then women's (sex 1).
 abbrev pub chains : ℕ

@@ -5,15 +5,19 @@ use mathlib.Core.List.{List}
 use lib.ListN.{length}
 use Rattle.field.specs.Bytes.{byteAt, readU16, readU32}
 use Rattle.field.specs.Fields.{raised}
-use Rattle.book.specs.Layout.{headerSize, recordSize, mostRecords, lastClass, lowestClass, edition, ageBasis, sstYear, firstYear, lastYear, records, spareBytes, chains, chainCode, chainSex, headOf, costPlace, curvePlace, mortalityPlace, mostRate, curveLift, curveSpan, recordAt, codeOf, sexOf, classOf, nextOf, fieldOf, countOffset, lapseOffset, premiumOffset, claimsOffset, mostCount, mostAmount, linkAt}
+use Rattle.book.specs.Layout.{headerSize, recordSize, mostRecords, lastClass, lowestClass, edition, ageBasis, sstYear, firstYear, lastYear, records, spareBytes, percentAt, mostPercent, chains, chainCode, chainSex, headOf, costPlace, curvePlace, mortalityPlace, mostRate, curveLift, curveSpan, recordAt, codeOf, sexOf, classOf, nextOf, fieldOf, countOffset, lapseOffset, premiumOffset, claimsOffset, mostCount, mostAmount, linkAt}
 
 pub record HeaderRules (basis : ℕ) (b : List ℕ) : Type 0 where
-  pub edition-one : edition b ≡ 1
+  pub edition-low : 1 ≤ edition b
+  pub edition-high : edition b ≤ 2
   pub basis-is : ageBasis b ≡ basis
   pub year-low : firstYear ≤ sstYear b
   pub year-high : sstYear b ≤ lastYear
   pub few : records b ≤ mostRecords
-  pub spare : spareBytes b ≡ 0
+  -- bytes 6 and 7: zero in edition 1, the percentages of men and women in edition 2
+  pub spare : edition b ≡ 1 → spareBytes b ≡ 0
+  pub percent-low : edition b ≡ 2 → (sex : ℕ) → sex ≤ 1 → 1 ≤ percentAt b sex
+  pub percent-high : edition b ≡ 2 → (sex : ℕ) → sex ≤ 1 → percentAt b sex ≤ mostPercent
   pub size : length b ≡ headerSize + recordSize * records b
 
 pub record TableRules (b : List ℕ) : Type 0 where

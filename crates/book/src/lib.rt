@@ -3,7 +3,7 @@
 ghost use mathlib.Core.Path.{_≡_};
 ghost use Prim.Native.Nat.{_+_, _*_, _≤_, _<_};
 ghost use lib.ListN.{length};
-ghost use Rattle.book.specs.Layout.{headerSize, lastClass, lowestClass, records, headOf, recordAt, classOf, nextOf, fieldOf};
+ghost use Rattle.book.specs.Layout.{headerSize, lastClass, lowestClass, edition, records, percentAt, headOf, recordAt, classOf, nextOf, fieldOf};
 ghost use Rattle.book.specs.Cells.{holds};
 ghost use Rattle.book.specs.Check.{checkAmounts};
 ghost use Rattle.book.specs.Reading.{Inside};
@@ -18,6 +18,11 @@ pub const MOST_RECORDS: usize = 1694;
 pub const FIRST_YEAR: usize = 2017;
 
 pub const LAST_YEAR: usize = 2100;
+
+// Of the percentages of edition 2: men's, then women's.
+pub const PERCENT_PLACE: usize = 6;
+
+pub const MOST_PERCENT: usize = 100;
 
 pub const CHAINS: usize = 14;
 
@@ -67,6 +72,21 @@ pub fn lowest_class(last: usize) -> usize
     ensures { λ r. ⌜ r ≡ lowestClass last ⌝ }
 {
     last - 120
+}
+
+pub fn edition(b: &[u8]) -> usize
+    requires { ⌜ headerSize ≤ length (now b) ⌝ }
+    ensures { λ r. ⌜ (r ≡ edition (now (b .entry))) × (r < 256) ⌝ }
+{
+    field::read_u8(b, 0)
+}
+
+// The percentage that edition 2 has for a sex: 0 men, 1 women.
+pub fn percent_at(b: &[u8], sex: usize) -> usize
+    requires { ⌜ (sex ≤ 1) × (headerSize ≤ length (now b)) ⌝ }
+    ensures { λ r. ⌜ (r ≡ percentAt (now (b .entry)) sex) × (r < 256) ⌝ }
+{
+    field::read_u8(b, PERCENT_PLACE + sex)
 }
 
 // N, the number of records.

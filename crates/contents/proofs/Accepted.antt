@@ -1,5 +1,5 @@
 -- Every book that is written is accepted, and its n is the number of counts that are not 0. Assumes nothing.
-use mathlib.Core.Path.{_≡_, refl, ap, _∙_}
+use mathlib.Core.Path.{_≡_, refl, sym, ap, _∙_}
 use mathlib.Core.Logic.{⊎-elim}
 use mathlib.Core.List.{List}
 use Prim.Native.Nat.{ℕ, zero, suc, _+_, _-_, _<_, _≤_}
@@ -8,9 +8,10 @@ use native.Mathlib.Numerals.{add-one}
 use native.Mathlib.Omega.{arith}
 use lib.Dec.{eqb}
 use lib.ListN.{length, getD}
+use Rattle.field.specs.Bytes.{readU16}
 use Rattle.field.specs.Verdicts.{pick}
 use Rattle.field.specs.declared.Verdict.the-variants.{Accepted}
-use Rattle.book.specs.Layout.{chains, headOf}
+use Rattle.book.specs.Layout.{edition, spareBytes, percentAt, mostPercent, chains, headOf}
 use Rattle.book.specs.Cells.{holds, heldFrom, heldIn, sumOf, heldInAll}
 use Rattle.book.specs.Check.{checkBook}
 use Rattle.book.specs.Rules.{HeaderRules, TableRules, ChainRules, Rules}
@@ -27,20 +28,38 @@ use Rattle.contents.proofs.Numbers.{four-read, curve-small, curve-raise
 use Rattle.contents.proofs.Laid.{Laid, stands-laid, book-length}
 use Rattle.contents.proofs.Fit.{fit}
 use Rattle.contents.proofs.Linked.{size-most, before-most, head-none, head-some, next-last, next-more}
-use Rattle.contents.proofs.Linked.{edition-is, basis-is, year-is, records-is, spare-is, head-is, class-of-entry}
+use Rattle.contents.proofs.Linked.{edition-is, men-is, women-is, basis-is, year-is, records-is, head-is, class-of-entry}
 use Rattle.contents.proofs.Linked.{next-of-entry, count-of-entry, rules-of-entry, link-in, link-entry}
 
 -- The rules of a book are kept.
 module _ (b : List ℕ) (v : Contents) (f : Fit v) (x : Laid b v) where
+  spare-rule : edition b ≡ 1 → spareBytes b ≡ 0
+  unfolding readU16
+  spare-rule one =
+      let e : v .values .edition ≡ 1 = sym (edition-is b v f x) ∙ one in
+      omega (arith, men-is b v f x, women-is b v f x, f .no-men e, f .no-women e)
+
+  percent-rule : edition b ≡ 2 → (sex : ℕ) → sex ≤ 1 → (1 ≤ percentAt b sex) × (percentAt b sex ≤ mostPercent)
+  percent-rule two zero h =
+      let e : v .values .edition ≡ 2 = sym (edition-is b v f x) ∙ two in
+      (omega (arith, men-is b v f x, f .men-low e), omega (arith, men-is b v f x, f .men-high e))
+  percent-rule two (suc zero) h =
+      let e : v .values .edition ≡ 2 = sym (edition-is b v f x) ∙ two in
+      (omega (arith, women-is b v f x, f .women-low e), omega (arith, women-is b v f x, f .women-high e))
+  percent-rule two (suc (suc sex)) h = absurd (omega arith)
+
   header-rules : length b ≡ length (bookOf v) → HeaderRules 1 b
   header-rules size =
       record {
-        edition-one = edition-is b v f x;
+        edition-low = omega (arith, edition-is b v f x, f .edition-low);
+        edition-high = omega (arith, edition-is b v f x, f .edition-high);
         basis-is = basis-is b v f x;
         year-low = omega (arith, year-is b v f x, f .year-low);
         year-high = omega (arith, year-is b v f x, f .year-high);
         few = omega (arith, records-is b v f x, before-most (v .values .first) chains);
-        spare = spare-is b v f x;
+        spare = spare-rule;
+        percent-low = λ two sex h. percent-rule two sex h .0;
+        percent-high = λ two sex h. percent-rule two sex h .1;
         size = omega (arith, records-is b v f x, book-length v);
       }
 

@@ -15,8 +15,8 @@ use lib.ListN.{length, getD, length-append, List·getD-append, List·getD-eq-def
 use lib.Seq.{getD-append-add}
 use Rattle.field.specs.Bytes.{byteAt, readU16, readU32}
 use Rattle.field.specs.declared.Verdict.the-variants.{Accepted}
-use Rattle.book.specs.Layout.{headerSize, recordSize, chains, records, headPlace, headOf, recordAt, classOf, nextOf}
-use Rattle.book.specs.Layout.{fieldOf, costPlace, curvePlace, mortalityPlace, mostRate, mostCount, mostAmount}
+use Rattle.book.specs.Layout.{headerSize, recordSize, edition, chains, records, headPlace, headOf, recordAt, classOf}
+use Rattle.book.specs.Layout.{nextOf, fieldOf, costPlace, curvePlace, mortalityPlace, mostRate, mostCount, mostAmount}
 use Rattle.book.specs.Layout.{countOffset, lapseOffset, premiumOffset, claimsOffset, after, linkFrom, linkAt}
 use Rattle.book.specs.Check.{checkBook}
 use Rattle.book.specs.Rules.{RecordRules, Rules}
@@ -146,10 +146,10 @@ module _ (b : List ℕ) (bytes : OfBytes b) (v : ValidBook 1 b) (r : Rules 1 b) 
   front-right : Stands b 0 (frontBytes (valuesOf b))
   unfolding frontBytes valuesOf records
   front-right =
-      let two : Stands b 0 (1 ∷ 1 ∷ []) = lead in
-      let t₄ = 1 ∷ 1 ∷ [] ++ twoBytes (readU16 b 2) in
+      let two : Stands b 0 (byteAt b 0 ∷ 1 ∷ []) = lead in
+      let t₄ = byteAt b 0 ∷ 1 ∷ [] ++ twoBytes (readU16 b 2) in
       let t₆ = t₄ ++ twoBytes (before (firstsOf b) chains) in
-      let h₄ = stands-both b (1 ∷ 1 ∷ []) (twoBytes (readU16 b 2)) 0 2 (omega arith) two
+      let h₄ = stands-both b (byteAt b 0 ∷ 1 ∷ []) (twoBytes (readU16 b 2)) 0 2 (omega arith) two
       (two-stands b 2 (readU16 b 2) bytes refl) in
       let l₄ : length t₄ ≡ 4 = omega (arith, two-length (readU16 b 2)) in
       let h₆ = stands-both b t₄ (twoBytes (before (firstsOf b) chains)) 0 4 (omega (arith, l₄)) h₄
@@ -161,12 +161,17 @@ module _ (b : List ℕ) (bytes : OfBytes b) (v : ValidBook 1 b) (r : Rules 1 b) 
         length-append t₄ (twoBytes (before (firstsOf b) chains)),
         two-length (before (firstsOf b) chains),
       ) in
-      stands-both b t₆ (twoBytes 0) 0 6 (omega (arith, l₆)) h₆ (two-stands b 6 0 bytes (r .header .spare))
+      stands-both b t₆ (byteAt b 6 ∷ byteAt b 7 ∷ []) 0 6 (omega (arith, l₆)) h₆ percents
     where
-      lead : Stands b 0 (1 ∷ 1 ∷ [])
-      lead zero h = r .header .edition-one
+      lead : Stands b 0 (byteAt b 0 ∷ 1 ∷ [])
+      lead zero h = refl
       lead (suc zero) h = r .header .basis-is
       lead (suc (suc p)) h = absurd (omega arith)
+
+      percents : Stands b 6 (byteAt b 6 ∷ byteAt b 7 ∷ [])
+      percents zero h = refl
+      percents (suc zero) h = refl
+      percents (suc (suc p)) h = absurd (omega arith)
 
   entry-right : (k j : ℕ) → k < chains → j < sizeOf (firstsOf b) k
       → Stands b (headerSize + recordSize * (before (firstsOf b) k + j)) (recordOf (contentsOf b) k j)
@@ -273,6 +278,11 @@ module _ (b : List ℕ) (v : ValidBook 1 b) (r : Rules 1 b) where
       (signed-rate (readU32 b (curvePlace + 4 * j)) (u32-small b (curvePlace + 4 * j) 0 bytes) (r .tables .curve j l)))
       (le-or-lt 49 j)
 
+  -- the spare bytes of edition 1 are zero, each
+  spare-both : edition b ≡ 1 → byteAt b 6 + 256 * byteAt b 7 ≡ 0
+  unfolding readU16
+  spare-both one = omega (arith, r .header .spare one)
+
   reading-fit : OfBytes b → Fit (contentsOf b)
   unfolding contentsOf valuesOf firstsOf listOf
   reading-fit bytes =
@@ -283,6 +293,14 @@ module _ (b : List ℕ) (v : ValidBook 1 b) (r : Rules 1 b) where
         lapses-size = lists-size b (firstsOf b) sizes lapseOffset chains (omega arith);
         premiums-size = lists-size b (firstsOf b) sizes premiumOffset chains (omega arith);
         claims-size = lists-size b (firstsOf b) sizes claimsOffset chains (omega arith);
+        edition-low = r .header .edition-low;
+        edition-high = r .header .edition-high;
+        no-men = λ one. omega (arith, spare-both one);
+        no-women = λ one. omega (arith, spare-both one);
+        men-low = λ two. r .header .percent-low two 0 (omega arith);
+        men-high = λ two. r .header .percent-high two 0 (omega arith);
+        women-low = λ two. r .header .percent-low two 1 (omega arith);
+        women-high = λ two. r .header .percent-high two 1 (omega arith);
         year-low = r .header .year-low;
         year-high = r .header .year-high;
         cost = each-most _ 5 mostRate (r .tables .cost);

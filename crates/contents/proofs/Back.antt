@@ -20,7 +20,7 @@ use Rattle.contents.proofs.Stands.{stands-self, each-whole}
 use Rattle.contents.proofs.Numbers.{four-read, curve-small, curve-back}
 use Rattle.contents.proofs.Laid.{Laid, stands-laid}
 use Rattle.contents.proofs.Fit.{fit}
-use Rattle.contents.proofs.Linked.{head-none, head-some, year-is, head-is, class-of-entry, count-of-entry}
+use Rattle.contents.proofs.Linked.{head-none, head-some, edition-is, men-is, women-is, year-is, head-is, class-of-entry, count-of-entry}
 use Rattle.contents.proofs.Linked.{lapse-of-entry, premium-of-entry, claims-of-entry, link-in}
 use Rattle.contents.proofs.Lists.{lists-whole}
 
@@ -83,6 +83,9 @@ module _ (b : List ℕ) (v : Contents) (f : Fit v) (x : Laid b v) where
     unfolding contentsOf valuesOf
     values-back =
         rw (
+          edition-is b v f x,
+          men-is b v f x,
+          women-is b v f x,
           year-is b v f x,
           cost-back,
           curve-back-all,

@@ -5,7 +5,7 @@ use mathlib.Core.List.{List}
 use mathlib.Core.Bool.{true}
 use Prim.Native.Nat.{ℕ, _<_, _≤_, zero-le}
 use native.Mathlib.Omega.{arith}
-use borrow.Author.Tests.{leb-true, le-leb, eqb-true, eq-eqb}
+use borrow.Author.Tests.{leb-true, le-leb, eqb-true, eq-eqb, ne-eqb}
 use lib.Dec.{leb}
 use lib.IntN.{ℤ, pos}
 use lib.ListN.{length, getD, List·getD-eq-default}
@@ -13,12 +13,13 @@ use Rattle.field.specs.Verdicts.{need}
 use Rattle.field.specs.declared.Verdict.the-variants.{Accepted}
 use Rattle.field.proofs.Verdicts.{need-true, need-good, then-left, then-right, then-good, all-each, all-zero}
 use Rattle.field.proofs.Ranges.{within-means, within-good}
-use Rattle.book.specs.Layout.{mostRate, mostCount, mostAmount}
+use native.Mathlib.Nat.{eq-or-lt-of-le}
+use Rattle.book.specs.Layout.{mostPercent, mostRate, mostCount, mostAmount}
 use Rattle.text.proofs.Laws.{le-or-lt}
 use Rattle.contents.specs.Contents.{Contents, noClass}
 use Rattle.contents.specs.Written.{bookSize}
-use Rattle.contents.specs.Limits.{checkMost, curveRate, checkCurve, checkSizes, checkRates, checkLists}
-use Rattle.contents.specs.Limits.{checkContents, Fit}
+use Rattle.contents.specs.Limits.{checkMost, curveRate, checkCurve, checkSizes, checkPercents, checkEdition}
+use Rattle.contents.specs.Limits.{checkRates, checkLists, checkContents, Fit}
 
 module _ (number most : ℕ) (l : List ℕ) where
   most-means : (n : ℕ) → checkMost number most l ≡ Accepted n → (j : ℕ) → getD l j 0 ≤ most
@@ -48,9 +49,54 @@ curve-good : (l : List ℤ) → ((j : ℕ) → curveRate (getD l j (pos 0)) ≡ 
 unfolding checkCurve
 curve-good l h = all-zero _ (length l) 0 (λ j lo hi. need-good _ _ _ (h j))
 
+-- the percentages, by the edition
+module _ (edition men women n : ℕ) (e : checkPercents edition men women ≡ Accepted n) where
+  none-given : edition ≡ 1 → (men ≡ 0) × (women ≡ 0)
+  unfolding checkPercents
+  none-given one =
+      let other : edition ≡ 2 → ⊥ = λ two. absurd (omega arith) in
+      let both = rw (ne-eqb edition 2 other) at e in
+      (eqb-true _ _ (need-true _ _ _ _ (then-left _ _ _ both)), eqb-true _ _ (need-true _ _ _ _ (then-right _ _ _ both)))
+
+  both-given : edition ≡ 2 → ((1 ≤ men) × (men ≤ mostPercent)) × ((1 ≤ women) × (women ≤ mostPercent))
+  unfolding checkPercents
+  both-given two =
+      let both = rw (eq-eqb edition 2 two) at e in
+      let m = within-means _ _ men (need-true _ _ _ _ (then-left _ _ _ both)) in
+      let w = within-means _ _ women (need-true _ _ _ _ (then-right _ _ _ both)) in
+      ((omega (arith, m .0), omega (arith, m .1)), (omega (arith, w .0), omega (arith, w .1)))
+
+percents-good : (v : Contents) → Fit v → checkPercents (v .values .edition) (v .values .men) (v .values .women) ≡ Accepted 0
+unfolding checkPercents
+percents-good v f =
+    ⊎-elim
+    (λ (two : v .values .edition ≡ 2).
+    rw (eq-eqb (v .values .edition) 2 two)
+    (then-good _ _ _ _
+    (need-good _ _ _ (within-good _ _ _ (f .men-low two) (f .men-high two)))
+    (need-good _ _ _ (within-good _ _ _ (f .women-low two) (f .women-high two)))))
+    (λ (below : v .values .edition < 2).
+    let other : v .values .edition ≡ 2 → ⊥ = λ two. absurd (omega arith) in
+    let one : v .values .edition ≡ 1 = omega (arith, f .edition-low) in
+    rw (ne-eqb (v .values .edition) 2 other)
+    (then-good _ _ _ _
+    (need-good _ _ _ (eq-eqb _ _ (f .no-men one)))
+    (need-good _ _ _ (eq-eqb _ _ (f .no-women one)))))
+    (eq-or-lt-of-le (f .edition-high))
+
+-- whatever the edition, a percentage fits in a byte
+pub percents-small : (v : Contents) → Fit v → (v .values .men ≤ mostPercent) × (v .values .women ≤ mostPercent)
+percents-small v f =
+    ⊎-elim
+    (λ (two : v .values .edition ≡ 2). (f .men-high two, f .women-high two))
+    (λ (below : v .values .edition < 2).
+    let one : v .values .edition ≡ 1 = omega (arith, f .edition-low) in
+    (omega (arith, f .no-men one), omega (arith, f .no-women one)))
+    (eq-or-lt-of-le (f .edition-high))
+
 module _ (v : Contents) (room : ℕ) where
   pub fit : (n : ℕ) → checkContents v room ≡ Accepted n → Fit v
-  unfolding checkContents checkSizes checkRates checkLists
+  unfolding checkContents checkSizes checkEdition checkRates checkLists
   fit n e =
       let e₁ = then-left _ _ _ e in
       let s = then-left _ _ _ e₁ in
@@ -64,13 +110,26 @@ module _ (v : Contents) (room : ℕ) where
       let l = then-right _ _ _ e in
       let l₁ = then-left _ _ _ l in
       let l₂ = then-left _ _ _ l₁ in
-      let year = within-means _ _ _ (need-true _ _ _ _ (then-left _ _ _ r₂)) in
+      let p = then-left _ _ _ r₂ in
+      let p₁ = then-left _ _ _ p in
+      -- what the test says, whatever its bounds
+      let known = within-means _ _ (v .values .edition) (need-true _ _ _ _ (then-left _ _ _ p₁)) in
+      let year = within-means _ _ _ (need-true _ _ _ _ (then-right _ _ _ p₁)) in
+      let percents = then-right _ _ _ p in
       record {
         first = most-means 11 noClass _ _ (then-left _ _ _ s₄);
         counts-size = eqb-true _ _ (need-true _ _ _ _ (then-right _ _ _ s₄));
         lapses-size = eqb-true _ _ (need-true _ _ _ _ (then-right _ _ _ s₃));
         premiums-size = eqb-true _ _ (need-true _ _ _ _ (then-right _ _ _ s₂));
         claims-size = eqb-true _ _ (need-true _ _ _ _ (then-right _ _ _ s₁));
+        edition-low = omega (arith, known .0);
+        edition-high = omega (arith, known .1);
+        no-men = λ one. none-given _ _ _ _ percents one .0;
+        no-women = λ one. none-given _ _ _ _ percents one .1;
+        men-low = λ two. both-given _ _ _ _ percents two .0 .0;
+        men-high = λ two. both-given _ _ _ _ percents two .0 .1;
+        women-low = λ two. both-given _ _ _ _ percents two .1 .0;
+        women-high = λ two. both-given _ _ _ _ percents two .1 .1;
         year-low = year .0;
         year-high = year .1;
         cost = most-means 6 mostRate _ _ (then-right _ _ _ r₂);
@@ -88,7 +147,7 @@ module _ (v : Contents) (room : ℕ) where
   room-enough n e = leb-true _ _ (need-true _ _ _ _ (then-right _ _ _ (then-left _ _ _ (then-left _ _ _ e))))
 
   pub fit-good : Fit v → bookSize (v .values .first) ≤ room → checkContents v room ≡ Accepted 0
-  unfolding checkContents checkSizes checkRates checkLists
+  unfolding checkContents checkSizes checkEdition checkRates checkLists
   fit-good f enough =
       then-good _ _ _ _
       (then-good _ _ _ _
@@ -103,7 +162,13 @@ module _ (v : Contents) (room : ℕ) where
       (need-good _ _ _ (le-leb _ _ enough)))
       (then-good _ _ _ _
       (then-good _ _ _ _
-      (then-good _ _ _ _ (need-good _ _ _ (within-good _ _ _ (f .year-low) (f .year-high))) (most-good _ _ _ (f .cost)))
+      (then-good _ _ _ _
+      (then-good _ _ _ _
+      (then-good _ _ _ _
+      (need-good _ _ _ (within-good _ _ _ (f .edition-low) (f .edition-high)))
+      (need-good _ _ _ (within-good _ _ _ (f .year-low) (f .year-high))))
+      (percents-good v f))
+      (most-good _ _ _ (f .cost)))
       (curve-good _ (f .curve)))
       (most-good _ _ _ (f .mortality))))
       (then-good _ _ _ _

@@ -75,7 +75,7 @@ module _ (first : List ℕ) where
 
 module _ (b : List ℕ) (v : Contents) (f : Fit v) (x : Laid b v) where
   -- the header
-  pub edition-is : byteAt b 0 ≡ 1
+  pub edition-is : byteAt b 0 ≡ v .values .edition
   unfolding frontBytes twoBytes
   edition-is = x .front 0 (omega arith)
 
@@ -91,9 +91,13 @@ module _ (b : List ℕ) (v : Contents) (f : Fit v) (x : Laid b v) where
   unfolding frontBytes twoBytes readU16 records
   records-is = omega (arith, x .front 4 (omega arith), x .front 5 (omega arith), before-most (v .values .first) chains)
 
-  pub spare-is : readU16 b 6 ≡ 0
-  unfolding frontBytes twoBytes readU16
-  spare-is = omega (arith, x .front 6 (omega arith), x .front 7 (omega arith))
+  pub men-is : byteAt b 6 ≡ v .values .men
+  unfolding frontBytes twoBytes
+  men-is = x .front 6 (omega arith)
+
+  pub women-is : byteAt b 7 ≡ v .values .women
+  unfolding frontBytes twoBytes
+  women-is = x .front 7 (omega arith)
 
   pub head-is : (k : ℕ) → k < chains → headOf b k ≡ headFor (v .values .first) k
   unfolding headOf

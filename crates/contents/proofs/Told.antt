@@ -4,13 +4,15 @@ use mathlib.Core.List.{List}
 use mathlib.Core.Bool.{Bool, true, false}
 use Prim.Native.Nat.{ℕ, zero, suc, _+_, _<_}
 use native.Mathlib.Omega.{arith}
-use Rattle.field.specs.Verdicts.{need, _andThen_, plus, join, joinAll, countOf, refusalOf}
+use lib.Dec.{eqb}
+use Rattle.field.specs.Verdicts.{pick, need, _andThen_, plus, join, joinAll, countOf, refusalOf}
 use Rattle.field.specs.declared.Verdict.{Verdict}
 use Rattle.field.specs.declared.Verdict.the-variants.{Accepted, Refused}
 use Rattle.book.specs.Check.{checkBook}
 use Rattle.book.proofs.Numbers.{zero-accepted}
 use Rattle.contents.specs.Contents.{Contents}
-use Rattle.contents.specs.Limits.{checkMost, checkCurve, checkSizes, checkRates, checkLists, checkContents}
+use Rattle.contents.specs.Limits.{checkMost, checkCurve, checkSizes, checkPercents, checkEdition, checkRates}
+use Rattle.contents.specs.Limits.{checkLists, checkContents}
 use Rattle.contents.specs.Reading.{checkRead}
 
 abbrev pub Told : Verdict → Type 0
@@ -44,9 +46,20 @@ by-most : (number most : ℕ) (l : List ℕ) → 0 < number → Told (checkMost 
 unfolding checkMost
 by-most number most l h = by-all _ _ 0 (λ j. by-need _ number 0 h)
 
+by-percents : (edition men women : ℕ) → Told (checkPercents edition men women)
+unfolding checkPercents
+by-percents edition men women =
+    by-pick (eqb edition 2) _ _
+    (by-test _ 23 0 (omega arith) _ (by-need _ 23 0 (omega arith)))
+    (by-test _ 4 0 (omega arith) _ (by-need _ 4 0 (omega arith)))
+  where
+    by-pick : (t : Bool) (v w : Verdict) → Told v → Told w → Told (pick t v w)
+    by-pick true v w hv hw = hv
+    by-pick false v w hv hw = hw
+
 -- the call that writes
 pub told-contents : (v : Contents) (room : ℕ) → Told (checkContents v room)
-unfolding checkContents checkSizes checkRates checkLists checkCurve
+unfolding checkContents checkSizes checkEdition checkRates checkLists checkCurve
 told-contents v room =
     by-then _ _
     (by-then _ _
@@ -57,7 +70,9 @@ told-contents v room =
     (by-test _ 22 0 (omega arith) _ (by-most 11 _ _ (omega arith)))))))
     (by-then _ _
     (by-then _ _
-    (by-then _ _ (by-need _ 4 0 (omega arith)) (by-most 6 _ _ (omega arith)))
+    (by-then _ _
+    (by-then _ _ (by-test _ 4 0 (omega arith) _ (by-need _ 2 0 (omega arith))) (by-percents _ _ _))
+    (by-most 6 _ _ (omega arith)))
     (by-all _ _ 0 (λ j. by-need _ 7 0 (omega arith))))
     (by-most 8 _ _ (omega arith))))
     (by-then _ _

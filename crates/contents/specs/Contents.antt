@@ -6,7 +6,7 @@ use Rattle.book.specs.Layout.{lastClass}
 use Rattle.contents.specs.declared.Values.{Values}
 
 pub record Contents : Type 0 where
-  -- SST year, cost rates, curve, mortality, and the first class of each chain
+  -- edition, mortality percentages of men and women, SST year, cost rates, curve, mortality, first class of each chain
   pub values : Values
   -- Count, lapse, premium, claims: each holds the lists of the chains end to end, in head order, a list by rising
   -- class.

@@ -6,10 +6,11 @@ use mathlib.Core.List.{List}
 use lib.Dec.{leb, eqb}
 use lib.IntN.{ℤ, pos, negsuc}
 use lib.ListN.{length, getD}
-use Rattle.field.specs.Verdicts.{need, _andThen_, joinAll}
+use Rattle.field.specs.Verdicts.{pick, need, _andThen_, joinAll}
 use Rattle.field.specs.Fields.{within}
 use Rattle.field.specs.declared.Verdict.{Verdict}
-use Rattle.book.specs.Layout.{firstYear, lastYear, chains, mostRate, curveLift, curveSpan, mostCount, mostAmount}
+use Rattle.book.specs.Layout.{firstYear, lastYear, mostPercent, chains, mostRate, curveLift, curveSpan, mostCount}
+use Rattle.book.specs.Layout.{mostAmount}
 use Rattle.contents.specs.declared.Values.{Values}
 use Rattle.contents.specs.Contents.{Contents, noClass, before}
 use Rattle.contents.specs.Written.{bookSize}
@@ -40,10 +41,24 @@ checkSizes v room =
     checkSize (v .values .first) (v .claims) andThen
     need (leb (bookSize (v .values .first)) room) 22 0
 
--- 4 the year, 6 the cost rates, 7 the curve, 8 mortality
+-- the percentages: in edition 2 both are in their range, else 23; in edition 1 both are 0, else 4
+unfoldable pub checkPercents : ℕ → ℕ → ℕ → Verdict
+checkPercents edition men women =
+    pick (eqb edition 2)
+    (need (within 1 mostPercent men) 23 0 andThen need (within 1 mostPercent women) 23 0)
+    (need (eqb men 0) 4 0 andThen need (eqb women 0) 4 0)
+
+-- 2 neither edition, 4 the year, 4 or 23 the percentages
+unfoldable pub checkEdition : ℕ → ℕ → ℕ → ℕ → Verdict
+checkEdition edition men women year =
+    need (within 1 2 edition) 2 0 andThen
+    need (within firstYear lastYear year) 4 0 andThen
+    checkPercents edition men women
+
+-- 2, 4 and 23 as above, 6 the cost rates, 7 the curve, 8 mortality
 unfoldable pub checkRates : Values → Verdict
 checkRates h =
-    need (within firstYear lastYear (h .year)) 4 0 andThen
+    checkEdition (h .edition) (h .men) (h .women) (h .year) andThen
     checkMost 6 mostRate (h .cost) andThen
     checkCurve (h .curve) andThen
     checkMost 8 mostRate (h .mortality)
@@ -71,6 +86,15 @@ pub record Fit (v : Contents) : Type 0 where
   pub lapses-size : length (v .lapses) ≡ before (v .values .first) chains
   pub premiums-size : length (v .premiums) ≡ before (v .values .first) chains
   pub claims-size : length (v .claims) ≡ before (v .values .first) chains
+  pub edition-low : 1 ≤ v .values .edition
+  pub edition-high : v .values .edition ≤ 2
+  -- the percentages: none in edition 1, in edition 2 each in its range
+  pub no-men : v .values .edition ≡ 1 → v .values .men ≡ 0
+  pub no-women : v .values .edition ≡ 1 → v .values .women ≡ 0
+  pub men-low : v .values .edition ≡ 2 → 1 ≤ v .values .men
+  pub men-high : v .values .edition ≡ 2 → v .values .men ≤ mostPercent
+  pub women-low : v .values .edition ≡ 2 → 1 ≤ v .values .women
+  pub women-high : v .values .edition ≡ 2 → v .values .women ≤ mostPercent
   pub year-low : firstYear ≤ v .values .year
   pub year-high : v .values .year ≤ lastYear
   pub cost : (j : ℕ) → getD (v .values .cost) j 0 ≤ mostRate

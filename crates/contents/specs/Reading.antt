@@ -9,8 +9,8 @@ use Rattle.field.specs.Bytes.{byteAt, readU32}
 use Rattle.field.specs.Verdicts.{pick, need, _andThen_, countOf}
 use Rattle.field.specs.declared.Verdict.{Verdict}
 use Rattle.field.specs.declared.Verdict.the-variants.{Accepted}
-use Rattle.book.specs.Layout.{sstYear, records, chains, headOf, classOf, nextOf, fieldOf, linkAt, costPlace, curvePlace}
-use Rattle.book.specs.Layout.{mortalityPlace, countOffset, lapseOffset, premiumOffset, claimsOffset}
+use Rattle.book.specs.Layout.{edition, percentAt, sstYear, records, chains, headOf, classOf, nextOf, fieldOf, linkAt}
+use Rattle.book.specs.Layout.{costPlace, curvePlace, mortalityPlace, countOffset, lapseOffset, premiumOffset, claimsOffset}
 use Rattle.book.specs.Check.{checkBook}
 use Rattle.text.specs.Text.{joined}
 use Rattle.contents.specs.declared.Values.{Values}
@@ -32,10 +32,13 @@ firstIn b k = pick (eqb (headOf b k) 0) noClass (classOf b (headOf b k))
 unfoldable pub firstsOf : List ℕ → List ℕ
 firstsOf b = each (firstIn b) chains
 
--- the values: SST year, cost rates, curve, mortality, first classes
+-- the values: edition, mortality percentages (zero bytes in edition 1), SST year, cost rates, curve, mortality, first classes
 unfoldable pub valuesOf : List ℕ → Values
 valuesOf b =
     record {
+      edition = edition b;
+      men = percentAt b 0;
+      women = percentAt b 1;
       year = sstYear b;
       cost = each (λ (j : ℕ). readU32 b (costPlace + 4 * j)) 5;
       curve = each (λ (j : ℕ). signedOf (readU32 b (curvePlace + 4 * j))) 49;
@@ -77,6 +80,9 @@ Sound b = checkBook 1 b ≡ Accepted (countOf (checkBook 1 b))
 abbrev pub noValues : Values
 noValues =
     record {
+      edition = 0;
+      men = 0;
+      women = 0;
       year = 0;
       cost = replicate 5 0;
       curve = replicate 49 (pos 0);

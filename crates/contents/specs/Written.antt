@@ -41,9 +41,10 @@ headFor first k = pick (eqb (sizeOf first k) 0) 0 (numberOf first k 0)
 unfoldable pub nextFor : List ℕ → ℕ → ℕ → ℕ
 nextFor first k j = pick (eqb (j + 1) (sizeOf first k)) 0 (numberOf first k (j + 1))
 
--- bytes 0 to 7: edition 1, age basis 1, SST year, N, two spare bytes
+-- bytes 0 to 7: edition, age basis 1, SST year, N, mortality percentages of men and women
 unfoldable pub frontBytes : Values → List ℕ
-frontBytes h = 1 ∷ 1 ∷ [] ++ twoBytes (h .year) ++ twoBytes (before (h .first) chains) ++ twoBytes 0
+frontBytes h =
+    h .edition ∷ 1 ∷ [] ++ twoBytes (h .year) ++ twoBytes (before (h .first) chains) ++ h .men ∷ h .women ∷ []
 
 -- bytes 8 to 35: the heads
 unfoldable pub headBytes : List ℕ → List ℕ

@@ -11,7 +11,8 @@ use lib.Dec.{eqb}
 use Rattle.field.specs.Bytes.{readU32}
 use Rattle.field.specs.declared.Verdict.the-variants.{Accepted}
 use Rattle.field.proofs.Same.{Same, u16-same, u32-same}
-use Rattle.book.specs.Layout.{headerSize, recordSize, lastClass, chains, records, headPlace, headOf, costPlace}
+use Rattle.book.specs.Layout.{headerSize, recordSize, lastClass, edition, percentPlace, percentAt, chains, records}
+use Rattle.book.specs.Layout.{headPlace, headOf, costPlace}
 use Rattle.book.specs.Layout.{curvePlace, mortalityPlace, recordAt, classOf, nextOf, fieldOf, countOffset}
 use Rattle.book.specs.Layout.{lapseOffset, premiumOffset, claimsOffset, linkFrom, linkAt}
 use Rattle.book.specs.Cells.{holds, heldFrom, heldIn, sumOf, heldInAll}
@@ -32,6 +33,12 @@ module _ (b c : List ℕ) (t : ConversionRules b c) where
 
   rest-kept : (i : ℕ) → Same c b (recordAt i + 3) (recordAt i + recordSize)
   rest-kept i p lo hi = t .copied p (λ z. absurd (omega arith)) (λ k j few some e. absurd (omega arith))
+
+  edition-kept : edition c ≡ edition b
+  edition-kept = t .copied 0 (λ z. absurd (omega arith)) (λ k j few some e. absurd (omega arith))
+
+  percent-kept : (sex : ℕ) → sex ≤ 1 → percentAt c sex ≡ percentAt b sex
+  percent-kept sex h = front-kept (percentPlace sex) (omega arith) (omega arith)
 
   records-kept : records c ≡ records b
   unfolding records
@@ -66,13 +73,15 @@ module _ (b c : List ℕ) (t : ConversionRules b c) where
         let h = r .header in
         let year = u16-same c b _ _ front-kept 2 (omega arith) (omega arith) in
         record {
-          edition-one =
-              t .copied 0 (λ z. absurd (omega arith)) (λ k j few some e. absurd (omega arith)) ∙ h .edition-one;
+          edition-low = rw edition-kept (h .edition-low);
+          edition-high = rw edition-kept (h .edition-high);
           basis-is = t .basis-is;
           year-low = rw year (h .year-low);
           year-high = rw year (h .year-high);
           few = rw records-kept (h .few);
-          spare = u16-same c b _ _ front-kept 6 (omega arith) (omega arith) ∙ h .spare;
+          spare = λ one. u16-same c b _ _ front-kept 6 (omega arith) (omega arith) ∙ h .spare (sym edition-kept ∙ one);
+          percent-low = λ two sex g. rw (percent-kept sex g) (h .percent-low (sym edition-kept ∙ two) sex g);
+          percent-high = λ two sex g. rw (percent-kept sex g) (h .percent-high (sym edition-kept ∙ two) sex g);
           size = t .size ∙ rw records-kept (h .size);
         }
 

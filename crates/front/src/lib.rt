@@ -1,10 +1,10 @@
-// What stands before a book's records: refusals 2 to 8, of the header and of the tables.
+// What stands before a book's records: refusals 2 to 8 and 23, of the header and of the tables.
 // The functions ask for the bytes that they read: they are for the check, which has shown that they are there.
 ghost use mathlib.Core.Path.{_≡_};
 ghost use Prim.Native.Nat.{_≤_};
 ghost use lib.ListN.{length};
 ghost use Rattle.book.specs.Layout.{headerSize};
-ghost use Rattle.book.specs.Check.{checkSpare, checkHeader, checkTables};
+ghost use Rattle.book.specs.Check.{checkSpare, checkPercents, checkByEdition, checkHeader, checkTables};
 use book::COST_PLACE;
 use book::CURVE_LIFT;
 use book::CURVE_PLACE;
@@ -13,12 +13,14 @@ use book::FIRST_YEAR;
 use book::HEADER_SIZE;
 use book::LAST_YEAR;
 use book::MORTALITY_PLACE;
+use book::MOST_PERCENT;
 use book::MOST_RATE;
 use book::MOST_RECORDS;
+use book::PERCENT_PLACE;
 use book::RECORD_SIZE;
 use field::Verdict;
 
-// Refusal 4, of bytes 6 and 7.
+// Refusal 4, of the spare bytes of edition 1.
 fn check_spare(b: &[u8]) -> Verdict
     requires { ⌜ headerSize ≤ length (now b) ⌝ }
     ensures { λ r. ⌜ r ≡ checkSpare (now (b .entry)) ⌝ }
@@ -26,20 +28,42 @@ fn check_spare(b: &[u8]) -> Verdict
     field::need(field::read_u16(b, 6) == 0, 4, 6)
 }
 
-// Refusals 2 to 5.
+// Refusal 23, of the percentages of edition 2.
+fn check_percents(b: &[u8]) -> Verdict
+    requires { ⌜ headerSize ≤ length (now b) ⌝ }
+    ensures { λ r. ⌜ r ≡ checkPercents (now (b .entry)) ⌝ }
+{
+    let men = field::within(1, MOST_PERCENT, book::percent_at(b, 0));
+    let women = field::within(1, MOST_PERCENT, book::percent_at(b, 1));
+    field::need(men, 23, PERCENT_PLACE).require(women, 23, PERCENT_PLACE + 1)
+}
+
+// Refusal 4 or 23, of bytes 6 and 7 as the edition has them.
+fn check_by_edition(b: &[u8]) -> Verdict
+    requires { ⌜ headerSize ≤ length (now b) ⌝ }
+    ensures { λ r. ⌜ r ≡ checkByEdition (now (b .entry)) ⌝ }
+{
+    if book::edition(b) == 2 {
+        check_percents(b)
+    } else {
+        check_spare(b)
+    }
+}
+
+// Refusals 2 to 5, and 23.
 pub fn check_header(b: &[u8], basis: usize) -> Verdict
     requires { ⌜ headerSize ≤ length (now b) ⌝ }
     ensures { λ r. ⌜ r ≡ checkHeader basis (now (b .entry)) ⌝ }
 {
-    let edition = field::read_u8(b, 0);
+    let edition = book::edition(b);
     let age_basis = field::read_u8(b, 1);
     let year = field::read_u16(b, 2);
     let count = book::records(b);
-    field::need(edition == 1, 2, 0)
+    field::need(field::within(1, 2, edition), 2, 0)
         .require(age_basis == basis, 3, 1)
         .require(field::within(FIRST_YEAR, LAST_YEAR, year), 4, 2)
         .require(count <= MOST_RECORDS, 4, 4)
-        .and_then(check_spare(b))
+        .and_then(check_by_edition(b))
         .require(b.len() == HEADER_SIZE + RECORD_SIZE * count, 5, b.len())
 }
 

@@ -19,15 +19,17 @@ use numbers::put_two;
 use text::put_byte;
 
 // What stands before the heads, with N, the number of records.
-fn put_front(out: &mut [u8], year: u64, n: usize) -> usize
-    ensures { λ r. ⌜ Wrote (now (out .entry)) 0 (1 ∷ 1 ∷ [] ++ twoBytes year ++ twoBytes n ++ twoBytes 0)
-        (now (out .exit)) r × (r ≡ 8) ⌝ }
+fn put_front(out: &mut [u8], edition: u64, men: u64, women: u64, year: u64, n: usize) -> usize
+    requires { ⌜ (edition < 256) × (men < 256) × (women < 256) ⌝ }
+    ensures { λ r. ⌜ Wrote (now (out .entry)) 0
+        (edition ∷ 1 ∷ [] ++ twoBytes year ++ twoBytes n ++ men ∷ women ∷ []) (now (out .exit)) r × (r ≡ 8) ⌝ }
 {
-    let basis_at = put_byte(out, 0, 1);
+    let basis_at = put_byte(out, 0, edition as u8);
     let year_at = put_byte(out, basis_at, 1);
     let records_at = put_two(out, year_at, year);
-    let spare_at = put_two(out, records_at, n as u64);
-    put_two(out, spare_at, 0)
+    let men_at = put_two(out, records_at, n as u64);
+    let women_at = put_byte(out, men_at, men as u8);
+    put_byte(out, women_at, women as u8)
 }
 
 // The head of chain k, with so many records before its own.
@@ -57,7 +59,8 @@ fn put_heads(out: &mut [u8], at: usize, first: &[u64; 14]) -> usize
 
 // What stands before the records.
 pub fn put_header(out: &mut [u8], values: Values) -> usize
-    requires { ⌜ ((j : ℕ) → curveRate (getD (values .curve) j (pos 0)) ≡ true) ⌝ }
+    requires { ⌜ (values .edition < 256) × (values .men < 256) × (values .women < 256)
+        × ((j : ℕ) → curveRate (getD (values .curve) j (pos 0)) ≡ true) ⌝ }
     ensures { λ r. ⌜ Wrote (now (out .entry)) 0 (headerBytes values) (now (out .exit)) r × (r ≡ 1220) ⌝ }
 {
     let first = values.first;
@@ -65,7 +68,14 @@ pub fn put_header(out: &mut [u8], values: Values) -> usize
     let curve = values.curve;
     let mortality = values.mortality;
     let n = total(&first);
-    let heads_at = put_front(out, values.year, n);
+    let heads_at = put_front(
+        out,
+        values.edition,
+        values.men,
+        values.women,
+        values.year,
+        n,
+    );
     let cost_at = put_heads(out, heads_at, &first);
     let curve_at = put_fields(out, cost_at, &cost);
     let mortality_at = put_curve(out, curve_at, &curve);

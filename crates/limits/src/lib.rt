@@ -3,14 +3,15 @@
 ghost use mathlib.Core.Path.{_≡_};
 ghost use Prim.Native.Nat.{_≤_, _<_};
 ghost use Rattle.contents.specs.Contents.{given, sizeOf, before};
-ghost use Rattle.contents.specs.Limits.{checkMost, curveRate, checkCurve, checkSizes, checkRates, checkLists};
-ghost use Rattle.contents.specs.Limits.{checkContents};
+ghost use Rattle.contents.specs.Limits.{checkMost, curveRate, checkCurve, checkSizes, checkPercents, checkEdition};
+ghost use Rattle.contents.specs.Limits.{checkRates, checkLists, checkContents};
 use book::CHAINS;
 use book::FIRST_YEAR;
 use book::HEADER_SIZE;
 use book::LAST_YEAR;
 use book::MOST_AMOUNT;
 use book::MOST_COUNT;
+use book::MOST_PERCENT;
 use book::MOST_RATE;
 use book::RECORD_SIZE;
 use contents::Values;
@@ -110,22 +111,40 @@ fn check_sizes(
     v.require(HEADER_SIZE + RECORD_SIZE * n <= room, 22, 0)
 }
 
-// Refusals 4, 6, 7 and 8.
+// Refusal 23 of edition 2, 4 of edition 1.
+fn check_percents(edition: u64, men: u64, women: u64) -> Verdict
+    ensures { λ r. ⌜ r ≡ checkPercents edition men women ⌝ }
+{
+    if edition == 2 {
+        let of_men = field::within(1, MOST_PERCENT, men as usize);
+        let of_women = field::within(1, MOST_PERCENT, women as usize);
+        return need(of_men, 23, 0).require(of_women, 23, 0);
+    }
+    need(men == 0, 4, 0).require(women == 0, 4, 0)
+}
+
+// Refusals 2, 4 and 23.
+fn check_edition(edition: u64, men: u64, women: u64, year: u64) -> Verdict
+    ensures { λ r. ⌜ r ≡ checkEdition edition men women year ⌝ }
+{
+    let known = field::within(1, 2, edition as usize);
+    let in_range = field::within(FIRST_YEAR, LAST_YEAR, year as usize);
+    let percents = check_percents(edition, men, women);
+    need(known, 2, 0).require(in_range, 4, 0).and_then(percents)
+}
+
+// Refusals 2, 4, 23, 6, 7 and 8.
 fn check_rates(values: Values) -> Verdict
     ensures { λ r. ⌜ r ≡ checkRates values ⌝ }
 {
     let cost = values.cost;
     let curve = values.curve;
     let mortality = values.mortality;
-    let year = need(
-        field::within(FIRST_YEAR, LAST_YEAR, values.year as usize),
-        4,
-        0,
-    );
+    let edition = check_edition(values.edition, values.men, values.women, values.year);
     let costs = check_most(&cost, MOST_RATE, 6);
     let rates = check_curve(&curve);
     let deaths = check_most(&mortality, MOST_RATE, 8);
-    year.and_then(costs).and_then(rates).and_then(deaths)
+    edition.and_then(costs).and_then(rates).and_then(deaths)
 }
 
 // Refusal 12.

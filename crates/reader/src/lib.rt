@@ -79,6 +79,9 @@ fn refused(number: u64, place: usize) -> ReadReply
     ensures { λ r. ⌜ r ≡ readFor (Refused number place) noValues ⌝ }
 {
     let values = Values {
+        edition: 0,
+        men: 0,
+        women: 0,
         year: 0,
         cost: [0; 5],
         curve: [0; 49],

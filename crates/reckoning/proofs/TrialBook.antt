@@ -11,7 +11,7 @@ use lib.Dec.{eqb, lit≤}
 use lib.ListN.{replicate}
 use Rattle.field.specs.Bytes.{readU16, readU32}
 use Rattle.field.specs.Verdicts.{pick}
-use Rattle.book.specs.Layout.{classOf, nextOf, fieldOf, lapseOffset}
+use Rattle.book.specs.Layout.{edition, classOf, nextOf, fieldOf, lapseOffset}
 use Rattle.reckoning.specs.Portfolio.{mortalityOf, onward, rowAt}
 use Rattle.reckoning.specs.Trials.{OneMan}
 
@@ -62,6 +62,10 @@ module _ (b : List ℕ) (third : rowAt b 1 2 ≡ 3) (last : onward b 3 ≡ 3) wh
   lapses lapse l₁ l₂ l₃ zero = l₁
   lapses lapse l₁ l₂ l₃ (suc zero) = l₂
   lapses lapse l₁ l₂ l₃ (suc (suc k)) = rw (rows k) l₃
+
+pub deadly-edition : edition deadly ≡ 1
+unfolding deadly trialBook
+deadly-edition = refl
 
 pub deadly-man : OneMan deadly 1 1_000_000 0
 unfolding deadly trialBook manAt times each readU16 readU32 classOf nextOf fieldOf mortalityOf rowAt

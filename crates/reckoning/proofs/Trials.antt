@@ -1,17 +1,18 @@
 -- The trial figures T1 to T12 hold, all together. Assumes nothing.
-use mathlib.Core.Path.{_≡_, refl}
+use mathlib.Core.Path.{_≡_, refl, _∙_}
 use mathlib.Core.List.{List}
 use Prim.Native.Nat.{ℕ, zero, suc, _*_, _/_, _<_}
+use native.Mathlib.Nat.{zero-mul}
 use native.Mathlib.Omega.{arith}
 use borrow.Author.Tests.{lt-ltb}
 use Rattle.book.specs.Layout.{lastClass, classOf}
 use Rattle.book.proofs.Trials.{t11, t12}
-use Rattle.settings.specs.Settings.{weightOf, mortalityWeight, decrementsOf}
+use Rattle.settings.specs.Settings.{weightOf, percentOf, mortalityWeight, decrementsOf}
 use Rattle.settings.specs.declared.Decrements.{Decrements}
 use Rattle.reckoning.specs.Arithmetic.{rounded}
 use Rattle.reckoning.specs.Steps.{inForce, cappedIf, capped, discounted}
 use Rattle.reckoning.specs.Portfolio.{divisorOf, oneLess, rowAt, cellOf}
-use Rattle.reckoning.specs.Trials.{OneMan, Trials}
+use Rattle.reckoning.specs.Trials.{OneMan, inForceAfter, Trials}
 
 module _ (b : List ℕ) (i mortality lapse : ℕ) (o : OneMan b i mortality lapse) (w : Decrements) where
   -- in the first two years the man is below the last class
@@ -41,7 +42,7 @@ module _ (b : List ℕ) (i mortality lapse : ℕ) (o : OneMan b i mortality laps
   first = year 0 1_000_000_000 (omega arith) (rw (o .one))
 
 pub trials : Trials
-unfolding discounted divisorOf capped cappedIf oneLess weightOf mortalityWeight decrementsOf
+unfolding discounted divisorOf capped cappedIf oneLess weightOf percentOf mortalityWeight decrementsOf
 trials = record {
   t1 = λ b rate. rw rate;
   t2 = λ b rate. rw rate;
@@ -49,10 +50,13 @@ trials = record {
   t4 = refl;
   t5 = refl;
   t6 = λ premium. omega arith;
-  t7 = λ b i o. first b i _ _ o (decrementsOf b 0);
-  t8 = λ b i o. first b i _ _ o (decrementsOf b 1);
-  t9 = λ b i o. first b i _ _ o (decrementsOf b 2);
-  t10 = λ b i o. let w = decrementsOf b 0 in (first b i _ _ o w, year b i _ _ o w 1 666_667_000 (omega arith) (first b i _ _ o w));
+  t7 = λ b i one o. first b i _ _ o (decrementsOf b 0) ∙ rw one;
+  t8 = λ b i one o. first b i _ _ o (decrementsOf b 1) ∙ rw one;
+  t9 = λ b i one o. first b i _ _ o (decrementsOf b 2) ∙ rw one;
+  t10 = λ b i o.
+      let w = decrementsOf b 0 in
+      let one : inForceAfter b 0 i 1 ≡ 666_667_000 = first b i _ _ o w ∙ rw zero-mul in
+      (one, year b i _ _ o w 1 666_667_000 (omega arith) one ∙ rw zero-mul);
   t11 = t11;
   t12 = t12;
 }

@@ -24,7 +24,7 @@ use Rattle.book.proofs.Same.{SameRecord, sex-same, class-same, next-same, field
 use Rattle.book.proofs.Valid.{valid}
 use Rattle.book.proofs.Exact.{accepted-held}
 use Rattle.book.proofs.Unlinked.{unlinked-same}
-use Rattle.settings.specs.Settings.{mortalityWeight, decrementsOf, lapseIn}
+use Rattle.settings.specs.Settings.{percentOf, mortalityWeight, decrementsOf, lapseIn}
 use Rattle.settings.specs.declared.Decrements.{Decrements}
 use Rattle.reckoning.specs.Arithmetic.{rounded}
 use Rattle.reckoning.specs.Steps.{Cell, Terms, held, outgo, countedPremium, discountedOutgo, discountedPremium, sumYears, totalOutgo, totalPremium, liability}
@@ -140,8 +140,13 @@ module _ (b b′ : List ℕ) (s : SameButUnlinked b b′) where
   }
 
   decrements-same : (setting : ℕ) → decrementsOf b setting ≡ decrementsOf b′ setting
-  unfolding decrementsOf mortalityWeight
-  decrements-same setting = refl
+  unfolding decrementsOf mortalityWeight percentOf
+  decrements-same setting =
+      rw (
+        front-same b b′ s 0 (omega arith) (omega arith),
+        front-same b b′ s 6 (omega arith) (omega arith),
+        front-same b b′ s 7 (omega arith) (omega arith),
+      )
 
   module _ (w : Decrements) where
     cell-same : (k i : ℕ) → Kept b b′ k i → cellOf b w i ≡ cellOf b′ w i

@@ -5,7 +5,7 @@ use Prim.Native.Nat.{ℕ, _+_, _<_, _≤_}
 use lib.ListN.{length, replicate}
 use Rattle.field.specs.declared.Verdict.the-variants.{Refused}
 use Rattle.field.specs.Bytes.{readU32}
-use Rattle.book.specs.Layout.{curvePlace, lastClass, sexOf, classOf, nextOf, fieldOf, countOffset, lapseOffset}
+use Rattle.book.specs.Layout.{edition, curvePlace, lastClass, sexOf, classOf, nextOf, fieldOf, countOffset, lapseOffset}
 use Rattle.book.specs.Check.{checkBook}
 use Rattle.settings.specs.Settings.{decrementsOf}
 use Rattle.reckoning.specs.Arithmetic.{rounded}
@@ -33,9 +33,11 @@ pub record Trials : Type 0 where
   pub t4 : capped rounded 4 1001 900 ≡ 1001
   pub t5 : capped rounded 5 1000 899 ≡ 998
   pub t6 : (premium : ℕ) → capped rounded 5 premium 0 ≡ 0
-  pub t7 : (b : List ℕ) (i : ℕ) → OneMan b i 1_000_000 0 → inForceAfter b 0 i 1 ≡ 130_000_000
-  pub t8 : (b : List ℕ) (i : ℕ) → OneMan b i 1_000_000 0 → inForceAfter b 1 i 1 ≡ 0
-  pub t9 : (b : List ℕ) (i : ℕ) → OneMan b i 1_000_000 0 → inForceAfter b 2 i 1 ≡ 304_000_000
+  -- with edition 1's 87 percent for men
+  pub t7 : (b : List ℕ) (i : ℕ) → edition b ≡ 1 → OneMan b i 1_000_000 0 → inForceAfter b 0 i 1 ≡ 130_000_000
+  pub t8 : (b : List ℕ) (i : ℕ) → edition b ≡ 1 → OneMan b i 1_000_000 0 → inForceAfter b 1 i 1 ≡ 0
+  pub t9 : (b : List ℕ) (i : ℕ) → edition b ≡ 1 → OneMan b i 1_000_000 0 → inForceAfter b 2 i 1 ≡ 304_000_000
+  -- without deaths, in any edition
   pub t10 : (b : List ℕ) (i : ℕ) → OneMan b i 0 333_333 → (inForceAfter b 0 i 1 ≡ 666_667_000) × (inForceAfter b 0 i 2 ≡ 444_444_888)
   -- 1,220 zero bytes, and any 1,219 bytes
   pub t11 : checkBook 1 (replicate 1220 0) ≡ Refused 2 0

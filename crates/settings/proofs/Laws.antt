@@ -3,12 +3,12 @@
 use mathlib.Core.Path.{_≡_, refl}
 use mathlib.Core.Bool.{Bool, true, false}
 use mathlib.Core.List.{List}
-use Prim.Native.Nat.{ℕ, zero, suc, _≤_}
-use native.Mathlib.Nat.{mul-le-mul, div-le-of-le-mul}
+use Prim.Native.Nat.{ℕ, zero, suc, _*_, _≤_}
+use native.Mathlib.Nat.{le-refl, mul-le-mul, div-le-of-le-mul}
 use native.Mathlib.Omega.{arith}
 use lib.Dec.{ltb, eqb}
 use Rattle.field.specs.Verdicts.{pick}
-use Rattle.settings.specs.Settings.{baseWeight, shift, weightIn, weightOf, mortalityWeight}
+use Rattle.settings.specs.Settings.{baseWeight, shift, weightIn, weightOf, percentOf, mortalityWeight}
 use Rattle.settings.specs.Settings.{decrementsOf, outgoingsOf, mortalityIn, lapseIn, costsIn, claimsIn}
 
 pub pick-le : (t : Bool) {a b : ℕ} (m : ℕ) → a ≤ m → b ≤ m → pick t a b ≤ m
@@ -16,7 +16,7 @@ pick-le true m p q = p
 pick-le false m p q = q
 
 base-most : (kind : ℕ) → baseWeight kind ≤ 1000
-base-most kind = pick-le (eqb kind 0) 1000 (omega arith) (pick-le (eqb kind 1) 1000 (omega arith) (omega arith))
+base-most kind = pick-le (ltb kind 2) 1000 (omega arith) (omega arith)
 
 shift-most : (setting kind : ℕ) → shift setting kind ≤ 130
 shift-most setting kind =
@@ -50,11 +50,33 @@ claims-weight-most setting k =
     div-le-of-le-mul 100
     (mul-le-mul (base-most 4) (pick-le (ltb k 5) 105 (pick-le (eqb setting 7) 105 (omega arith) (omega arith)) (omega arith)))
 
+-- no weight of mortality is above 12 for each percent
+pub multiple-most : (setting sex k : ℕ) → sex ≤ 1 → weightOf setting sex k ≤ 12
+unfolding weightOf
+multiple-most setting sex k h = by-sex sex h
+  where
+    shifted : (down : ℕ) → down ≤ 120 → pick (ltb k 5) (pick (eqb setting 1) 120 (pick (eqb setting 2) down 100)) 100 ≤ 120
+    shifted down h =
+        pick-le (ltb k 5) 120
+        (pick-le (eqb setting 1) 120 (omega arith) (pick-le (eqb setting 2) 120 h (omega arith)))
+        (omega arith)
+
+    by-sex : (sex : ℕ) → sex ≤ 1 → weightIn (ltb k 5) setting sex ≤ 12
+    by-sex zero h = div-le-of-le-mul 100 (mul-le-mul (le-refl 10) (shifted _ (omega arith)))
+    by-sex (suc zero) h = div-le-of-le-mul 100 (mul-le-mul (le-refl 10) (shifted _ (omega arith)))
+    by-sex (suc (suc sex)) h = absurd (omega arith)
+
 -- the first five years are as year 0, the later ones as year 5
 weight-by : (setting kind : ℕ) (t : Bool) → pick t (weightOf setting kind 0) (weightOf setting kind 5) ≡ weightIn t setting kind
 unfolding weightOf
 weight-by setting kind true = refl
 weight-by setting kind false = refl
+
+percent-by : (percent setting kind : ℕ) (t : Bool)
+    → pick t (percent * weightOf setting kind 0) (percent * weightOf setting kind 5) ≡ percent * weightIn t setting kind
+unfolding weightOf
+percent-by percent setting kind true = refl
+percent-by percent setting kind false = refl
 
 -- so what is picked for the year k is the weight of the year k
 pub lapse-is : (b : List ℕ) (setting k : ℕ) → lapseIn (decrementsOf b setting) k ≡ weightOf setting 2 k
@@ -63,11 +85,11 @@ lapse-is b setting k = weight-by setting 2 (ltb k 5)
 
 pub men-is : (b : List ℕ) (setting k : ℕ) → mortalityIn (decrementsOf b setting) 0 k ≡ mortalityWeight b setting 0 k
 unfolding decrementsOf weightOf mortalityWeight
-men-is b setting k = weight-by setting 0 (ltb k 5)
+men-is b setting k = percent-by (percentOf b 0) setting 0 (ltb k 5)
 
 pub women-is : (b : List ℕ) (setting k : ℕ) → mortalityIn (decrementsOf b setting) 1 k ≡ mortalityWeight b setting 1 k
 unfolding decrementsOf weightOf mortalityWeight
-women-is b setting k = weight-by setting 1 (ltb k 5)
+women-is b setting k = percent-by (percentOf b 1) setting 1 (ltb k 5)
 
 pub mortality-is : (b : List ℕ) (setting sex k : ℕ) → sex ≤ 1 → mortalityIn (decrementsOf b setting) sex k ≡ mortalityWeight b setting sex k
 mortality-is b setting zero k h = men-is b setting k

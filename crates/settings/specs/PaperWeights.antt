@@ -1,7 +1,8 @@
 -- The paper's weights as figures, and in which years each holds: one proposition on the weights that the reckoning takes.
 use mathlib.Core.Path.{_≡_}
 use mathlib.Core.List.{List}
-use Prim.Native.Nat.{ℕ, _<_, _≤_}
+use Prim.Native.Nat.{ℕ, _*_, _<_, _≤_}
+use Rattle.book.specs.Layout.{edition, percentAt}
 use Rattle.settings.specs.Settings.{decrementsOf, outgoingsOf, mortalityIn, lapseIn, costsIn, claimsIn}
 
 -- the weights of one year, in thousandths
@@ -22,48 +23,62 @@ weightsAt b setting k = record {
   claims = claimsIn (outgoingsOf setting) k;
 }
 
--- the base (FINMA 4.4.3)
-abbrev pub base : YearWeights
-base = record { men = 870; women = 860; lapse = 1000; costs = 1000; claims = 1000 }
+-- the weights of mortality: in the base, and where setting 1 or 2 shifts them
+pub record MortalityWeights : Type 0 where
+  pub men : ℕ
+  pub women : ℕ
+  pub men-up : ℕ
+  pub women-up : ℕ
+  pub men-down : ℕ
+  pub women-down : ℕ
 
--- settings 1 to 7 (FINMA 5.2.2)
-abbrev pub mortalityUp : YearWeights
-mortalityUp = record { men = 1044; women = 1032; lapse = 1000; costs = 1000; claims = 1000 }
+-- edition 1: 87 and 86 percent (FINMA 4.4.3), shifted by a fifth (FINMA 5.2.2)
+abbrev pub mortalityOne : MortalityWeights
+mortalityOne = record { men = 870; women = 860; men-up = 1044; women-up = 1032; men-down = 696; women-down = 688 }
 
-abbrev pub mortalityDown : YearWeights
-mortalityDown = record { men = 696; women = 688; lapse = 1000; costs = 1000; claims = 1000 }
+-- edition 2: ten, twelve and eight times the percentages that the book carries
+abbrev pub mortalityTwo : ℕ → ℕ → MortalityWeights
+mortalityTwo men women = record {
+  men = men * 10;
+  women = women * 10;
+  men-up = men * 12;
+  women-up = women * 12;
+  men-down = men * 8;
+  women-down = women * 8;
+}
 
-abbrev pub lapseUp : YearWeights
-lapseUp = record { men = 870; women = 860; lapse = 1300; costs = 1000; claims = 1000 }
+-- a year whose mortality is not shifted: its weights of lapse, costs and claims
+abbrev pub unshifted : MortalityWeights → ℕ → ℕ → ℕ → YearWeights
+unshifted m lapse costs claims =
+    record { men = m .men; women = m .women; lapse = lapse; costs = costs; claims = claims }
 
-abbrev pub lapseDown : YearWeights
-lapseDown = record { men = 870; women = 860; lapse = 700; costs = 1000; claims = 1000 }
+abbrev pub mortalityUp : MortalityWeights → YearWeights
+mortalityUp m = record { men = m .men-up; women = m .women-up; lapse = 1000; costs = 1000; claims = 1000 }
 
-abbrev pub costsUp : YearWeights
-costsUp = record { men = 870; women = 860; lapse = 1000; costs = 1200; claims = 1000 }
-
-abbrev pub costsDown : YearWeights
-costsDown = record { men = 870; women = 860; lapse = 1000; costs = 800; claims = 1000 }
-
-abbrev pub claimsUp : YearWeights
-claimsUp = record { men = 870; women = 860; lapse = 1000; costs = 1000; claims = 1050 }
+abbrev pub mortalityDown : MortalityWeights → YearWeights
+mortalityDown m = record { men = m .men-down; women = m .women-down; lapse = 1000; costs = 1000; claims = 1000 }
 
 -- a setting has these weights in all years
 abbrev pub Always : List ℕ → ℕ → YearWeights → Type 0
 Always b setting w = (k : ℕ) → weightsAt b setting k ≡ w
 
 -- these for k = 0 to 4, and from k = 5 on those of the base
-pub record FiveYears (b : List ℕ) (setting : ℕ) (w : YearWeights) : Type 0 where
+pub record FiveYears (b : List ℕ) (m : MortalityWeights) (setting : ℕ) (w : YearWeights) : Type 0 where
   pub first : (k : ℕ) → k < 5 → weightsAt b setting k ≡ w
-  pub later : (k : ℕ) → 5 ≤ k → weightsAt b setting k ≡ base
+  pub later : (k : ℕ) → 5 ≤ k → weightsAt b setting k ≡ unshifted m 1000 1000 1000
 
--- of every book
+-- the eight settings of a book with these weights of mortality (FINMA 5.2.2)
+pub record SettingWeights (b : List ℕ) (m : MortalityWeights) : Type 0 where
+  pub setting-0 : Always b 0 (unshifted m 1000 1000 1000)
+  pub setting-1 : FiveYears b m 1 (mortalityUp m)
+  pub setting-2 : FiveYears b m 2 (mortalityDown m)
+  pub setting-3 : Always b 3 (unshifted m 1300 1000 1000)
+  pub setting-4 : Always b 4 (unshifted m 700 1000 1000)
+  pub setting-5 : FiveYears b m 5 (unshifted m 1000 1200 1000)
+  pub setting-6 : FiveYears b m 6 (unshifted m 1000 800 1000)
+  pub setting-7 : FiveYears b m 7 (unshifted m 1000 1000 1050)
+
+-- of every book, by its edition
 pub record PaperWeights (b : List ℕ) : Type 0 where
-  pub setting-0 : Always b 0 base
-  pub setting-1 : FiveYears b 1 mortalityUp
-  pub setting-2 : FiveYears b 2 mortalityDown
-  pub setting-3 : Always b 3 lapseUp
-  pub setting-4 : Always b 4 lapseDown
-  pub setting-5 : FiveYears b 5 costsUp
-  pub setting-6 : FiveYears b 6 costsDown
-  pub setting-7 : FiveYears b 7 claimsUp
+  pub edition-1 : edition b ≡ 1 → SettingWeights b mortalityOne
+  pub edition-2 : edition b ≡ 2 → SettingWeights b (mortalityTwo (percentAt b 0) (percentAt b 1))

@@ -1,18 +1,19 @@
 -- The weights of the eight settings, in thousandths (paper, section Settings). Assumes nothing.
--- Kinds: 0 mortality of men, 1 mortality of women, 2 lapse, 3 costs, 4 claims.
+-- Kinds: 0 mortality of men, 1 mortality of women, 2 lapse, 3 costs, 4 claims. A weight of mortality is so much for each percent of it.
 use mathlib.Core.Bool.{Bool}
 use mathlib.Core.List.{List}
 use Prim.Native.Nat.{ℕ, _*_, _/_, _≤_}
 use lib.Dec.{ltb, eqb}
 use Rattle.field.specs.Verdicts.{pick}
+use Rattle.book.specs.Layout.{edition, percentAt}
 use Rattle.settings.specs.declared.DecrementWeights.{DecrementWeights}
 use Rattle.settings.specs.declared.Decrements.{Decrements}
 use Rattle.settings.specs.declared.OutgoWeights.{OutgoWeights}
 use Rattle.settings.specs.declared.Outgoings.{Outgoings}
 
--- the base, setting 0 (FINMA 4.4.3)
+-- the base, setting 0: for mortality ten for each percent
 abbrev pub baseWeight : ℕ → ℕ
-baseWeight kind = pick (eqb kind 0) 870 (pick (eqb kind 1) 860 1000)
+baseWeight kind = pick (ltb kind 2) 10 1000
 
 -- what a setting makes of the base weight of a kind, in percent (FINMA 5.2.2)
 abbrev pub shift : ℕ → ℕ → ℕ
@@ -34,9 +35,13 @@ weightIn early setting kind = baseWeight kind * shiftIn early setting kind / 100
 unfoldable pub weightOf : ℕ → ℕ → ℕ → ℕ
 weightOf setting kind k = weightIn (ltb k 5) setting kind
 
--- the weight of the mortality of a sex, 0 men, 1 women, in the year k; the same for every book
+-- the mortality percentage of a sex, 0 men, 1 women: 87 and 86 (FINMA 4.4.3), unless the book is of edition 2 and carries its own
+unfoldable pub percentOf : List ℕ → ℕ → ℕ
+percentOf b sex = pick (eqb (edition b) 2) (percentAt b sex) (pick (eqb sex 0) 87 86)
+
+-- the weight of the mortality of a sex in the year k: ten times its percentage, twelve or eight times where a setting shifts it
 unfoldable pub mortalityWeight : List ℕ → ℕ → ℕ → ℕ → ℕ
-mortalityWeight b setting sex k = weightOf setting sex k
+mortalityWeight b setting sex k = percentOf b sex * weightOf setting sex k
 
 -- the weights of mortality and lapse in the year k
 abbrev pub decrementsAt : List ℕ → ℕ → ℕ → DecrementWeights
@@ -55,7 +60,7 @@ outgoAt setting k = record { costs = weightOf setting 3 k; claims = weightOf set
 unfoldable pub outgoingsOf : ℕ → Outgoings
 outgoingsOf setting = record { first = outgoAt setting 0; later = outgoAt setting 5 }
 
--- What is read here for a year is `weightOf` of that year: laws `mortality-is`, `lapse-is`, `costs-is`, `claims-is` (proofs/Laws).
+-- What is read here for a year is the weight of that year: laws `mortality-is`, `lapse-is`, `costs-is`, `claims-is` (proofs/Laws).
 -- of the weights of a year, that of the mortality of a sex
 abbrev pub ofSex : ℕ → DecrementWeights → ℕ
 ofSex sex w = pick (eqb sex 0) (w .men) (w .women)

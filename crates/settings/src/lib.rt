@@ -1,10 +1,12 @@
 // The weights of the eight settings, in thousandths: one table, from which structs by value are read outside the loops.
+// Internal: what reads the book's mortality percentages asks for an accepted book's rules, which the calls above have from the check.
 ghost use mathlib.Core.Path.{_≡_};
 ghost use Prim.Native.Nat.{_<_, _≤_};
-ghost use Rattle.settings.specs.Settings.{weightOf, mortalityWeight, decrementsAt, decrementsOf, outgoAt, outgoingsOf};
+ghost use Rattle.book.specs.Reading.{ValidBook};
+ghost use Rattle.settings.specs.Settings.{weightOf, percentOf, mortalityWeight, decrementsAt, decrementsOf, outgoAt, outgoingsOf};
 ghost use Rattle.settings.specs.Settings.{ofSex, mortalityIn, lapseIn, costsIn, claimsIn, Weighed, OutgoWeighed};
 
-// The kinds of weight. Mortality has the number of its sex: 0 men, 1 women.
+// The kinds of weight. Mortality has the number of its sex, 0 men, 1 women, and its weight is so much for each percent.
 const LAPSE: usize = 2;
 
 const COSTS: usize = 3;
@@ -14,98 +16,98 @@ const CLAIMS: usize = 4;
 // For each setting the five kinds for the years k = 0 to 4, then the five for the later years.
 const WEIGHTS: [u64; 80] = [
     // 0: base
-    870,
-    860,
+    10,
+    10,
     1000,
     1000,
     1000,
     // 0, later years
-    870,
-    860,
+    10,
+    10,
     1000,
     1000,
     1000,
     // 1: mortality up
-    1044,
-    1032,
+    12,
+    12,
     1000,
     1000,
     1000,
     // 1, later years
-    870,
-    860,
+    10, // a shift of mortality ends
+    10,
     1000,
     1000,
     1000,
     // 2: mortality down
-    696,
-    688,
+    8,
+    8, // of women as of men
     1000,
     1000,
     1000,
     // 2, later years
-    870,
-    860,
+    10,
+    10, // here too, for women
     1000,
     1000,
     1000,
     // 3: lapse up
-    870,
-    860,
+    10,
+    10,
     1300,
     1000,
     1000,
     // 3, later years
-    870,
-    860,
+    10,
+    10,
     1300, // a shift of the lapse stays
     1000,
     1000,
     // 4: lapse down
-    870,
-    860,
+    10,
+    10,
     700,
     1000,
     1000,
     // 4, later years
-    870,
-    860,
+    10,
+    10,
     700, // here too
     1000,
     1000,
     // 5: costs up
-    870,
-    860,
+    10,
+    10,
     1000,
     1200,
     1000,
     // 5, later years
-    870,
-    860,
+    10,
+    10,
     1000,
     1000,
     1000,
     // 6: costs down
-    870,
-    860,
+    10,
+    10,
     1000,
     800,
     1000,
     // 6, later years
-    870,
-    860,
+    10,
+    10,
     1000,
     1000,
     1000,
     // 7: claims up
-    870,
-    860,
+    10,
+    10,
     1000,
     1000,
     1050,
     // 7, later years
-    870,
-    860,
+    10,
+    10,
     1000,
     1000,
     1000,
@@ -123,12 +125,23 @@ fn weight(setting: usize, kind: usize, k: usize) -> u64
     }
 }
 
-// The weight of the mortality of a sex: 0 men, 1 women. Edition 1 of the book carries none of its own.
+// The mortality percentage of a sex: 0 men, 1 women. Edition 2 of the book carries its own.
+fn percent_of(book: &[u8], sex: usize) -> u64
+    requires { ⌜ (sex ≤ 1) × ValidBook 1 (now book) ⌝ }
+    ensures { λ r. ⌜ (r ≡ percentOf (now (book .entry)) sex) × (r ≤ 100) ⌝ }
+{
+    if book::edition(book) == 2 {
+        return book::percent_at(book, sex) as u64;
+    }
+    if sex == 0 { 87 } else { 86 }
+}
+
+// The weight of the mortality of a sex: 0 men, 1 women.
 fn mortality_weight(book: &[u8], setting: usize, sex: usize, k: usize) -> u64
-    requires { ⌜ (setting < 8) × (sex ≤ 1) ⌝ }
+    requires { ⌜ (setting < 8) × (sex ≤ 1) × ValidBook 1 (now book) ⌝ }
     ensures { λ r. ⌜ (r ≡ mortalityWeight (now (book .entry)) setting sex k) × (r ≤ 1300) ⌝ }
 {
-    weight(setting, sex, k)
+    percent_of(book, sex) * weight(setting, sex, k)
 }
 
 // The weights of mortality and lapse in one year.
@@ -140,7 +153,7 @@ pub struct DecrementWeights {
 
 impl DecrementWeights {
     fn new(book: &[u8], setting: usize, k: usize) -> DecrementWeights
-        requires { ⌜ setting < 8 ⌝ }
+        requires { ⌜ (setting < 8) × ValidBook 1 (now book) ⌝ }
         ensures { λ r. ⌜ (r ≡ decrementsAt (now (book .entry)) setting k) × (r .men ≤ 1300) × (r .women ≤ 1300) × (r .lapse ≤ 1300) ⌝ }
     {
         DecrementWeights {
@@ -166,7 +179,7 @@ pub struct Decrements {
 
 impl Decrements {
     pub fn new(book: &[u8], setting: usize) -> Decrements
-        requires { ⌜ setting < 8 ⌝ }
+        requires { ⌜ (setting < 8) × ValidBook 1 (now book) ⌝ }
         ensures { λ r. ⌜ (r ≡ decrementsOf (now (book .entry)) setting) × Weighed r ⌝ }
     {
         let first = DecrementWeights::new(book, setting, 0);

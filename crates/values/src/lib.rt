@@ -98,8 +98,14 @@ pub fn values_of(book: &[u8]) -> Values
     fill_fields(book, MORTALITY_PLACE, &mut mortality);
     let curve = curve_of(book);
     let first = firsts_of(book);
+    let edition = book::edition(book) as u64;
+    let men = book::percent_at(book, 0) as u64;
+    let women = book::percent_at(book, 1) as u64;
     let year = field::read_u16(book, 2) as u64;
     Values {
+        edition,
+        men,
+        women,
         year,
         cost,
         curve,

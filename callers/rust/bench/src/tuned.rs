@@ -10,7 +10,7 @@ use std::ops::Range;
 use plain::check::check;
 use plain::layout::*;
 use plain::reckoning::{chains_of, differences, Totals, YEARS};
-use plain::settings::{later, Weights, SETTINGS, SHIFTED_YEARS, WEIGHTS};
+use plain::settings::{later, percentage, Weights, SETTINGS, SHIFTED_YEARS, WEIGHTS};
 use plain::Refusal;
 
 const MILLION: u64 = 1_000_000;
@@ -52,6 +52,7 @@ struct Record {
 }
 
 struct Book {
+    percentages: [u64; 2],
     cost_rates: [u64; PRODUCT_GROUPS],
     /// 1,000,000 and the rate of year k
     divisors: [u64; YEARS],
@@ -98,6 +99,7 @@ pub fn totals(bytes: &[u8], tuning: Tuning) -> Result<Totals, Refusal> {
 
 fn read(bytes: &[u8]) -> Book {
     Book {
+        percentages: std::array::from_fn(|sex| percentage(bytes, sex)),
         cost_rates: std::array::from_fn(|group| four_bytes(bytes, COST_RATES + 4 * group) as u64),
         divisors: std::array::from_fn(|k| divisor(bytes, k)),
         chains: std::array::from_fn(|chain| read_chain(bytes, chain)),
@@ -139,7 +141,8 @@ fn project(book: &Book, weights: &Weights, walk: Walk) -> [Sums; PRODUCT_GROUPS]
             claims: [0; YEARS],
         };
         for chain in chains_of(group + 1) {
-            weigh(&book.chains[chain], sex_of_chain(chain), weights, &mut rows);
+            let percentage = book.percentages[sex_of_chain(chain)];
+            weigh(&book.chains[chain], percentage, weights, &mut rows);
             match walk {
                 Walk::CellByCell => add_cell_by_cell(&rows, &mut sums),
                 Walk::YearByYear => add_year_by_year(&rows, &mut sums),
@@ -151,8 +154,8 @@ fn project(book: &Book, weights: &Weights, walk: Walk) -> [Sums; PRODUCT_GROUPS]
 
 /// The rows of a chain, and after them that of class 120 again, without contracts of its own: whoever comes
 /// to it stays there.
-fn weigh(records: &[Record], sex: usize, weights: &Weights, rows: &mut Vec<Row>) {
-    let [first, later] = weights.mortality[sex];
+fn weigh(records: &[Record], percentage: u64, weights: &Weights, rows: &mut Vec<Row>) {
+    let [first, later] = weights.mortality.map(|weight| percentage * weight);
     rows.clear();
     rows.extend(records.iter().map(|record| Row {
         count: record.count,

@@ -15,6 +15,9 @@ pub struct Cell {
 /// All that a book says. A chain's cells are those of rising classes, the last of class 120.
 #[derive(Clone, Debug)]
 pub struct Values {
+    pub edition: u8,
+    /// of men and women; zeros in edition 1
+    pub percentages: [u8; 2],
     pub sst_year: u16,
     pub cost_rates: [u32; PRODUCT_GROUPS],
     pub curve: [i32; CURVE_YEARS],
@@ -25,6 +28,8 @@ pub struct Values {
 impl Default for Values {
     fn default() -> Values {
         Values {
+            edition: 1,
+            percentages: [0, 0],
             sst_year: 2021,
             cost_rates: [0; PRODUCT_GROUPS],
             curve: [0; CURVE_YEARS],
@@ -83,7 +88,8 @@ fn put_values(book: &mut [u8], values: &Values, numbers: &[usize]) {
 }
 
 fn put_header(book: &mut [u8], values: &Values) {
-    book[EDITION] = 1;
+    book[EDITION] = values.edition;
+    book[PERCENTAGES..PERCENTAGES + 2].copy_from_slice(&values.percentages);
     book[AGE_BASIS] = 1;
     put_two(book, SST_YEAR, values.sst_year);
     for (step, rate) in values.cost_rates.iter().enumerate() {
@@ -176,6 +182,14 @@ fn random_tables(chooser: &mut Chooser, kind: Kind) -> Values {
         sst_year: chooser.between(2017, 2100) as u16,
         ..Values::default()
     };
+    if chooser.percent(60) {
+        values.edition = 2;
+        values.percentages = [87, 86].map(|usual| match kind {
+            Kind::Believable => usual - 3 + chooser.up_to(6) as u8,
+            Kind::Anywhere => chooser.between(1, MOST_PERCENTAGE as i64) as u8,
+            Kind::AtEnds => chooser.pick(&[1, MOST_PERCENTAGE]),
+        });
+    }
     for rate in &mut values.cost_rates {
         *rate = match kind {
             Kind::Believable => 50_000 + chooser.up_to(200_000),

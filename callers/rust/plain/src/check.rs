@@ -29,17 +29,28 @@ fn refuse_if(broken: bool, number: u64, place: usize) -> Result<(), Refusal> {
     }
 }
 
-/// Refusals 1 to 5.
+/// Refusals 1 to 5, and 23.
 fn check_header(book: &[u8]) -> Result<(), Refusal> {
     refuse_if(book.len() < HEADER_SIZE, 1, book.len())?;
-    refuse_if(book[EDITION] != 1, 2, EDITION)?;
+    refuse_if(!(1..=2).contains(&book[EDITION]), 2, EDITION)?;
     refuse_if(book[AGE_BASIS] != 1, 3, AGE_BASIS)?;
     let year = two_bytes(book, SST_YEAR);
     refuse_if(!(2017..=2100).contains(&year), 4, SST_YEAR)?;
     refuse_if(record_count(book) > MOST_RECORDS, 4, RECORD_COUNT)?;
-    refuse_if(two_bytes(book, HEADER_SPARE) != 0, 4, HEADER_SPARE)?;
+    check_by_edition(book)?;
     let due = HEADER_SIZE + RECORD_SIZE * record_count(book);
     refuse_if(book.len() != due, 5, book.len())
+}
+
+/// Bytes 6 and 7: refusal 4 in edition 1, 23 in edition 2.
+fn check_by_edition(book: &[u8]) -> Result<(), Refusal> {
+    if book[EDITION] == 1 {
+        return refuse_if(two_bytes(book, HEADER_SPARE) != 0, 4, HEADER_SPARE);
+    }
+    for at in [PERCENTAGES, PERCENTAGES + 1] {
+        refuse_if(!(1..=MOST_PERCENTAGE).contains(&book[at]), 23, at)?;
+    }
+    Ok(())
 }
 
 /// Refusals 6 to 8.

@@ -46,12 +46,13 @@ fn damage_header(book: &mut [u8], chooser: &mut Chooser) {
     if book.len() < HEADER_SIZE {
         return;
     }
-    match chooser.below(5) {
-        0 => book[EDITION] = chooser.pick(&[0, 2]),
+    match chooser.below(6) {
+        0 => book[EDITION] = chooser.pick(&[0, 1, 2, 3]),
         1 => book[AGE_BASIS] = chooser.pick(&[0, 2]),
         2 => put_two(book, SST_YEAR, chooser.pick(&[2016, 2017, 2100, 2101])),
         3 => put_two(book, RECORD_COUNT, chooser.pick(&[0, 1_694, 1_695])),
-        _ => book[HEADER_SPARE + chooser.below(2)] = 1,
+        4 => book[HEADER_SPARE + chooser.below(2)] = 1,
+        _ => book[PERCENTAGES + chooser.below(2)] = chooser.pick(&[0, 101, 255]),
     }
 }
 

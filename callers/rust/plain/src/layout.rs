@@ -16,7 +16,9 @@ pub const EDITION: usize = 0;
 pub const AGE_BASIS: usize = 1;
 pub const SST_YEAR: usize = 2;
 pub const RECORD_COUNT: usize = 4;
+/// Spare in edition 1; in edition 2 the mortality percentages of men and women, a byte each.
 pub const HEADER_SPARE: usize = 6;
+pub const PERCENTAGES: usize = HEADER_SPARE;
 pub const HEADS: usize = 8;
 pub const COST_RATES: usize = 36;
 pub const CURVE: usize = 56;
@@ -35,6 +37,7 @@ pub const PREMIUM: usize = 16;
 pub const CLAIMS: usize = 20;
 
 // The greatest numbers that pass.
+pub const MOST_PERCENTAGE: u8 = 100;
 pub const MOST_COST_RATE: u32 = 1_000_000;
 pub const LEAST_CURVE_RATE: i32 = -10_000;
 pub const MOST_CURVE_RATE: i32 = 200_000;

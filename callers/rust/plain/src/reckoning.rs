@@ -2,7 +2,7 @@
 
 use crate::check::check;
 use crate::layout::*;
-use crate::settings::{later, Weights, SETTINGS, WEIGHTS};
+use crate::settings::{later, percentage, Weights, SETTINGS, WEIGHTS};
 use crate::Refusal;
 
 pub const YEARS: usize = 50;
@@ -155,6 +155,7 @@ fn year_sums(book: &[u8], setting: usize, group: usize) -> [Sums; YEARS] {
     let weights = &WEIGHTS[setting];
     for chain in chains_of(group) {
         let sex = sex_of_chain(chain);
+        let percentage = percentage(book, sex);
         let records = chain_records(book, chain);
         for (own, cell) in records.iter().enumerate() {
             let mut in_force = cell.count * BILLION;
@@ -165,7 +166,7 @@ fn year_sums(book: &[u8], setting: usize, group: usize) -> [Sums; YEARS] {
                 let mortality = four_bytes(book, mortality_place(sex, reached.class)) as u128;
                 in_force = next_in_force(
                     in_force,
-                    mortality * weights.mortality[sex][later(k)] as u128,
+                    mortality * (percentage * weights.mortality[later(k)]) as u128,
                     reached.lapse * weights.lapse as u128,
                 );
             }

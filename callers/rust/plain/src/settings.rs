@@ -1,13 +1,15 @@
 //! The eight settings and their weights, in thousandths.
 
+use crate::layout::{EDITION, PERCENTAGES};
+
 pub const SETTINGS: usize = 8;
 /// A shift that ends holds for k = 0 to 4.
 pub const SHIFTED_YEARS: usize = 5;
 
 /// Where there are two, the first is for the shifted years and the second for the later ones.
 pub struct Weights {
-    /// of men, of women
-    pub mortality: [[u64; 2]; 2],
+    /// for each percent of the mortality percentage
+    pub mortality: [u64; 2],
     /// a shift of lapse does not end
     pub lapse: u64,
     pub costs: [u64; 2],
@@ -15,7 +17,7 @@ pub struct Weights {
 }
 
 const BASE: Weights = Weights {
-    mortality: [[870, 870], [860, 860]],
+    mortality: [10, 10],
     lapse: 1_000,
     costs: [1_000, 1_000],
     claims: [1_000, 1_000],
@@ -24,11 +26,11 @@ const BASE: Weights = Weights {
 pub const WEIGHTS: [Weights; SETTINGS] = [
     BASE,
     Weights {
-        mortality: [[1_044, 870], [1_032, 860]],
+        mortality: [12, 10],
         ..BASE
     },
     Weights {
-        mortality: [[696, 870], [688, 860]],
+        mortality: [8, 10],
         ..BASE
     },
     Weights {
@@ -49,6 +51,14 @@ pub const WEIGHTS: [Weights; SETTINGS] = [
         ..BASE
     },
 ];
+
+/// The mortality percentage of a sex, men or women: edition 2 of a book carries its own.
+pub fn percentage(book: &[u8], sex: usize) -> u64 {
+    if book[EDITION] == 2 {
+        return book[PERCENTAGES + sex] as u64;
+    }
+    [87, 86][sex]
+}
 
 /// Which of two weights holds in year k.
 pub fn later(k: usize) -> usize {

@@ -28,6 +28,8 @@ fn one_record() -> Contents {
     let mut first_classes = [121; 14];
     first_classes[6] = 120;
     let values = xaropinto::Values {
+        edition: 1,
+        percentages: [0, 0],
         year: 2021,
         cost_rates: [0, 100_000, 0, 0, 0],
         curve: [0; 49],
@@ -55,6 +57,17 @@ fn the_papers_book_is_written_and_read_back() {
 }
 
 #[test]
+fn percentages_of_edition_2_are_written_and_read_back() {
+    let mut contents = one_record();
+    contents.0.edition = 2;
+    contents.0.percentages = [100, 1];
+    let mut out = [0; 1_244];
+    assert_eq!(write(&contents, &mut out), Ok(1_244));
+    assert_eq!((out[0], out[6], out[7]), (2, 100, 1));
+    assert_eq!(read(&out), contents);
+}
+
+#[test]
 fn a_book_in_any_order_is_written_in_chain_order_with_the_same_contents() {
     for kind in [Kind::Anywhere, Kind::AtEnds] {
         let contents = read(&full_book(&mut Chooser::new(205), kind));
@@ -77,8 +90,16 @@ fn what_is_refused_is_not_written() {
     assert_eq!(write(&contents, &mut out[..1_243]), refused(22));
     contents.0.curve[48] = -10_001;
     assert_eq!(write(&contents, &mut out), refused(7));
+    contents.0.edition = 2;
+    contents.0.percentages = [100, 101];
+    assert_eq!(write(&contents, &mut out), refused(23));
+    contents.0.edition = 1;
+    assert_eq!(write(&contents, &mut out), refused(4));
+    contents.0.percentages = [0, 0];
     contents.0.year = 65_536 + 2021;
     assert_eq!(write(&contents, &mut out), refused(4));
+    contents.0.edition = 256 + 1;
+    assert_eq!(write(&contents, &mut out), refused(2));
     contents.1[3].push(0);
     assert_eq!(write(&contents, &mut out), refused(22));
     contents.0.first_classes[0] = 122;

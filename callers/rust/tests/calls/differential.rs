@@ -44,9 +44,11 @@ fn mostly(usual: std::ops::Range<usize>, chooser: &mut Chooser) -> usize {
     }
 }
 
-fn assert_all_seen(times: &[usize]) {
-    for (refusal, times) in times.iter().enumerate() {
-        assert!(*times >= 10, "refusal {refusal} was seen {times} times");
+/// Acceptance, the refusals up to the last of these, and 23.
+fn assert_all_seen(times: &[usize; 24], last: usize) {
+    for refusal in (0..=last).chain([23]) {
+        let times = times[refusal];
+        assert!(times >= 10, "refusal {refusal} was seen {times} times");
     }
 }
 
@@ -66,14 +68,14 @@ fn full_books() -> Vec<(&'static str, Vec<u8>)> {
 fn verdicts_agree_and_every_refusal_is_reached() {
     let seed = 41_876;
     let mut chooser = Chooser::new(seed);
-    let mut seen = [0; 14];
+    let mut seen = [0; 24];
     for number in 0..20_000 {
         let book = mostly_damaged_book(&mut chooser);
         let verdict = agreed_check(&book, &drawn("verdicts", seed, number));
         let refusal = verdict.map_or_else(|refusal| refusal.0, |_| 0);
         seen[refusal as usize] += 1;
     }
-    assert_all_seen(&seen);
+    assert_all_seen(&seen, 13);
 }
 
 #[test]
@@ -93,7 +95,7 @@ fn cut_and_extended_books_agree() {
 fn groups_and_tables_agree_and_every_refusal_is_reached() {
     let seed = 200;
     let mut chooser = Chooser::new(seed);
-    let mut seen = [0; 17];
+    let mut seen = [0; 24];
     for number in 0..6_000 {
         let book = valid_or_damaged_book(&mut chooser);
         let setting = mostly(0..8, &mut chooser);
@@ -103,7 +105,7 @@ fn groups_and_tables_agree_and_every_refusal_is_reached() {
         let (reply, _) = agreed_group(&book, setting, group, numbers, &name);
         seen[reply.map_or_else(|refusal| refusal.0, |_| 0) as usize] += 1;
     }
-    assert_all_seen(&seen);
+    assert_all_seen(&seen, 16);
 }
 
 #[test]

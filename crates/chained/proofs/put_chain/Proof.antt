@@ -17,7 +17,7 @@ use Rattle.chained.proofs.put_chain.Tie as tie
 -- Of the header, a record takes the first classes alone.
 abbrev values : List ℕ → List ℕ → List ℕ → List ℕ → List ℕ → Contents
 values first counts lapses premiums claims =
-    given (record { year = 0; cost = []; curve = []; mortality = []; first = first }) counts lapses premiums claims
+    given (record { edition = 0; men = 0; women = 0; year = 0; cost = []; curve = []; mortality = []; first = first }) counts lapses premiums claims
 
 abbrev Inv-loop : tie.InvT-loop
 Inv-loop out₀ at k sum counts lapses premiums claims first class size next₀ j₀ out next j =

@@ -31,6 +31,10 @@ heads-of p = p .before .before .before .before .before
 abbrev cost-of : tie.After-put-curve → tie.After-put-fields
 cost-of p = p .before .before .before .before .before
 
+put-front-requires : tie.Need-put-front-requires
+put-front-requires c κs =
+    let a = c .before .before .before .before .before .before .before .before in (a .pre .0, a .pre .1, a .pre .2)
+
 put-heads-requires : tie.Need-put-heads-requires
 put-heads-requires c κs = omega (arith, c .before .before .before .before .put-front .ensures .1)
 
@@ -60,7 +64,7 @@ put-curve-requires c κs =
         p₂ .put-heads .ensures .1,
         p₁ .put-front .ensures .1,
       ),
-      a .pre,
+      a .pre .3,
     )
 
 slice-aggregate-put-fields-2 : tie.Need-slice-aggregate-put-fields-2
@@ -120,5 +124,5 @@ pub put-header-spec : {M : Type 1} → statement M
 put-header-spec =
     tie.close
     (tie.spec (λ c κs. search needs)
-    (λ c κs. search needs) put-heads-requires slice-aggregate-put-fields put-fields-requires
+    put-front-requires put-heads-requires slice-aggregate-put-fields put-fields-requires
     slice-aggregate-put-curve put-curve-requires slice-aggregate-put-fields-2 put-fields-requires-2 same-length returns)

@@ -20,7 +20,9 @@ returns c =
     promised _ _ _ _ _ _ (rw e) (rw e)
 
 new-requires : tie.Need-new-requires
-new-requires c κs = group-setting _ _ _ _ _ (sym (c .before .before .check-group .ensures) ∙ c .enum-told .given .1)
+new-requires c κs =
+    let e = sym (c .before .before .check-group .ensures) ∙ c .enum-told .given .1 in
+    (group-setting _ _ _ _ _ e, group-valid _ _ _ _ _ e)
 
 group-sums-requires : tie.Need-group-sums-requires
 group-sums-requires c κs =

@@ -1,4 +1,4 @@
--- `limits::check_rates` meets its contract: the year and three tables, one after the other. Assumes nothing.
+-- `limits::check_rates` meets its contract: edition, year and percentages, and three tables, one after the other. Assumes nothing.
 use borrow.Author.Needs.{needs}
 use Rattle.contents.specs.Limits.{checkRates}
 use Rattle.limits.proofs.check_rates.Statement.{statement}
@@ -16,12 +16,11 @@ returns c =
       m .check-most2 .ensures,
       m .before .before .check-curve .ensures,
       m .before .before .before .before .check-most .ensures,
-      n .need .ensures,
-      n .before .within .ensures,
+      n .check-edition .ensures,
     )
 
 pub check-rates-spec : {M : Type 1} → statement M
 check-rates-spec =
     tie.close
-    (tie.spec (search needs) (search needs) (λ c. search needs) (search needs) (λ c. search needs) (search needs)
+    (tie.spec (search needs) (λ c. search needs) (search needs) (λ c. search needs) (search needs)
     (λ c. search needs) (search needs) (search needs) (search needs) (search needs) returns)

@@ -14,6 +14,11 @@ head-of-requires c κs =
     let v = valid 1 _ _ (sym (c .before .before .check .ensures) ∙ c .enum-told .given .1) in
     (omega arith, omega (arith, v .header .size))
 
+new-requires : tie.Need-new-requires
+new-requires c κs =
+    let m = c .before .before in
+    (omega arith, valid 1 _ _ (sym (m .before .before .check .ensures) ∙ m .enum-told .given .1))
+
 walk-requires : tie.Need-walk-requires
 walk-requires c κs =
     let h = c .before .before .before .before in
@@ -30,4 +35,4 @@ pub first-walk-spec : {M : Type 1} → statement M
 first-walk-spec =
     tie.close
     (tie.spec (search needs) (search needs) (search needs) (search needs) (search needs) (search needs) head-of-requires (search needs)
-    (search needs) walk-requires (search needs))
+    new-requires walk-requires (search needs))

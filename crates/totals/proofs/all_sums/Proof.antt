@@ -1,9 +1,11 @@
 -- `totals::all_sums` meets its contract: five calls, in a row. Assumes nothing.
 use native.Mathlib.Omega.{arith}
-use borrow.Author.Needs.{needs}
 use Rattle.totals.proofs.Laws.{five}
 use Rattle.totals.proofs.all_sums.Statement.{statement}
 use Rattle.totals.proofs.all_sums.Tie as tie
+
+new-requires : tie.Need-new-requires
+new-requires c κs = c .before .pre
 
 group-sums-requires : tie.Need-group-sums-requires
 group-sums-requires c κs = let m = c in (m .new .ensures .1, m .before .before .pre .1, omega arith, omega arith)
@@ -31,4 +33,4 @@ returns c =
 pub all-sums-spec : {M : Type 1} → statement M
 all-sums-spec =
     tie.close
-    (tie.spec (search needs) group-sums-requires group-sums-requires-2 group-sums-requires-3 group-sums-requires-4 group-sums-requires-5 returns)
+    (tie.spec new-requires group-sums-requires group-sums-requires-2 group-sums-requires-3 group-sums-requires-4 group-sums-requires-5 returns)

@@ -2,11 +2,15 @@
 use native.Mathlib.Omega.{arith}
 use Rattle.text.proofs.Laws.{_then_, kept}
 use Rattle.contents.specs.Written.{bookOf}
+use Rattle.contents.proofs.Fit.{percents-small}
 use Rattle.writer.proofs.put_book.Statement.{statement}
 use Rattle.writer.proofs.put_book.Tie as tie
 
 put-header-requires : tie.Need-put-header-requires
-put-header-requires c κs = c .before .before .before .before .before .before .pre .curve
+put-header-requires c κs =
+    let fit = c .before .before .before .before .before .before .pre in
+    let percents = percents-small _ fit in
+    (omega (arith, fit .edition-high), omega (arith, percents .0), omega (arith, percents .1), fit .curve)
 
 put-chains-requires : tie.Need-put-chains-requires
 put-chains-requires c κs = (

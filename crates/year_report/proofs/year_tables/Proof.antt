@@ -4,6 +4,9 @@ use Rattle.year_report.proofs.Figures.{five}
 use Rattle.year_report.proofs.year_tables.Statement.{statement}
 use Rattle.year_report.proofs.year_tables.Tie as tie
 
+new-requires : tie.Need-new-requires
+new-requires c κs = c .before .pre
+
 returns : tie.Need-returns
 returns c =
     let c2 = c .before .before .before in
@@ -13,5 +16,5 @@ returns c =
 pub year-tables-spec : {M : Type 1} → statement M
 year-tables-spec =
     tie.close
-    (tie.spec (search needs) (λ c κs. search needs) (λ c κs. search needs) (λ c κs. search needs) (λ c κs. search needs)
+    (tie.spec new-requires (λ c κs. search needs) (λ c κs. search needs) (λ c κs. search needs) (λ c κs. search needs)
     (λ c κs. search needs) returns)

@@ -1,7 +1,14 @@
 -- `settings::DecrementWeights::new` meets its contract: each weight is the one read. Assumes nothing.
+use native.Mathlib.Omega.{arith}
 use borrow.Author.Needs.{needs}
 use Rattle.settings.proofs.DecrementWeights.new.Statement.{statement}
 use Rattle.settings.proofs.DecrementWeights.new.Tie as tie
+
+mortality-weight-requires : tie.Need-mortality-weight-requires
+mortality-weight-requires c κs = let a = c .before in (a .pre .0, omega arith, a .pre .1)
+
+mortality-weight-requires-2 : tie.Need-mortality-weight-requires-2
+mortality-weight-requires-2 c κs = let a = c .before .before in (a .pre .0, omega arith, a .pre .1)
 
 returns : tie.Need-returns
 returns c =
@@ -13,4 +20,4 @@ returns c =
 pub new-spec : {M : Type 1} → statement M
 new-spec =
     tie.close
-    (tie.spec (search needs) (search needs) (search needs) returns)
+    (tie.spec mortality-weight-requires mortality-weight-requires-2 (search needs) returns)
