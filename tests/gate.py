@@ -5,7 +5,7 @@ import sys
 import time
 from typing import NamedTuple
 
-from tests.command import run
+from tests.command import run, run_beside
 from tests.report import read_no_words
 
 TALLY = re.compile(r"^(\d+) passed, (\d+) failed$")
@@ -30,8 +30,8 @@ def script(name, module, least, *words):
 
 
 PROOFS = Part("proofs, must-fail edits and programs", ["rt", "ci"], 214)
-# What runs after the proofs, in this order.
-OUTSIDE = [
+# What runs on the proved programs, two parts at once.
+PROGRAMS = [
     script("must-fail edits fit the proof files", "tests.must_fail_reasons", 2),
     script("documents", "tests.documents", 13),
     script("second check, by hand-worked examples", "tests.second_check", 35),
@@ -47,20 +47,34 @@ OUTSIDE = [
     script("sample books", "tools.sample_books", 37, "test"),
     script("random books against the second check", "tests.random_books.check", 17),
     script("random listings against the second reckoning and the fractions", "tests.random_books.listing", 22),
-    script("callers in C and Rust", "tests.callers", 169),
+]
+# What builds the archive and the shared library, and what runs on these, two parts at once again.
+CALLERS = script("callers in C and Rust", "tests.callers", 169)
+CALLS = [
     script("calls from Python, on random books", "tests.calls.base", 22),
     script("cost rates from Python, on random accounts", "tests.calls.accounts", 38),
     script("calls of the report", "tests.calls.report", 22),
     script("conversions from Python, on random books", "tests.calls.convert", 63),
     script("Write and Read from Python, on random values and lists", "tests.calls.desk", 28),
 ]
-PARTS = [PROOFS, *OUTSIDE]
+PARTS = [PROOFS, *PROGRAMS, CALLERS, *CALLS]
 
 
 def try_part(part):
-    """Run one part, print its line and what it wrote where it failed; how many tests passed and failed."""
+    """Run one part by itself; how many tests passed and failed."""
     began = time.monotonic()
     code, text = run(part.command, MOST_SECONDS)
+    return tell_part(part, code, text, time.monotonic() - began)
+
+
+def try_beside(parts):
+    """Run parts two at once; how many tests of each passed and failed, in their order."""
+    ended = run_beside([part.command for part in parts], MOST_SECONDS)
+    return [tell_part(part, *told) for part, told in zip(parts, ended)]
+
+
+def tell_part(part, code, text, seconds):
+    """Print the line of a part that has ended, and what it wrote where it failed; how many tests passed and failed."""
     lines = text.rstrip().splitlines()
     tally = TALLY.match(lines[-1]) if lines else None
     passed, failed = (int(tally[1]), int(tally[2])) if tally else (0, 0)
@@ -73,7 +87,7 @@ def try_part(part):
     else:
         print("".join(line + "\n" for line in lines if line.startswith(TOLD)), end="")
     print(f"{'ok' if not failed else 'FAILED'} {part.name}: {passed} passed, {failed} failed"
-          f" ({time.monotonic() - began:.0f} s)", flush=True)
+          f" ({seconds:.0f} s)", flush=True)
     return passed, failed
 
 
@@ -81,11 +95,10 @@ def main():
     """All parts; the outside tests run on what was proved, so not where the proofs fail."""
     read_no_words(__doc__)
     print("checker:", run(["rt", "version"], MOST_SECONDS)[1].strip(), flush=True)
-    passed, failed = try_part(PROOFS)
-    if not failed:
-        for part in OUTSIDE:
-            more, bad = try_part(part)
-            passed, failed = passed + more, failed + bad
+    tallies = [try_part(PROOFS)]
+    if not tallies[0][1]:
+        tallies += [*try_beside(PROGRAMS), try_part(CALLERS), *try_beside(CALLS)]
+    passed, failed = (sum(counts) for counts in zip(*tallies))
     print(f"{passed} passed, {failed} failed")
     return 1 if failed else 0
 
