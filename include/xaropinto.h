@@ -6,13 +6,14 @@
  *
  * Buffers. The caller owns all that it lends. A call only reads the book. Group writes to numbers 0 to 199 of the
  * table, Report to the first bytes of its buffer, Convert to as many first bytes of `out` as the book has, Write to as
- * many as the book has that it makes, Read to as many first numbers of each list as the book has linked records;
- * nothing else is written. Accounts and values are handed over by value: no call sees the caller's own. No call keeps
- * a pointer after it returns, and none allocates.
+ * many as the book has that it makes, Read to as many first numbers of each list as the book has linked records, Funds
+ * to numbers 0 to 7 and 8 to 15; nothing else is written. Accounts and values are handed over by value: no call sees
+ * the caller's own. No call keeps a pointer after it returns, and none allocates.
  *
- * Pointers. Each must be valid for its length and must not be null, also where the length is 0. The table and the
- * lists must be aligned for uint64_t; a buffer of bytes may start anywhere. What is written must overlap neither the
- * book nor anything else that is lent at the time; lists that Write only reads may be one and the same.
+ * Pointers. Each must be valid for its length and must not be null, also where the length is 0. The table, the lists
+ * and the numbers of Funds must be aligned for uint64_t; a buffer of bytes may start anywhere. What is written must
+ * overlap neither the book nor anything else that is lent at the time; lists that Write only reads may be one and the
+ * same, and so may the files of Funds.
  *
  * Threads. Calls may run at the same time in several threads. While a call runs, no other thread may write to its
  * book or to lists that are only read, nor read or write what the call writes. Calls may share a book; each call that
@@ -21,11 +22,12 @@
  * Stack. A call takes what it needs from the caller's stack, and no proof says how much. A process that runs out of
  * stack stops. Beside what its own functions need, give a thread 40 KiB for Report, 32 KiB for Totals, 16 KiB for
  * Group, for the cost rates, for Write and for Read, 8 KiB for the others. Measured, in a first call that is bound as
- * it is called: 21,303 bytes; 19,191; 6,071, 5,735, 10,872 and 8,248; and 3,319.
+ * it is called: 21,303 bytes; 19,191; 6,071, 5,735, 10,872 and 8,248; and 3,319. Funds joins a book there: give it
+ * 96 KiB; measured are 58,143 bytes.
  *
  * Replies. A refusal of 0 means accepted. Otherwise `refusal` says which rule is broken and `place` where; every
- * other field of the reply is 0, and what was lent is as it was. No earlier call is trusted: each checks the whole
- * book, or all accounts.
+ * other field of the reply is 0, and what was lent is as it was; of Funds, that fund's half of the numbers. No earlier
+ * call is trusted: each checks the whole book, or all accounts.
  *
  *   refusal  broken rule                                 place                       who mends it
  *    1       the book has at least 1,220 bytes           its length                  desk that writes the file
@@ -45,7 +47,8 @@
  *   14       the setting is 0 to 7                       0                           caller
  *   15       the product group is 1 to 5                 0                           caller
  *   16       the table has at least 200 numbers,         0                           caller
- *            `out` at least as many bytes as the book
+ *            `out` at least as many bytes as the book,
+ *            the numbers of Funds are at least 16
  *   17       an amount is at most 1,000,000,000 francs,  0                           insurer's cost sheet
  *            a stock at most 10,000,000 contracts
  *   18       no year's stock or claims add up to 0; a    0                           insurer's cost sheet
@@ -55,6 +58,7 @@
  *   21       on age basis 2, a class is not 0            the record's first byte + 2 portfolio desk
  *   22       lists and buffers have their lengths        0                           caller
  *   23       a percentage of edition 2 is 1 to 100       6 men, 7 women: the first   desk that writes the file
+ *   24       the table file has 1,164 bytes              0                           desk that writes the file
  *
  * Where several rules are broken, the reply names one. 14 to 16 are tested first, in this order; then 1 to 8, also in
  * order, and where a number has several places it is given with the lowest. 23 is tested in edition 2 where 4 looks at
@@ -66,6 +70,9 @@
  * Write refuses values and lists, not a book: each time with place 0, and in the order 11 (a first class above 121),
  * 22, 2, 4 (the year; a percentage in edition 1), 23 (in edition 2), 6, 7, 8, 12. Read refuses the book first, then
  * gives 22.
+ *
+ * Funds refuses each fund by itself, save for 16 and 24, which are both funds' and come first, in this order. Then a
+ * fund file of under 56 bytes is 1 with its own length; any other is refused as its joined book, with places there.
  */
 #ifndef XAROPINTO_H
 #define XAROPINTO_H
@@ -116,6 +123,11 @@
 
 /* The years of accounts. */
 #define XAROPINTO_ACCOUNT_YEARS 3
+
+/* What a fund file has before its records, the table file, and the numbers of two funds. */
+#define XAROPINTO_FUND_FRONT_BYTES XAROPINTO_CURVE_AT
+#define XAROPINTO_TABLE_FILE_BYTES (XAROPINTO_HEADER_BYTES - XAROPINTO_CURVE_AT)
+#define XAROPINTO_FUNDS_NUMBERS 16
 
 #ifdef __cplusplus
 extern "C" {
@@ -204,6 +216,12 @@ typedef struct {
     xaropinto_values values;
 } xaropinto_read_reply;
 
+/* Each fund's own verdict; one's refusal does not hold back the other. */
+typedef struct {
+    xaropinto_verdict first;
+    xaropinto_verdict second;
+} xaropinto_funds_reply;
+
 /* Check: is this a book? Refusals 1 to 13 and 23. */
 xaropinto_verdict xaropinto_check(const uint8_t *book, size_t length);
 
@@ -261,6 +279,18 @@ xaropinto_write_reply xaropinto_write(xaropinto_values values, const uint64_t *c
 xaropinto_read_reply xaropinto_read(const uint8_t *book, size_t length, uint64_t *counts, size_t counts_length,
                                     uint64_t *lapses, size_t lapses_length, uint64_t *premiums,
                                     size_t premiums_length, uint64_t *claims, size_t claims_length);
+
+/* Funds: two funds on the same tables. `table` is bytes 56 to 1,219 of a book; `first` and `second` are each bytes 0 to
+ * 55 and the records. A fund's joined book is the first 56 bytes of its file, the table file, and the rest of its file.
+ * Refusals 16 and 24, for both funds; then for each 1, for under 56 bytes, and what its joined book is refused for: 2
+ * to 13 and 23.
+ *
+ * `count` is how many numbers there are. Where the first fund is accepted, numbers 0 to 7 become the totals of its
+ * joined book by setting; where the second is, 8 to 15 those of its own. All others are as they were, a refused fund's
+ * among them. Nothing in one fund's file changes the other's verdict or numbers. */
+xaropinto_funds_reply xaropinto_funds(const uint8_t *table, size_t table_length, const uint8_t *first,
+                                      size_t first_length, const uint8_t *second, size_t second_length,
+                                      int64_t *numbers, size_t count);
 
 #ifdef __cplusplus
 }

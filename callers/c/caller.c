@@ -348,6 +348,7 @@ static void test_sizes(void)
                                      sizeof(xaropinto_write_reply) == 24 && sizeof(xaropinto_read_reply) == 8 * 316);
     test("accounts_have_no_gaps", sizeof(xaropinto_accounts) == 48 * sizeof(uint64_t));
     test("values_have_no_gaps", sizeof(xaropinto_values) == 314 * sizeof(uint64_t));
+    test("both_verdicts_have_no_gap", sizeof(xaropinto_funds_reply) == 2 * sizeof(xaropinto_verdict));
 }
 
 /* Premiums of 1,000,000 less claims of 800,000 and costs of 100,000, in fifty years. Settings 5, 6 and 7 have other
@@ -925,6 +926,129 @@ static void test_read(void)
     free(book.bytes);
 }
 
+/* ---- two funds on the same tables ---- */
+
+enum { FRONT = XAROPINTO_FUND_FRONT_BYTES, TABLE_FILE = XAROPINTO_TABLE_FILE_BYTES, LENT = XAROPINTO_FUNDS_NUMBERS };
+
+/* A book's fund file: all but its tables. */
+static parameter_book fund_of(parameter_book book)
+{
+    parameter_book fund = blank(book.length - TABLE_FILE);
+    memcpy(fund.bytes, book.bytes, FRONT);
+    memcpy(fund.bytes + FRONT, book.bytes + HEADER_SIZE, book.length - HEADER_SIZE);
+    return fund;
+}
+
+/* A table file of zeros, and memory of more numbers than are lent. */
+typedef struct {
+    uint8_t table[TABLE_FILE];
+    size_t table_length, lent;
+    int64_t numbers[LENT + 4];
+} funds_memory;
+
+static funds_memory marked_funds(void)
+{
+    funds_memory memory;
+    memset(&memory, 0, sizeof memory);
+    memory.table_length = TABLE_FILE;
+    memory.lent = LENT;
+    for (size_t i = 0; i < LENT + 4; i++)
+        memory.numbers[i] = -1000000007 - (int64_t)i;
+    return memory;
+}
+
+static int numbers_stand(const funds_memory *memory, size_t from, size_t to)
+{
+    funds_memory marked = marked_funds();
+    return memcmp(memory->numbers + from, marked.numbers + from, (to - from) * sizeof *memory->numbers) == 0;
+}
+
+static int fund_is(xaropinto_verdict verdict, uint64_t refusal, uint64_t place, uint64_t n)
+{
+    return verdict.refusal == refusal && verdict.place == place && verdict.n == n;
+}
+
+static xaropinto_funds_reply reckon_funds(funds_memory *memory, parameter_book first, parameter_book second)
+{
+    return xaropinto_funds(memory->table, memory->table_length, first.bytes, first.length, second.bytes,
+                           second.length, memory->numbers, memory->lent);
+}
+
+/* Both funds are refused alike, and no number changes. */
+static int both_refused(funds_memory memory, parameter_book first, parameter_book second, uint64_t refusal)
+{
+    xaropinto_funds_reply reply = reckon_funds(&memory, first, second);
+    return fund_is(reply.first, refusal, 0, 0) && fund_is(reply.second, refusal, 0, 0) &&
+           numbers_stand(&memory, 0, LENT + 4);
+}
+
+/* The paper's book, and one man of PG2 with claims of a franc in each of two years; in setting 7 a twentieth more. */
+static void test_funds(void)
+{
+    static const int64_t papers[] = {-5000000, -5000000, -5000000, -5000000, -5000000, -4900000, -5100000, -4800000};
+    static const int64_t mans[] = {200, 200, 200, 200, 200, 200, 200, 210};
+    contracts franc = {0, 0, 0, 100};
+    parameter_book book = one_record_book(), man_book = one_man_book(2, franc);
+    parameter_book fund = fund_of(book), man = fund_of(man_book);
+    funds_memory memory = marked_funds();
+    xaropinto_funds_reply reply = reckon_funds(&memory, fund, man);
+    test("both_funds_have_their_n", fund_is(reply.first, 0, 0, 1) && fund_is(reply.second, 0, 0, 1));
+    test("the_first_fund_has_numbers_0_to_7", memcmp(memory.numbers, papers, sizeof papers) == 0);
+    test("the_second_fund_has_numbers_8_to_15", memcmp(memory.numbers + 8, mans, sizeof mans) == 0);
+    test("numbers_from_16_on_stay", numbers_stand(&memory, LENT, LENT + 4));
+    put(fund, FRONT + LAPSE, 4, 1000001);
+    memory = marked_funds();
+    reply = reckon_funds(&memory, fund, man);
+    test("a_refused_fund_is_placed_in_its_joined_book", fund_is(reply.first, 12, 1232, 0));
+    test("a_refused_funds_numbers_stay", numbers_stand(&memory, 0, 8));
+    test("a_refused_first_fund_does_not_stop_the_second",
+         fund_is(reply.second, 0, 0, 1) && memcmp(memory.numbers + 8, mans, sizeof mans) == 0);
+    memory = marked_funds();
+    memory.table_length--;
+    test("a_table_file_of_1163_bytes_refuses_both", both_refused(memory, fund, man, 24));
+    memory.lent--;
+    test("fifteen_numbers_come_before_the_table_file", both_refused(memory, fund, man, 16));
+    free(man.bytes);
+    free(fund.bytes);
+    free(man_book.bytes);
+    free(book.bytes);
+}
+
+/* The same bytes, cut or followed by zeros, in memory of just this length. */
+static parameter_book resized(parameter_book file, size_t length)
+{
+    parameter_book other = blank(length);
+    memcpy(other.bytes, file.bytes, length < file.length ? length : file.length);
+    return other;
+}
+
+/* A file of this length that begins as the paper's fund, beside that fund: what it is refused for. */
+static int file_refused(size_t length, uint8_t edition, uint64_t refusal, uint64_t place)
+{
+    parameter_book book = one_record_book(), fund = fund_of(book), file = resized(fund, length);
+    funds_memory memory = marked_funds();
+    if (length > 0)
+        file.bytes[0] = edition;
+    xaropinto_funds_reply reply = reckon_funds(&memory, fund, file);
+    int holds = fund_is(reply.first, 0, 0, 1) && fund_is(reply.second, refusal, place, 0) &&
+                numbers_stand(&memory, 8, LENT + 4);
+    free(file.bytes);
+    free(fund.bytes);
+    free(book.bytes);
+    return holds;
+}
+
+static void test_fund_files(void)
+{
+    size_t longest = XAROPINTO_LONGEST_BOOK - TABLE_FILE;
+    test("an_empty_file_is_placed_at_0", file_refused(0, 1, 1, 0));
+    test("a_file_of_55_bytes_is_placed_at_its_own_length", file_refused(55, 1, 1, 55));
+    test("a_file_of_56_bytes_is_placed_at_the_joined_length", file_refused(56, 1, 5, 1220));
+    test("so_is_one_longer_than_any_book", file_refused(longest + 1, 1, 5, 41877));
+    test("so_is_one_of_twice_the_longest_book", file_refused(2 * XAROPINTO_LONGEST_BOOK, 1, 5, 84916));
+    test("a_long_files_header_is_tested_first", file_refused(longest + 1, 3, 2, 0));
+}
+
 int main(void)
 {
     test_sizes();
@@ -950,6 +1074,8 @@ int main(void)
     test_links();
     test_write_refusals();
     test_read();
+    test_funds();
+    test_fund_files();
     printf("%d passed, %d failed\n", passed, failed);
     return failed != 0;
 }

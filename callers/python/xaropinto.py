@@ -145,10 +145,16 @@ class _ReadReply(ctypes.Structure):
     _fields_ = [("refusal", ctypes.c_uint64), ("place", ctypes.c_uint64), ("values", _Values)]
 
 
+class _FundsReply(ctypes.Structure):
+    _fields_ = [("first", _Verdict), ("second", _Verdict)]
+
+
 _BOOK = [ctypes.c_char_p, ctypes.c_size_t]
 _LISTS = [ctypes.POINTER(ctypes.c_uint64), ctypes.c_size_t] * 4
 # How a buffer names numbers that may be unsigned and of 64 bits; its item size tells.
 _UNSIGNED = {order + letter for order in ("", "@", "=", "<") for letter in "QL"}
+# And signed.
+_SIGNED = {order + letter for order in ("", "@", "=", "<") for letter in "ql"}
 
 
 def _declared(name, reply, *more):
@@ -175,6 +181,7 @@ _READ = _declared("xaropinto_read", _ReadReply, *_LISTS)
 _WRITE = _LIBRARY.xaropinto_write
 _WRITE.restype = _WriteReply
 _WRITE.argtypes = [_Values, *_LISTS, ctypes.POINTER(ctypes.c_uint8), ctypes.c_size_t]
+_FUNDS = _declared("xaropinto_funds", _FundsReply, *_BOOK, *_BOOK, ctypes.POINTER(ctypes.c_int64), ctypes.c_size_t)
 
 
 def check(book):
@@ -289,6 +296,18 @@ def read(book, counts, lapses, premiums, claims):
     return ReadReply(reply.refusal, reply.place, values)
 
 
+def funds(table, first, second, numbers):
+    """Two funds on the same tables: the verdict of each.
+
+    The table file and the fund files are taken as books are. `numbers` is one row of signed 64-bit numbers that can
+    be written, such as an `array.array("q")`, and starts at a multiple of 8 bytes. Where accepted, the first fund's
+    totals come in numbers 0 to 7, the second's in 8 to 15; all others stay as they were.
+    """
+    lent = _lent_signed(numbers)
+    reply = _FUNDS(*_lent_book(table), *_lent_book(first), *_lent_book(second), lent, len(lent))
+    return tuple(Verdict(each.refusal, each.place, each.n) for each in (reply.first, reply.second))
+
+
 def _lent_values(values):
     """The values in C's form; each table has the length that it must have, and each number fits."""
     lent = _Values(edition=_word(values.edition), year=_word(values.year))
@@ -327,10 +346,23 @@ def _lent_table(table):
     view = memoryview(table)
     if view.ndim != 1 or view.itemsize != 8 or view.format not in _UNSIGNED:
         raise TypeError("the table must be one row of unsigned 64-bit numbers")
+    return _lent_words(view, ctypes.c_uint64)
+
+
+def _lent_signed(numbers):
+    """The same of signed numbers."""
+    view = memoryview(numbers)
+    if view.ndim != 1 or view.itemsize != 8 or view.format not in _SIGNED:
+        raise TypeError("the numbers must be one row of signed 64-bit numbers")
+    return _lent_words(view, ctypes.c_int64)
+
+
+def _lent_words(view, kind):
+    """A row's own words of 64 bits."""
     if len(view) == 0:
         # An empty buffer may stand anywhere.
-        return (ctypes.c_uint64 * 0)()
-    numbers = (ctypes.c_uint64 * len(view)).from_buffer(view)
+        return (kind * 0)()
+    numbers = (kind * len(view)).from_buffer(view)
     if ctypes.addressof(numbers) % 8 != 0:
         raise ValueError("the table must start at a multiple of 8 bytes")
     return numbers

@@ -86,6 +86,12 @@ pub struct ReadReply {
     pub values: Values,
 }
 
+#[repr(C)]
+pub struct FundsReply {
+    pub first: Verdict,
+    pub second: Verdict,
+}
+
 extern "C" {
     pub fn xaropinto_check(book: *const u8, length: usize) -> Verdict;
 
@@ -142,4 +148,15 @@ extern "C" {
         claims: *mut u64,
         claims_length: usize,
     ) -> ReadReply;
+
+    pub fn xaropinto_funds(
+        table: *const u8,
+        table_length: usize,
+        first: *const u8,
+        first_length: usize,
+        second: *const u8,
+        second_length: usize,
+        numbers: *mut i64,
+        count: usize,
+    ) -> FundsReply;
 }

@@ -14,6 +14,7 @@ use boundary::{
     xaropinto_check, xaropinto_convert, xaropinto_cost_rates, xaropinto_group, xaropinto_read,
     xaropinto_record, xaropinto_totals, xaropinto_write,
 };
+use boundary::{xaropinto_funds, Verdict};
 use boundary::{xaropinto_report, xaropinto_report_room};
 
 /// The first rule that is broken, and the byte of the book where; 0 where none is named.
@@ -218,6 +219,38 @@ pub fn read(
     };
     unless_refused(reply.refusal, reply.place)?;
     Ok(reply.values)
+}
+
+/// Two funds on the same tables: each fund's own reply.
+///
+/// The table file is bytes 56 to 1,219 of a book, a fund file bytes 0 to 55 and the records. Where a
+/// fund is accepted, the eight totals of the book that its file and the table file make together come
+/// in numbers 0 to 7 for the first, 8 to 15 for the second. All others stay as they were.
+pub fn funds(
+    table: &[u8],
+    first: &[u8],
+    second: &[u8],
+    numbers: &mut [i64],
+) -> [Result<Accepted, Refusal>; 2] {
+    // SAFETY: as in `group`; the files are only read.
+    let reply = unsafe {
+        xaropinto_funds(
+            table.as_ptr(),
+            table.len(),
+            first.as_ptr(),
+            first.len(),
+            second.as_ptr(),
+            second.len(),
+            numbers.as_mut_ptr(),
+            numbers.len(),
+        )
+    };
+    [reply.first, reply.second].map(accepted)
+}
+
+fn accepted(verdict: Verdict) -> Result<Accepted, Refusal> {
+    unless_refused(verdict.refusal, verdict.place)?;
+    Ok(Accepted { n: verdict.n })
 }
 
 fn unless_refused(number: u64, place: u64) -> Result<(), Refusal> {

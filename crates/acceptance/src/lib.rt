@@ -82,7 +82,7 @@ pub fn check_on(b: &[u8], basis: usize) -> Verdict
     if b.len() < HEADER_SIZE {
         return Verdict::Refused(1, b.len());
     }
-    let header = front::check_header(b, basis);
+    let header = front::check_header(b, b.len(), basis);
     let tables = front::check_tables(b);
     let v = header.and_then(tables);
     let Verdict::Accepted(_) = v else {

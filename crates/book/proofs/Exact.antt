@@ -90,7 +90,7 @@ by-edition-good basis b h =
     rw (ne-eqb (edition b) 2 other) (need-good _ _ _ (eq-eqb _ _ (h .spare (omega arith)))))
     (eq-or-lt-of-le (h .edition-high))
 
-header-good : (basis : ℕ) (b : List ℕ) → HeaderRules basis b → checkHeader basis b ≡ Accepted 0
+header-good : (basis : ℕ) (b : List ℕ) → HeaderRules basis b → checkHeader basis (length b) b ≡ Accepted 0
 unfolding checkHeader
 header-good basis b h =
     then-good _ _ _ _

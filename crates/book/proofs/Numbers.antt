@@ -77,9 +77,9 @@ module _ (last : ℕ) where
     unfolding checkByEdition checkPercents checkSpare
     by-edition = by-pick (eqb (edition b) 2) _ _ (by-test _ 23 7 tt _ (by-need _ 23 6 tt)) (by-need _ 4 6 tt)
 
-    by-header : (basis : ℕ) → Numbered last (checkHeader basis b)
+    by-header : (basis size : ℕ) → Numbered last (checkHeader basis size b)
     unfolding checkHeader
-    by-header basis =
+    by-header basis size =
         by-test _ 5 _ tt _
         (by-then _ _
         (by-test _ 4 4 tt _
@@ -145,7 +145,7 @@ unfolding checkBook checkChains
 numbered b basis =
     let last = lastClass basis in
     by-then last _ _
-    (by-then last _ _ (by-then last _ _ (by-need last _ 1 _ tt) (by-header last b basis)) (by-tables last b))
+    (by-then last _ _ (by-then last _ _ (by-need last _ 1 _ tt) (by-header last b basis _)) (by-tables last b))
     (by-all last _ _ 0 (by-chain last b))
 
 -- refusal 0 is acceptance

@@ -1,10 +1,12 @@
--- Lists that agree in a record, or in what stands before the records, have the same fields there. Assumes nothing.
+-- Lists that agree in a record, or in what stands before the records, have the same fields there, and the same check of
+-- the header. Assumes nothing.
 use mathlib.Core.Path.{_≡_}
 use mathlib.Core.List.{List}
 use Prim.Native.Nat.{ℕ, _+_, _-_, _<_, _≤_}
 use native.Mathlib.Omega.{arith}
 use Rattle.field.proofs.Same.{Same, u16-same, u32-same}
 use Rattle.book.specs.Layout.{headerSize, recordSize, chains, records, headPlace, headOf, recordAt, sexOf, classOf, nextOf, fieldOf, linkAt}
+use Rattle.book.specs.Check.{checkSpare, checkPercents, checkByEdition, checkHeader}
 use Rattle.book.specs.Rules.{SameButUnlinked}
 
 -- record i has the same bytes in both
@@ -26,6 +28,20 @@ module _ (b b′ : List ℕ) (i : ℕ) (same : SameRecord b b′ i) where
   pub field-of-same : (offset : ℕ) → offset + 4 ≤ recordSize → fieldOf b i offset ≡ fieldOf b′ i offset
   unfolding fieldOf
   field-of-same offset inside = u32-same b b′ _ _ same (recordAt i + offset) (omega arith) (omega arith)
+
+-- the header's check reads the first eight bytes, and takes the length as it is told
+pub header-same : (b b′ : List ℕ) → Same b b′ 0 8 → (basis size : ℕ) → checkHeader basis size b ≡ checkHeader basis size b′
+unfolding checkHeader checkByEdition checkPercents checkSpare records
+header-same b b′ same basis size =
+    rw (
+      same 0 (omega arith) (omega arith),
+      same 1 (omega arith) (omega arith),
+      u16-same b b′ _ _ same 2 (omega arith) (omega arith),
+      u16-same b b′ _ _ same 4 (omega arith) (omega arith),
+      same 6 (omega arith) (omega arith),
+      same 7 (omega arith) (omega arith),
+      u16-same b b′ _ _ same 6 (omega arith) (omega arith),
+    )
 
 module _ (b b′ : List ℕ) (s : SameButUnlinked b b′) where
   pub front-same : Same b b′ 0 headerSize

@@ -7,17 +7,18 @@ use native.Mathlib.Nat.{pos-of-ne-zero}
 use native.Mathlib.Omega.{arith}
 use borrow.Author.Tests.{eqb-true, eqb-false, ne-eqb}
 use lib.Dec.{leb, eqb}
+use lib.ListN.{length}
 use Rattle.field.specs.Verdicts.{pick, _andThen_, need, plus, refusalOf, placeOf}
 use Rattle.field.specs.declared.Verdict.{Verdict}
 use Rattle.field.specs.declared.Verdict.the-variants.{Accepted, Refused}
 use Rattle.field.proofs.Verdicts.{all-same}
 use Rattle.field.proofs.Same.{u16-same, field-same, fields-same}
 use Rattle.book.specs.Layout.{lastClass, chains, records, headPlace, headOf, costPlace, curvePlace, mortalityPlace, mostRate, curveLift, curveSpan, recordAt, classOf, nextOf, linkFrom, linkAt}
-use Rattle.book.specs.Check.{checkSpare, checkPercents, checkByEdition, checkHeader, checkTables, checkOwner, checkClass, checkAmounts, endsRight, checkLink, checkFrom, checkChain, checkChains, checkBook}
+use Rattle.book.specs.Check.{checkTables, checkOwner, checkClass, checkAmounts, endsRight, checkLink, checkFrom, checkChain, checkChains, checkBook}
 use Rattle.book.specs.Cells.{holds}
 use Rattle.book.specs.Rules.{SameButUnlinked}
 use Rattle.book.proofs.Links.{link-next}
-use Rattle.book.proofs.Same.{SameRecord, class-same, next-same, field-of-same, front-same, count-same, head-same, record-same}
+use Rattle.book.proofs.Same.{SameRecord, class-same, next-same, field-of-same, front-same, count-same, head-same, record-same, header-same}
 
 -- a verdict that refuses, and what comes after it
 abbrev Refuses : Verdict → Type 0
@@ -106,20 +107,6 @@ module _ (b b′ : List ℕ) (last k : ℕ) (count : records b ≡ records b′)
           rw (count, class-same b b′ (headOf b k) (same 0 some), from-same (last - classOf b′ (headOf b k)) (headOf b k) some same)
 
 module _ (b b′ : List ℕ) (s : SameButUnlinked b b′) where
-  header-same : (basis : ℕ) → checkHeader basis b ≡ checkHeader basis b′
-  unfolding checkHeader checkByEdition checkPercents checkSpare
-  header-same basis =
-      rw (
-        front-same b b′ s 0 (omega arith) (omega arith),
-        front-same b b′ s 1 (omega arith) (omega arith),
-        u16-same b b′ _ _ (front-same b b′ s) 2 (omega arith) (omega arith),
-        front-same b b′ s 6 (omega arith) (omega arith),
-        front-same b b′ s 7 (omega arith) (omega arith),
-        u16-same b b′ _ _ (front-same b b′ s) 6 (omega arith) (omega arith),
-        count-same b b′ s,
-        s .size,
-      )
-
   tables-same : checkTables b ≡ checkTables b′
   unfolding checkTables
   tables-same =
@@ -134,7 +121,7 @@ module _ (b b′ : List ℕ) (s : SameButUnlinked b b′) where
   unlinked-same basis =
       rw (
         s .size,
-        header-same basis,
+        header-same b b′ (λ p lo hi. s .front p (omega arith)) basis (length b′),
         tables-same,
         all-same (checkChain b (lastClass basis)) (checkChain b′ (lastClass basis)) chains 0
             (λ k lo hi. chain-same b b′ (lastClass basis) k (count-same b b′ s) (head-same b b′ s k (omega arith)) (λ j l. record-same b b′ s k j (omega arith) l)),

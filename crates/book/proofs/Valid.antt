@@ -5,6 +5,7 @@ use Prim.Native.Nat.{ℕ, zero, suc, _+_, _-_, _<_, _≤_, zero-le}
 use native.Mathlib.Nat.{pos-of-ne-zero, sub-zero}
 use native.Mathlib.Numerals.{add-one}
 use native.Mathlib.Omega.{arith}
+use lib.ListN.{length}
 use borrow.Author.Tests.{leb-true, eqb-true, eq-eqb, ne-eqb}
 use Rattle.field.specs.declared.Verdict.the-variants.{Accepted}
 use Rattle.field.proofs.Verdicts.{need-true, then-left, then-right, plus-right, all-each}
@@ -98,7 +99,7 @@ module _ (b : List ℕ) (n : ℕ) (e : checkByEdition b ≡ Accepted n) where
       (omega (arith, women .0), omega (arith, women .1))
   percent-rule two (suc (suc sex)) h = absurd (omega arith)
 
-header-rules : (basis : ℕ) (b : List ℕ) (n : ℕ) → checkHeader basis b ≡ Accepted n → HeaderRules basis b
+header-rules : (basis : ℕ) (b : List ℕ) (n : ℕ) → checkHeader basis (length b) b ≡ Accepted n → HeaderRules basis b
 unfolding checkHeader
 header-rules basis b n e =
     let h₅ = then-left _ _ _ e in

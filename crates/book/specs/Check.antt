@@ -27,15 +27,16 @@ checkPercents b =
 unfoldable pub checkByEdition : List ℕ → Verdict
 checkByEdition b = pick (eqb (edition b) 2) (checkPercents b) (checkSpare b)
 
--- 2 neither edition, 3 age basis, 4 year and N, 4 or 23 bytes 6 and 7, 5 the length that N asks for
-unfoldable pub checkHeader : ℕ → List ℕ → Verdict
-checkHeader basis b =
+-- 2 neither edition, 3 age basis, 4 year and N, 4 or 23 bytes 6 and 7, 5 the length that N asks for. size is the length
+-- of the book that begins with these bytes.
+unfoldable pub checkHeader : ℕ → ℕ → List ℕ → Verdict
+checkHeader basis size b =
     need (within 1 2 (edition b)) 2 0 andThen
     need (eqb (ageBasis b) basis) 3 1 andThen
     need (within firstYear lastYear (sstYear b)) 4 2 andThen
     need (leb (records b) mostRecords) 4 4 andThen
     checkByEdition b andThen
-    need (eqb (length b) (headerSize + recordSize * records b)) 5 (length b)
+    need (eqb size (headerSize + recordSize * records b)) 5 size
 
 -- 6 the five cost rates, 7 the curve's 49 rates, 8 the 242 of mortality
 unfoldable pub checkTables : List ℕ → Verdict
@@ -103,6 +104,6 @@ checkChains b last = joinAll (checkChain b last) 0 chains
 unfoldable pub checkBook : ℕ → List ℕ → Verdict
 checkBook basis b =
     need (leb headerSize (length b)) 1 (length b) andThen
-    checkHeader basis b andThen
+    checkHeader basis (length b) b andThen
     checkTables b andThen
     checkChains b (lastClass basis)

@@ -15,6 +15,10 @@ recordSize = 24
 abbrev pub mostRecords : ℕ
 mostRecords = 1694
 
+-- the longest book
+abbrev pub mostSize : ℕ
+mostSize = headerSize + recordSize * mostRecords
+
 -- The last class of an age basis: 120 on basis 1, where a class is the SST year less birth year less 1 (FINMA 4.3);
 -- 121 on basis 2, where it is the SST year less birth year (W-204).
 abbrev pub lastClass : ℕ → ℕ

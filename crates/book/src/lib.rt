@@ -15,6 +15,9 @@ pub const RECORD_SIZE: usize = 24;
 
 pub const MOST_RECORDS: usize = 1694;
 
+// The longest book.
+pub const MOST_SIZE: usize = HEADER_SIZE + RECORD_SIZE * MOST_RECORDS;
+
 pub const FIRST_YEAR: usize = 2017;
 
 pub const LAST_YEAR: usize = 2100;

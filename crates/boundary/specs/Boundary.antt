@@ -2,6 +2,7 @@
 use mathlib.Core.Path.{_≡_}
 use mathlib.Core.List.{List}
 use Prim.Native.Nat.{ℕ}
+use lib.IntN.{ℤ}
 use lib.ListN.{length}
 use Rattle.field.specs.Verdicts.{refusalOf, placeOf, countOf}
 use Rattle.field.specs.declared.Verdict.{Verdict}
@@ -14,10 +15,13 @@ use Rattle.year_report.specs.declared.ReportReply.{ReportReply}
 use Rattle.contents.specs.Contents.{Contents}
 use Rattle.contents.specs.Promises.{writeRefusal, writePlace, writeLength, writeReply as bookReply, WritePromised}
 use Rattle.contents.specs.declared.WriteReply.{WriteReply}
+use Rattle.funds.specs.Funds.{fundsReply, FundsPromised}
+use Rattle.funds.specs.declared.FundsReply.{FundsReply}
 use Rattle.boundary.specs.declared.VerdictFields.{VerdictFields}
 use Rattle.boundary.specs.declared.GroupFields.{GroupFields}
 use Rattle.boundary.specs.declared.ReportFields.{ReportFields}
 use Rattle.boundary.specs.declared.WriteFields.{WriteFields}
+use Rattle.boundary.specs.declared.FundsFields.{FundsFields}
 
 -- a verdict: the paper's number and place of a refusal, and n
 abbrev pub verdictFields : Verdict → VerdictFields
@@ -59,3 +63,12 @@ writeFields r = record { refusal = writeRefusal r; place = writePlace r; length 
 pub record WriteHanded (v : Contents) (before after : List ℕ) (r : WriteFields) : Type 0 where
   pub fields-are : r ≡ writeFields (bookReply v (length before))
   pub promised : WritePromised v before after (bookReply v (length before))
+
+-- both funds' verdicts
+abbrev pub fundsFields : FundsReply → FundsFields
+fundsFields r = record { first = verdictFields (r .first); second = verdictFields (r .second) }
+
+-- both funds across the boundary, likewise
+pub record FundsHanded (table first second : List ℕ) (before after : List ℤ) (r : FundsFields) : Type 0 where
+  pub fields-are : r ≡ fundsFields (fundsReply (length before) table first second)
+  pub promised : FundsPromised table first second before after (fundsReply (length before) table first second)

@@ -1,5 +1,6 @@
 // The C boundary: the calls under their plain names, for C, Rust and Python; include/xaropinto.h declares them.
-// A slice is a pointer and a length there. No call leans on an earlier one, and a refusal changes nothing that is lent.
+// A slice is a pointer and a length there. No call leans on an earlier one, and a refusal changes nothing that is lent;
+// of two funds, nothing of the refused one's half.
 ghost use mathlib.Core.Path.{_≡_};
 ghost use Rattle.book.specs.Check.{checkBook};
 ghost use Rattle.look.specs.Looker.{locatedIn};
@@ -9,6 +10,7 @@ ghost use Rattle.contents.specs.Contents.{given};
 ghost use Rattle.contents.specs.Promises.{ReadPromised};
 ghost use Rattle.boundary.specs.Boundary.{verdictFields, GroupHanded, ConvertHanded, WriteHanded};
 ghost use Rattle.boundary.specs.Boundary.{reportFields, ReportHanded, RoomHanded};
+ghost use Rattle.boundary.specs.Boundary.{FundsHanded};
 use accounts::Accounts;
 use accounts::CostRates;
 use contents::ReadReply;
@@ -204,4 +206,30 @@ pub extern "C" fn xaropinto_read(
         (now (claims .exit)) r ⌝ }
 {
     reader::read(book, counts, lapses, premiums, claims)
+}
+
+// Both funds' verdicts in fields.
+#[repr(C)]
+pub struct FundsFields {
+    pub first: VerdictFields,
+    pub second: VerdictFields,
+}
+
+#[no_mangle]
+pub extern "C" fn xaropinto_funds(
+    table: &[u8],
+    first: &[u8],
+    second: &[u8],
+    numbers: &mut [i64],
+) -> FundsFields
+    ensures { λ r. ⌜ FundsHanded (now (table .entry)) (now (first .entry)) (now (second .entry))
+        (now (numbers .entry)) (now (numbers .exit)) r ⌝ }
+{
+    let reply = funds::funds(table, first, second, numbers);
+    let of_first = reply.first;
+    let of_second = reply.second;
+    FundsFields {
+        first: in_fields(of_first),
+        second: in_fields(of_second),
+    }
 }

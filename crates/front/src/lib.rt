@@ -50,10 +50,10 @@ fn check_by_edition(b: &[u8]) -> Verdict
     }
 }
 
-// Refusals 2 to 5, and 23.
-pub fn check_header(b: &[u8], basis: usize) -> Verdict
+// Refusals 2 to 5, and 23, of a book of `size` bytes that begins with these.
+pub fn check_header(b: &[u8], size: usize, basis: usize) -> Verdict
     requires { ⌜ headerSize ≤ length (now b) ⌝ }
-    ensures { λ r. ⌜ r ≡ checkHeader basis (now (b .entry)) ⌝ }
+    ensures { λ r. ⌜ r ≡ checkHeader basis size (now (b .entry)) ⌝ }
 {
     let edition = book::edition(b);
     let age_basis = field::read_u8(b, 1);
@@ -64,7 +64,7 @@ pub fn check_header(b: &[u8], basis: usize) -> Verdict
         .require(field::within(FIRST_YEAR, LAST_YEAR, year), 4, 2)
         .require(count <= MOST_RECORDS, 4, 4)
         .and_then(check_by_edition(b))
-        .require(b.len() == HEADER_SIZE + RECORD_SIZE * count, 5, b.len())
+        .require(size == HEADER_SIZE + RECORD_SIZE * count, 5, size)
 }
 
 // Refusals 6 to 8.

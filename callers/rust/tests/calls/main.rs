@@ -3,6 +3,7 @@
 mod accounts;
 mod desk;
 mod differential;
+mod funds;
 mod replies;
 mod report;
 mod threads;

@@ -2,6 +2,7 @@
 use mathlib.Core.Path.{_≡_, sym, _∙_}
 use native.Mathlib.Omega.{arith}
 use borrow.Author.Needs.{needs}
+use lib.ListN.{length}
 use Rattle.field.specs.Verdicts.{_andThen_}
 use Rattle.field.proofs.Verdicts.{then-left}
 use Rattle.book.specs.Check.{checkHeader, checkTables}
@@ -10,7 +11,7 @@ use Rattle.acceptance.proofs.check_on.Statement.{statement}
 use Rattle.acceptance.proofs.check_on.Tie as tie
 
 -- what the header and the tables say together
-stages : (c : tie.After-and-then) → c .and-then .result ≡ (checkHeader (c .before .before .before .before .before .args .basis) (c .before .before .before .before .before .args .b .now) andThen checkTables (c .before .before .before .before .before .args .b .now))
+stages : (c : tie.After-and-then) → c .and-then .result ≡ (checkHeader (c .before .before .before .before .before .args .basis) (length (c .before .before .before .before .before .args .b .now)) (c .before .before .before .before .before .args .b .now) andThen checkTables (c .before .before .before .before .before .args .b .now))
 stages c = rw (c .and-then .ensures, c .before .check-tables .ensures, c .before .before .check-header .ensures)
 
 returns : tie.Need-returns

@@ -1,0 +1,98 @@
+-- Two funds on the same tables (W-208): the book that a fund file and the table file make together, each fund's reply
+-- and half, and the lent numbers afterwards. What is said of a joined book is what Totals says of it.
+use Prim.Native.Nat.{ℕ, _+_, _-_, _<_}
+use mathlib.Core.Path.{_≡_}
+use mathlib.Core.List.{List, _++_}
+use lib.Dec.{leb, eqb}
+use lib.IntN.{ℤ, pos}
+use lib.ListN.{length, getD, take, drop}
+use Rattle.field.specs.Verdicts.{pick, need, _andThen_}
+use Rattle.field.specs.declared.Verdict.{Verdict}
+use Rattle.field.specs.declared.Verdict.the-variants.{Accepted, Refused}
+use Rattle.book.specs.Layout.{headerSize, curvePlace}
+use Rattle.reckoning.specs.Bounds.{Within}
+use Rattle.reckoning.specs.Promises.{totalDistanceOf}
+use Rattle.reckoning.specs.Totals.{exactTotalOf, totalsReply}
+use Rattle.reckoning.specs.declared.TotalsReply.{TotalsReply}
+use Rattle.funds.specs.declared.FundsReply.{FundsReply}
+
+-- sizes: what a fund file has before its records, bytes 0 to 55 of a book; and the table file, bytes 56 to 1,219
+abbrev pub frontSize : ℕ
+frontSize = curvePlace
+
+abbrev pub tableSize : ℕ
+tableSize = headerSize - curvePlace
+
+-- a fund's joined book: the first 56 bytes of its file, the table file, the rest of its file
+unfoldable pub joinedBook : List ℕ → List ℕ → List ℕ
+joinedBook table fund = take frontSize fund ++ table ++ drop frontSize fund
+
+-- what a reply of Totals tells: n, or the refusal
+abbrev pub verdictIn : TotalsReply → Verdict
+verdictIn reply = pick (eqb (reply .refusal) 0) (Accepted (reply .n)) (Refused (reply .refusal) (reply .place))
+
+-- for both funds, where so many numbers are lent: 16 under 16 of them, 24 a table file of another size
+unfoldable pub checkLent : ℕ → List ℕ → Verdict
+checkLent numbers table =
+    need (leb 16 numbers) 16 0 andThen
+    need (eqb (length table) tableSize) 24 0
+
+-- A fund's reply: that; 1 where its file ends before the records begin (place: the file's own length); then what Totals
+-- tells of its joined book.
+unfoldable pub fundReply : ℕ → List ℕ → List ℕ → Verdict
+fundReply numbers table fund =
+    checkLent numbers table andThen
+    need (leb frontSize (length fund)) 1 (length fund) andThen
+    verdictIn (totalsReply (joinedBook table fund))
+
+-- a fund's half afterwards: the eight totals of its joined book; as it was where refused
+abbrev pub halfFor : Verdict → List ℤ → List ℤ → List ℤ
+halfFor (Accepted n) totals half = totals
+halfFor (Refused number place) totals half = half
+
+unfoldable pub fundHalf : ℕ → List ℕ → List ℕ → List ℤ → List ℤ
+fundHalf numbers table fund half =
+    halfFor (fundReply numbers table fund) (totalsReply (joinedBook table fund) .totals) half
+
+-- both replies
+unfoldable pub fundsReply : ℕ → List ℕ → List ℕ → List ℕ → FundsReply
+fundsReply numbers table first second = record {
+  first = fundReply numbers table first;
+  second = fundReply numbers table second;
+}
+
+-- the halves of the lent numbers: 0 to 7, and 8 to 15
+abbrev pub firstHalf : List ℤ → List ℤ
+firstHalf numbers = take 8 numbers
+
+abbrev pub secondHalf : List ℤ → List ℤ
+secondHalf numbers = take 8 (drop 8 numbers)
+
+-- the lent numbers afterwards: each fund's half, then what stood there
+unfoldable pub fundsNumbers : List ℕ → List ℕ → List ℕ → List ℤ → List ℤ
+fundsNumbers table first second before =
+    fundHalf (length before) table first (firstHalf before) ++
+    fundHalf (length before) table second (secondHalf before) ++
+    drop 16 before
+
+-- What the call promises: replies and lent numbers equal their definitions; and, for each accepted fund, demand 3.
+pub record FundsPromised (table first second : List ℕ) (before after : List ℤ) (reply : FundsReply) : Type 0 where
+  pub reply-is : reply ≡ fundsReply (length before) table first second
+  pub numbers-are : after ≡ fundsNumbers table first second before
+  -- each total within 500 n + 14,250 centimes of the exact value, n being that of the fund's reply
+  pub first-distance : (setting n : ℕ) → setting < 8 → reply .first ≡ Accepted n
+      → Within (totalDistanceOf n) (getD after setting (pos 0)) (exactTotalOf (joinedBook table first) setting)
+  pub second-distance : (setting n : ℕ) → setting < 8 → reply .second ≡ Accepted n
+      → Within (totalDistanceOf n) (getD after (8 + setting) (pos 0)) (exactTotalOf (joinedBook table second) setting)
+
+-- Neither fund bears on the other: whatever changes in one fund's file, with the same table file and the same lent
+-- numbers, the other's reply and half are alike.
+pub record FirstApart (table first : List ℕ) (before : List ℤ) (second second′ : List ℕ) : Type 0 where
+  pub reply-alike : fundsReply (length before) table first second .first
+      ≡ fundsReply (length before) table first second′ .first
+  pub half-alike : firstHalf (fundsNumbers table first second before) ≡ firstHalf (fundsNumbers table first second′ before)
+
+pub record SecondApart (table second : List ℕ) (before : List ℤ) (first first′ : List ℕ) : Type 0 where
+  pub reply-alike : fundsReply (length before) table first second .second
+      ≡ fundsReply (length before) table first′ second .second
+  pub half-alike : secondHalf (fundsNumbers table first second before) ≡ secondHalf (fundsNumbers table first′ second before)

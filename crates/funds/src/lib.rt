@@ -1,0 +1,112 @@
+// The call for two funds on the same tables: both replies, and both funds' eight totals in a lent buffer.
+// A fund is reckoned as the book that its file and the table file make together; neither fund's refusal holds back the
+// other.
+ghost use mathlib.Core.Path.{_≡_};
+ghost use mathlib.Core.List.{_++_};
+ghost use Prim.Native.Nat.{_+_, _≤_};
+ghost use lib.ListN.{length, take, drop};
+ghost use Rattle.book.specs.Layout.{mostSize};
+ghost use Rattle.reckoning.specs.Totals.{TotalsPromised};
+ghost use Rattle.text.specs.Text.{Wrote};
+ghost use Rattle.funds.specs.Funds.{frontSize, tableSize, joinedBook, checkLent, FundsPromised};
+ghost use Rattle.funds.specs.Reckoned.{FundReckoned};
+use book::CURVE_PLACE;
+use book::HEADER_SIZE;
+use book::MOST_SIZE;
+use field::Verdict;
+use reckoning::TotalsReply;
+use text::put_bytes;
+
+// What a fund file has before its records.
+pub const FRONT_SIZE: usize = CURVE_PLACE;
+
+// The table file.
+pub const TABLE_SIZE: usize = HEADER_SIZE - CURVE_PLACE;
+
+// Each accepted with n, or refused.
+pub struct FundsReply {
+    pub first: Verdict,
+    pub second: Verdict,
+}
+
+// Writes a fund's joined book from the start of a lent buffer, and answers its length.
+fn join(book: &mut [u8], table: &[u8], fund: &[u8]) -> usize
+    requires { ⌜ frontSize ≤ length (now fund) ⌝ }
+    ensures { λ r. ⌜ Wrote (now (book .entry)) 0 (joinedBook (now (table .entry)) (now (fund .entry)))
+        (now (book .exit)) r ⌝ }
+{
+    let table_at = put_bytes(book, 0, &fund[..FRONT_SIZE]);
+    let records_at = put_bytes(book, table_at, table);
+    put_bytes(book, records_at, &fund[FRONT_SIZE..])
+}
+
+// Totals of a fund's joined book, where it is no longer than a book can be.
+fn joined_totals(table: &[u8], fund: &[u8]) -> TotalsReply
+    requires { ⌜ (frontSize ≤ length (now fund)) × (length (now fund) + length (now table) ≤ mostSize) ⌝ }
+    ensures { λ r. ⌜ TotalsPromised (joinedBook (now (table .entry)) (now (fund .entry))) r ⌝ }
+{
+    let mut book = book::room();
+    let size = join(&mut book, table, fund);
+    totals::totals(&book[..size])
+}
+
+// The eight totals, in the numbers from `at` on.
+fn put_totals(numbers: &mut [i64], at: usize, totals: [i64; 8])
+    requires { ⌜ at + 8 ≤ length (now numbers) ⌝ }
+    ensures { λ _. let before = now (numbers .entry) in
+        ⌜ now (numbers .exit) ≡ take at before ++ totals ++ drop (at + 8) before ⌝ }
+{
+    for setting in 0usize..8 {
+        numbers[at + setting] = totals[setting];
+    }
+}
+
+// One fund: its reply, and its half in the eight numbers from `at` on.
+fn reckon_fund(table: &[u8], fund: &[u8], numbers: &mut [i64], at: usize) -> Verdict
+    requires { ⌜ (16 ≤ length (now numbers)) × (length (now table) ≡ tableSize) × (at + 8 ≤ length (now numbers)) ⌝ }
+    ensures { λ r. ⌜ FundReckoned (now (table .entry)) (now (fund .entry)) at (now (numbers .entry))
+        (now (numbers .exit)) r ⌝ }
+{
+    if fund.len() < FRONT_SIZE {
+        return Verdict::Refused(1, fund.len());
+    }
+    let size = fund.len() + TABLE_SIZE;
+    // No book is so long: its header refuses it, and the fund file begins with the header.
+    if MOST_SIZE < size {
+        return front::check_header(fund, size, 1);
+    }
+    let reply = joined_totals(table, fund);
+    if reply.refusal == 0 {
+        let totals = reply.totals;
+        put_totals(numbers, at, totals);
+        return Verdict::Accepted(reply.n);
+    }
+    Verdict::Refused(reply.refusal, reply.place)
+}
+
+// What is tested for both funds.
+fn check_lent(count: usize, table: &[u8]) -> Verdict
+    ensures { λ r. ⌜ r ≡ checkLent count (now (table .entry)) ⌝ }
+{
+    field::need(16 <= count, 16, 0).require(table.len() == TABLE_SIZE, 24, 0)
+}
+
+// The first fund's totals come in numbers 0 to 7, the second's in 8 to 15; a refused fund's stay as they were.
+pub fn funds(table: &[u8], first: &[u8], second: &[u8], numbers: &mut [i64]) -> FundsReply
+    ensures { λ r. ⌜ FundsPromised (now (table .entry)) (now (first .entry)) (now (second .entry))
+        (now (numbers .entry)) (now (numbers .exit)) r ⌝ }
+{
+    let v = check_lent(numbers.len(), table);
+    let Verdict::Accepted(_) = v else {
+        return FundsReply {
+            first: v,
+            second: v,
+        };
+    };
+    let first_reply = reckon_fund(table, first, numbers, 0);
+    let second_reply = reckon_fund(table, second, numbers, 8);
+    FundsReply {
+        first: first_reply,
+        second: second_reply,
+    }
+}
