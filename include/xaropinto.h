@@ -7,13 +7,14 @@
  * Buffers. The caller owns all that it lends. A call only reads the book. Group writes to numbers 0 to 199 of the
  * table, Report to the first bytes of its buffer, Convert to as many first bytes of `out` as the book has, Write to as
  * many as the book has that it makes, Read to as many first numbers of each list as the book has linked records, Funds
- * to numbers 0 to 7 and 8 to 15; nothing else is written. Accounts and values are handed over by value: no call sees
- * the caller's own. No call keeps a pointer after it returns, and none allocates.
+ * to numbers 0 to 7 and 8 to 15, In force to the first 50 of its numbers; nothing else is written. Accounts and values
+ * are handed over by value: no call sees the caller's own. No call keeps a pointer after it returns, and none
+ * allocates.
  *
  * Pointers. Each must be valid for its length and must not be null, also where the length is 0. The table, the lists
- * and the numbers of Funds must be aligned for uint64_t; a buffer of bytes may start anywhere. What is written must
- * overlap neither the book nor anything else that is lent at the time; lists that Write only reads may be one and the
- * same, and so may the files of Funds.
+ * and the numbers of Funds and In force must be aligned for uint64_t; a buffer of bytes may start anywhere. What is
+ * written must overlap neither the book nor anything else that is lent at the time; lists that Write only reads may be
+ * one and the same, and so may the files of Funds.
  *
  * Threads. Calls may run at the same time in several threads. While a call runs, no other thread may write to its
  * book or to lists that are only read, nor read or write what the call writes. Calls may share a book; each call that
@@ -59,6 +60,9 @@
  *   22       lists and buffers have their lengths        0                           caller
  *   23       a percentage of edition 2 is 1 to 100       6 men, 7 women: the first   desk that writes the file
  *   24       the table file has 1,164 bytes              0                           desk that writes the file
+ *   25       the subgroup code is 1 to 7, the sex 0 or   0                           caller
+ *            1, and `out` has at least 50 numbers
+ *   26       the chain of code and sex has the class     0                           caller
  *
  * Where several rules are broken, the reply names one. 14 to 16 are tested first, in this order; then 1 to 8, also in
  * order, and where a number has several places it is given with the lowest. 23 is tested in edition 2 where 4 looks at
@@ -73,6 +77,8 @@
  *
  * Funds refuses each fund by itself, save for 16 and 24, which are both funds' and come first, in this order. Then a
  * fund file of under 56 bytes is 1 with its own length; any other is refused as its joined book, with places there.
+ *
+ * In force gives 14, then 25, then the refusals of the book, then 26.
  */
 #ifndef XAROPINTO_H
 #define XAROPINTO_H
@@ -118,6 +124,8 @@
 
 /* The numbers that Group writes: four for each of fifty years. */
 #define XAROPINTO_TABLE_NUMBERS 200
+/* The numbers that In force writes: one for each of fifty years. */
+#define XAROPINTO_IN_FORCE_NUMBERS 50
 /* No report wants a longer buffer. */
 #define XAROPINTO_MOST_REPORT_BYTES 9525
 
@@ -222,6 +230,12 @@ typedef struct {
     xaropinto_verdict second;
 } xaropinto_funds_reply;
 
+/* What In force has to say beside its numbers. */
+typedef struct {
+    uint64_t refusal;
+    uint64_t place;
+} xaropinto_in_force_reply;
+
 /* Check: is this a book? Refusals 1 to 13 and 23. */
 xaropinto_verdict xaropinto_check(const uint8_t *book, size_t length);
 
@@ -291,6 +305,15 @@ xaropinto_read_reply xaropinto_read(const uint8_t *book, size_t length, uint64_t
 xaropinto_funds_reply xaropinto_funds(const uint8_t *table, size_t table_length, const uint8_t *first,
                                       size_t first_length, const uint8_t *second, size_t second_length,
                                       int64_t *numbers, size_t count);
+
+/* In force: what is left of one cell's contracts, year by year. Refusals 14, 25, then 1 to 13 and 23, then 26.
+ *
+ * The cell is the linked record of a subgroup code (1 to 7), a sex (0 men, 1 women) and a class; `numbers` is how many
+ * numbers `out` has. Where accepted, the first 50 become what is in force of it at k = 0 to 49 in the setting, in
+ * billionths of a contract: from its count on, each year those who neither die nor then lapse at the class reached,
+ * and at class 120 from then on. Numbers from the 51st on are as they were. */
+xaropinto_in_force_reply xaropinto_in_force(const uint8_t *book, size_t length, size_t setting, size_t code, size_t sex,
+                                            size_t age_class, uint64_t *out, size_t numbers);
 
 #ifdef __cplusplus
 }

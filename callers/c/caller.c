@@ -338,6 +338,30 @@ static int convert_refused(parameter_book book, size_t room, uint64_t refusal, u
     return holds;
 }
 
+/* The run of a cell of PG2 men begins like this; the other numbers of a longer memory are as they were. */
+static int in_force_begins(parameter_book book, size_t setting, size_t class, const uint64_t *due, size_t years)
+{
+    uint64_t *memory = marked_table(TABLE_SIZE);
+    xaropinto_in_force_reply reply = xaropinto_in_force(book.bytes, book.length, setting, PG2_MEN / 2 + 1, 0, class,
+                                                        memory, XAROPINTO_IN_FORCE_NUMBERS);
+    int holds = reply.refusal == 0 && reply.place == 0 && memcmp(memory, due, years * sizeof *due) == 0 &&
+                marks_stand(memory, XAROPINTO_IN_FORCE_NUMBERS, TABLE_SIZE);
+    free(memory);
+    return holds;
+}
+
+/* The refusal is given, and each number is as it was, also those that are not lent. */
+static int in_force_refused(parameter_book book, const size_t asked[4], size_t numbers, uint64_t refusal,
+                            uint64_t place)
+{
+    uint64_t *memory = marked_table(TABLE_SIZE);
+    xaropinto_in_force_reply reply = xaropinto_in_force(book.bytes, book.length, asked[0], asked[1], asked[2],
+                                                        asked[3], memory, numbers);
+    int holds = reply.refusal == refusal && reply.place == place && marks_stand(memory, 0, TABLE_SIZE);
+    free(memory);
+    return holds;
+}
+
 /* ---- tests ---- */
 
 static void test_sizes(void)
@@ -345,7 +369,8 @@ static void test_sizes(void)
     test("replies_have_no_gaps", sizeof(xaropinto_verdict) == 24 && sizeof(xaropinto_group_reply) == 32 &&
                                      sizeof(xaropinto_totals_reply) == 120 && sizeof(xaropinto_record_reply) == 32 &&
                                      sizeof(xaropinto_cost_rates_reply) == 56 && sizeof(xaropinto_report_reply) == 24 &&
-                                     sizeof(xaropinto_write_reply) == 24 && sizeof(xaropinto_read_reply) == 8 * 316);
+                                     sizeof(xaropinto_write_reply) == 24 && sizeof(xaropinto_read_reply) == 8 * 316 &&
+                                     sizeof(xaropinto_in_force_reply) == 16);
     test("accounts_have_no_gaps", sizeof(xaropinto_accounts) == 48 * sizeof(uint64_t));
     test("values_have_no_gaps", sizeof(xaropinto_values) == 314 * sizeof(uint64_t));
     test("both_verdicts_have_no_gap", sizeof(xaropinto_funds_reply) == 2 * sizeof(xaropinto_verdict));
@@ -1049,6 +1074,49 @@ static void test_fund_files(void)
     test("a_long_files_header_is_tested_first", file_refused(longest + 1, 3, 2, 0));
 }
 
+/* One cell on the screen: 0.565 x 0.8 of the contract is left after a year, then each year 0.913 x 0.95 of what was. */
+static void test_one_cell(void)
+{
+    static const uint64_t old[4] = {1000000000, 452000000, 392042200, 340037801};
+    /* lapse up: 0.565 x 0.74, then 0.913 x 0.935 */
+    static const uint64_t leaving[3] = {1000000000, 418100000, 356913155};
+    static const uint64_t none[XAROPINTO_IN_FORCE_NUMBERS] = {0};
+    uint64_t ten[XAROPINTO_IN_FORCE_NUMBERS];
+    for (size_t k = 0; k < XAROPINTO_IN_FORCE_NUMBERS; k++)
+        ten[k] = 10000000000u;
+    parameter_book book = very_old_book(), one = one_record_book();
+    test("in_force_from_year_0_and_on_at_class_120", in_force_begins(book, 0, LAST_CLASS - 1, old, 4));
+    test("in_force_goes_by_the_setting", in_force_begins(book, 3, LAST_CLASS - 1, leaving, 3));
+    test("in_force_of_no_contracts", in_force_begins(book, 0, LAST_CLASS, none, XAROPINTO_IN_FORCE_NUMBERS));
+    test("in_force_of_all_fifty_years", in_force_begins(one, 7, LAST_CLASS, ten, XAROPINTO_IN_FORCE_NUMBERS));
+    free(book.bytes);
+    free(one.bytes);
+}
+
+static void test_one_cell_refusals(void)
+{
+    parameter_book book = very_old_book(), zeros = blank(HEADER_SIZE);
+    size_t all = XAROPINTO_IN_FORCE_NUMBERS;
+    const size_t setting[4] = {8, 0, 2, 121}, no_code[4] = {0, 0, 0, 119}, code_8[4] = {0, 8, 0, 119};
+    const size_t high_code[4] = {0, HIGH_BIT + 4, 0, 119}, sex_2[4] = {0, 4, 2, 119}, held[4] = {0, 4, 0, 119};
+    const size_t below[4] = {0, 4, 0, 118}, above[4] = {0, 4, 0, 121}, high[4] = {0, 4, 0, HIGH_BIT + 119};
+    const size_t women[4] = {0, 4, 1, 119};
+    test("in_force_14_comes_first", in_force_refused(zeros, setting, 0, 14, 0));
+    test("in_force_code_out_of_range",
+         in_force_refused(zeros, no_code, all, 25, 0) && in_force_refused(zeros, code_8, all, 25, 0) &&
+             in_force_refused(zeros, high_code, all, 25, 0));
+    test("in_force_sex_out_of_range", in_force_refused(zeros, sex_2, all, 25, 0));
+    test("in_force_under_50_numbers",
+         in_force_refused(zeros, held, all - 1, 25, 0) && in_force_refused(book, held, 0, 25, 0));
+    test("in_force_book_before_26", in_force_refused(zeros, above, all, 2, 0));
+    test("in_force_chain_has_no_such_class",
+         in_force_refused(book, below, all, 26, 0) && in_force_refused(book, above, all, 26, 0) &&
+             in_force_refused(book, high, all, 26, 0));
+    test("in_force_chain_is_empty", in_force_refused(book, women, all, 26, 0));
+    free(book.bytes);
+    free(zeros.bytes);
+}
+
 int main(void)
 {
     test_sizes();
@@ -1076,6 +1144,8 @@ int main(void)
     test_read();
     test_funds();
     test_fund_files();
+    test_one_cell();
+    test_one_cell_refusals();
     printf("%d passed, %d failed\n", passed, failed);
     return failed != 0;
 }

@@ -95,6 +95,13 @@ class ReadReply(NamedTuple):
     values: Values
 
 
+class InForceReply(NamedTuple):
+    """Refusal 0 means that the numbers are filled."""
+
+    refusal: int
+    place: int
+
+
 class _Verdict(ctypes.Structure):
     _fields_ = [("refusal", ctypes.c_uint64), ("place", ctypes.c_uint64), ("n", ctypes.c_uint64)]
 
@@ -149,6 +156,10 @@ class _FundsReply(ctypes.Structure):
     _fields_ = [("first", _Verdict), ("second", _Verdict)]
 
 
+class _InForceReply(ctypes.Structure):
+    _fields_ = [("refusal", ctypes.c_uint64), ("place", ctypes.c_uint64)]
+
+
 _BOOK = [ctypes.c_char_p, ctypes.c_size_t]
 _LISTS = [ctypes.POINTER(ctypes.c_uint64), ctypes.c_size_t] * 4
 # How a buffer names numbers that may be unsigned and of 64 bits; its item size tells.
@@ -182,6 +193,8 @@ _WRITE = _LIBRARY.xaropinto_write
 _WRITE.restype = _WriteReply
 _WRITE.argtypes = [_Values, *_LISTS, ctypes.POINTER(ctypes.c_uint8), ctypes.c_size_t]
 _FUNDS = _declared("xaropinto_funds", _FundsReply, *_BOOK, *_BOOK, ctypes.POINTER(ctypes.c_int64), ctypes.c_size_t)
+_IN_FORCE = _declared("xaropinto_in_force", _InForceReply, *[ctypes.c_size_t] * 4,
+                      ctypes.POINTER(ctypes.c_uint64), ctypes.c_size_t)
 
 
 def check(book):
@@ -306,6 +319,17 @@ def funds(table, first, second, numbers):
     lent = _lent_signed(numbers)
     reply = _FUNDS(*_lent_book(table), *_lent_book(first), *_lent_book(second), lent, len(lent))
     return tuple(Verdict(each.refusal, each.place, each.n) for each in (reply.first, reply.second))
+
+
+def in_force(book, setting, code, sex, age_class, numbers):
+    """What is in force of one cell, year by year, in billionths of a contract.
+
+    The numbers are lent as a table is in `group`. Where accepted, the first 50 become those of the linked record of
+    this subgroup code, sex and class; all others stay as they were.
+    """
+    lent = _lent_table(numbers)
+    reply = _IN_FORCE(*_lent_book(book), _word(setting), _word(code), _word(sex), _word(age_class), lent, len(lent))
+    return InForceReply(reply.refusal, reply.place)
 
 
 def _lent_values(values):

@@ -92,6 +92,12 @@ pub struct FundsReply {
     pub second: Verdict,
 }
 
+#[repr(C)]
+pub struct InForceReply {
+    pub refusal: u64,
+    pub place: u64,
+}
+
 extern "C" {
     pub fn xaropinto_check(book: *const u8, length: usize) -> Verdict;
 
@@ -159,4 +165,15 @@ extern "C" {
         numbers: *mut i64,
         count: usize,
     ) -> FundsReply;
+
+    pub fn xaropinto_in_force(
+        book: *const u8,
+        length: usize,
+        setting: usize,
+        code: usize,
+        sex: usize,
+        age_class: usize,
+        out: *mut u64,
+        numbers: usize,
+    ) -> InForceReply;
 }

@@ -10,6 +10,7 @@ use std::fmt;
 
 pub use boundary::{Accounts, Values};
 
+use boundary::xaropinto_in_force;
 use boundary::{
     xaropinto_check, xaropinto_convert, xaropinto_cost_rates, xaropinto_group, xaropinto_read,
     xaropinto_record, xaropinto_totals, xaropinto_write,
@@ -251,6 +252,34 @@ pub fn funds(
 fn accepted(verdict: Verdict) -> Result<Accepted, Refusal> {
     unless_refused(verdict.refusal, verdict.place)?;
     Ok(Accepted { n: verdict.n })
+}
+
+/// What is in force of the linked record of a subgroup code, sex and class, year by year.
+///
+/// Where accepted, the first 50 numbers of `out` become billionths of a contract at k = 0 to 49. All
+/// others stay as they were.
+pub fn in_force(
+    book: &[u8],
+    setting: usize,
+    code: usize,
+    sex: usize,
+    age_class: usize,
+    out: &mut [u64],
+) -> Result<(), Refusal> {
+    // SAFETY: as in `group`.
+    let reply = unsafe {
+        xaropinto_in_force(
+            book.as_ptr(),
+            book.len(),
+            setting,
+            code,
+            sex,
+            age_class,
+            out.as_mut_ptr(),
+            out.len(),
+        )
+    };
+    unless_refused(reply.refusal, reply.place)
 }
 
 fn unless_refused(number: u64, place: u64) -> Result<(), Refusal> {

@@ -17,11 +17,13 @@ use Rattle.contents.specs.Promises.{writeRefusal, writePlace, writeLength, writ
 use Rattle.contents.specs.declared.WriteReply.{WriteReply}
 use Rattle.funds.specs.Funds.{fundsReply, FundsPromised}
 use Rattle.funds.specs.declared.FundsReply.{FundsReply}
+use Rattle.inforce.specs.Screen.{inForceCheck, InForcePromised}
 use Rattle.boundary.specs.declared.VerdictFields.{VerdictFields}
 use Rattle.boundary.specs.declared.GroupFields.{GroupFields}
 use Rattle.boundary.specs.declared.ReportFields.{ReportFields}
 use Rattle.boundary.specs.declared.WriteFields.{WriteFields}
 use Rattle.boundary.specs.declared.FundsFields.{FundsFields}
+use Rattle.boundary.specs.declared.InForceFields.{InForceFields}
 
 -- a verdict: the paper's number and place of a refusal, and n
 abbrev pub verdictFields : Verdict → VerdictFields
@@ -72,3 +74,14 @@ fundsFields r = record { first = verdictFields (r .first); second = verdictField
 pub record FundsHanded (table first second : List ℕ) (before after : List ℤ) (r : FundsFields) : Type 0 where
   pub fields-are : r ≡ fundsFields (fundsReply (length before) table first second)
   pub promised : FundsPromised table first second before after (fundsReply (length before) table first second)
+
+-- the reply of one cell on the screen
+abbrev pub inForceFields : Verdict → InForceFields
+inForceFields v = record { refusal = refusalOf v; place = placeOf v }
+
+-- one cell on the screen across the boundary, likewise
+pub record InForceHanded (b : List ℕ) (setting code sex class : ℕ) (before after : List ℕ)
+    (r : InForceFields) : Type 0 where
+  pub fields-are : r ≡ inForceFields (inForceCheck b setting code sex class (length before))
+  pub promised : InForcePromised b setting code sex class before after
+      (inForceCheck b setting code sex class (length before))

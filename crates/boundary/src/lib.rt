@@ -11,6 +11,7 @@ ghost use Rattle.contents.specs.Promises.{ReadPromised};
 ghost use Rattle.boundary.specs.Boundary.{verdictFields, GroupHanded, ConvertHanded, WriteHanded};
 ghost use Rattle.boundary.specs.Boundary.{reportFields, ReportHanded, RoomHanded};
 ghost use Rattle.boundary.specs.Boundary.{FundsHanded};
+ghost use Rattle.boundary.specs.Boundary.{InForceHanded};
 use accounts::Accounts;
 use accounts::CostRates;
 use contents::ReadReply;
@@ -231,5 +232,34 @@ pub extern "C" fn xaropinto_funds(
     FundsFields {
         first: in_fields(of_first),
         second: in_fields(of_second),
+    }
+}
+
+// The reply of one cell on the screen in fields: refusal and place are 0 where accepted.
+#[repr(C)]
+pub struct InForceFields {
+    pub refusal: u64,
+    pub place: usize,
+}
+
+#[no_mangle]
+pub extern "C" fn xaropinto_in_force(
+    book: &[u8],
+    setting: usize,
+    code: usize,
+    sex: usize,
+    class: usize,
+    out: &mut [u64],
+) -> InForceFields
+    ensures { λ r. ⌜ InForceHanded (now (book .entry)) setting code sex class
+        (now (out .entry)) (now (out .exit)) r ⌝ }
+{
+    let reply = inforce::in_force(book, setting, code, sex, class, out);
+    match reply {
+        Verdict::Accepted(_) => InForceFields {
+            refusal: 0,
+            place: 0,
+        },
+        Verdict::Refused(refusal, place) => InForceFields { refusal, place },
     }
 }

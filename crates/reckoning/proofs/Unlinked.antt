@@ -81,7 +81,7 @@ module _ (b b′ : List ℕ) (i : ℕ) (same : SameRecord b b′ i) where
   onward-same = rw (class-same b b′ i same, next-same b b′ i same)
 
 -- record i is linked in chain k, and from there on both lists have the same records
-abbrev Kept : List ℕ → List ℕ → ℕ → ℕ → Type 0
+abbrev pub Kept : List ℕ → List ℕ → ℕ → ℕ → Type 0
 Kept b b′ k i = Standing b (lastClass 1) k i × ((j : ℕ) → 0 < linkFrom b i j → SameRecord b b′ (linkFrom b i j))
 
 module _ (b b′ : List ℕ) (k i : ℕ) (h : Kept b b′ k i) where
@@ -139,7 +139,7 @@ module _ (b b′ : List ℕ) (s : SameButUnlinked b b′) where
     divides = λ k year. rw (u32-same b b′ _ _ (front-same b b′ s) (curvePlace + 4 * (k - 1)) (omega arith) (omega arith));
   }
 
-  decrements-same : (setting : ℕ) → decrementsOf b setting ≡ decrementsOf b′ setting
+  pub decrements-same : (setting : ℕ) → decrementsOf b setting ≡ decrementsOf b′ setting
   unfolding decrementsOf mortalityWeight percentOf
   decrements-same setting =
       rw (
@@ -149,7 +149,7 @@ module _ (b b′ : List ℕ) (s : SameButUnlinked b b′) where
       )
 
   module _ (w : Decrements) where
-    cell-same : (k i : ℕ) → Kept b b′ k i → cellOf b w i ≡ cellOf b′ w i
+    pub cell-same : (k i : ℕ) → Kept b b′ k i → cellOf b w i ≡ cellOf b′ w i
     unfolding cellOf
     cell-same k i h = λ d. record {
       count = field-of-same b b′ i here countOffset (omega arith) d;

@@ -6,6 +6,7 @@ mod differential;
 mod funds;
 mod replies;
 mod report;
+mod screen;
 mod threads;
 mod trial_figures;
 mod wrapper;

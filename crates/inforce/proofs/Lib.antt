@@ -1,0 +1,4 @@
+pub mod Records
+pub mod Fifty
+pub mod Promised
+pub mod Unlinked
