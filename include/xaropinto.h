@@ -63,6 +63,11 @@
  *   25       the subgroup code is 1 to 7, the sex 0 or   0                           caller
  *            1, and `out` has at least 50 numbers
  *   26       the chain of code and sex has the class     0                           caller
+ *   27       yearly claims do not fall from one to the   0                           portfolio desk
+ *            next, are at most 10,000,000 centimes, and
+ *            the highest is not 0
+ *   28       a sample factor is 1/1,024 to 1,000, and a  0                           keeper of supervisor's tables
+ *            number
  *
  * Where several rules are broken, the reply names one. 14 to 16 are tested first, in this order; then 1 to 8, also in
  * order, and where a number has several places it is given with the lowest. 23 is tested in edition 2 where 4 looks at
@@ -79,6 +84,11 @@
  * fund file of under 56 bytes is 1 with its own length; any other is refused as its joined book, with places there.
  *
  * In force gives 14, then 25, then the refusals of the book, then 26.
+ *
+ * 27 and 28 are given by Spread alone, which takes yearly claims and two sample factors, all by value; 27 comes first.
+ *
+ * Doubles. Spread alone works with them. It leans on what a process starts with: rounding to nearest, at a tie to
+ * even, and no trap on an operation that is inexact or invalid. Whoever has changed that sets it back before the call.
  */
 #ifndef XAROPINTO_H
 #define XAROPINTO_H
@@ -236,6 +246,25 @@ typedef struct {
     uint64_t place;
 } xaropinto_in_force_reply;
 
+/* Yearly claims per contract in whole centimes: a five-number summary, from the lowest to the highest. */
+typedef struct {
+    uint64_t lowest;
+    uint64_t first_quartile;
+    uint64_t median;
+    uint64_t third_quartile;
+    uint64_t highest;
+} xaropinto_summary;
+
+/* level: 1 where the lowest claims equal the highest, else 0. mean: in centimes, exact. coefficient: the deviation over
+ * the mean, 0 where level is 1. Both are finite and not below zero. */
+typedef struct {
+    uint64_t refusal;
+    uint64_t place;
+    uint64_t level;
+    double mean;
+    double coefficient;
+} xaropinto_spread_reply;
+
 /* Check: is this a book? Refusals 1 to 13 and 23. */
 xaropinto_verdict xaropinto_check(const uint8_t *book, size_t length);
 
@@ -314,6 +343,14 @@ xaropinto_funds_reply xaropinto_funds(const uint8_t *table, size_t table_length,
  * and at class 120 from then on. Numbers from the 51st on are as they were. */
 xaropinto_in_force_reply xaropinto_in_force(const uint8_t *book, size_t length, size_t setting, size_t code, size_t sex,
                                             size_t age_class, uint64_t *out, size_t numbers);
+
+/* Spread: mean and coefficient of variation of yearly claims, out of their summary and the sample factors xi and eta.
+ * Refusals 27, 28, with place 0; both come before level.
+ *
+ * mean = (lowest + 2 first_quartile + 2 median + 2 third_quartile + highest) / 8
+ * deviation = ((highest - lowest) / xi + (third_quartile - first_quartile) / eta) * 0.5
+ * coefficient = deviation / mean, each operation in doubles and rounded once. */
+xaropinto_spread_reply xaropinto_spread(xaropinto_summary claims, double xi, double eta);
 
 #ifdef __cplusplus
 }

@@ -1,4 +1,5 @@
-/* Calls the archive from C on books and accounts made here, and holds every reply against figures worked by hand. */
+/* Calls the archive from C on books, accounts and claims made here, and holds every reply against figures worked by
+ * hand. */
 #include <stdio.h>
 #include <stdlib.h>
 #include <string.h>
@@ -374,6 +375,8 @@ static void test_sizes(void)
     test("accounts_have_no_gaps", sizeof(xaropinto_accounts) == 48 * sizeof(uint64_t));
     test("values_have_no_gaps", sizeof(xaropinto_values) == 314 * sizeof(uint64_t));
     test("both_verdicts_have_no_gap", sizeof(xaropinto_funds_reply) == 2 * sizeof(xaropinto_verdict));
+    test("summaries_and_spreads_have_no_gaps",
+         sizeof(xaropinto_summary) == 5 * sizeof(uint64_t) && sizeof(xaropinto_spread_reply) == 40);
 }
 
 /* Premiums of 1,000,000 less claims of 800,000 and costs of 100,000, in fifty years. Settings 5, 6 and 7 have other
@@ -1117,6 +1120,55 @@ static void test_one_cell_refusals(void)
     free(zeros.bytes);
 }
 
+/* ---- the spread of yearly claims ---- */
+
+/* Bit for bit: zeros of either sign differ. */
+static int spread_is(xaropinto_summary claims, double xi, double eta, uint64_t level, double mean, double coefficient)
+{
+    xaropinto_summary before = claims;
+    xaropinto_spread_reply reply = xaropinto_spread(claims, xi, eta), due = {0, 0, level, mean, coefficient};
+    return memcmp(&reply, &due, sizeof due) == 0 && memcmp(&claims, &before, sizeof before) == 0;
+}
+
+static int spread_refused(xaropinto_summary claims, double xi, double eta, uint64_t refusal)
+{
+    xaropinto_spread_reply reply = xaropinto_spread(claims, xi, eta), due = {refusal, 0, 0, 0.0, 0.0};
+    return memcmp(&reply, &due, sizeof due) == 0;
+}
+
+/* The example of docs/RECKONING.md; 1,600 / 8, and half of 400 / 2 and 200 / 4, which is 125; half of 1 x 1,024 over
+ * 1 / 8. */
+static void test_spread(void)
+{
+    xaropinto_summary worked = {152340, 158910, 163275, 169480, 181205}, even = {0, 100, 200, 300, 400};
+    xaropinto_summary level = {7, 7, 7, 7, 7}, least = {0, 0, 0, 0, 1};
+    test("the_worked_claims_have_their_spread", spread_is(worked, 2.847, 1.119, 0, 164609.375, 0.05948833839363393));
+    test("five_even_steps_have_an_exact_coefficient", spread_is(even, 2.0, 4.0, 0, 200.0, 0.625));
+    test("the_least_factors_are_taken", spread_is(least, 1.0 / 1024, 1.0 / 1024, 0, 0.125, 4096.0));
+    test("level_claims_have_a_mean_alone", spread_is(level, 1000.0, 1000.0, 1, 7.0, 0.0));
+}
+
+static void test_spread_refusals(void)
+{
+    xaropinto_summary even = {0, 100, 200, 300, 400}, falling = {0, 100, 200, 300, 299}, none = {0, 0, 0, 0, 0};
+    xaropinto_summary level = {7, 7, 7, 7, 7}, high = {0, 0, 0, 0, 10000001}, wide = {0, 0, 0, 0, (uint64_t)1 << 63};
+    double zero = 0.0, not_a_number, infinity;
+    const uint64_t bits_of_nan = 0x7FF8000000000000, bits_of_infinity = 0x7FF0000000000000;
+    memcpy(&not_a_number, &bits_of_nan, sizeof not_a_number);
+    memcpy(&infinity, &bits_of_infinity, sizeof infinity);
+    test("claims_that_fall_are_refused", spread_refused(falling, 2.0, 4.0, 27));
+    test("claims_above_their_limit_are_refused",
+         spread_refused(high, 2.0, 4.0, 27) && spread_refused(wide, 2.0, 4.0, 27));
+    test("claims_of_nothing_are_refused_before_factors", spread_refused(none, not_a_number, zero, 27));
+    test("not_a_number_is_refused_before_level",
+         spread_refused(level, not_a_number, 4.0, 28) && spread_refused(even, 2.0, not_a_number, 28));
+    test("zeros_are_refused", spread_refused(even, zero, 4.0, 28) && spread_refused(even, -zero, 4.0, 28));
+    test("infinities_are_refused",
+         spread_refused(even, 2.0, infinity, 28) && spread_refused(even, 2.0, -infinity, 28));
+    test("factors_past_their_ends_are_refused", spread_refused(even, 0.00097656249999999989, 4.0, 28) &&
+                                                    spread_refused(even, 2.0, 1000.0000000000001, 28));
+}
+
 int main(void)
 {
     test_sizes();
@@ -1146,6 +1198,8 @@ int main(void)
     test_fund_files();
     test_one_cell();
     test_one_cell_refusals();
+    test_spread();
+    test_spread_refusals();
     printf("%d passed, %d failed\n", passed, failed);
     return failed != 0;
 }

@@ -1,4 +1,4 @@
-"""The proved check and reckoning of a parameter book, and its cost rates out of accounts, called through ctypes.
+"""The proved check and reckoning of a parameter book, its cost rates, and the spread of claims, called through ctypes.
 
 `make lib` links the shared library. `include/xaropinto.h` says what each call answers and which refusals it
 gives. A book is `bytes`, which nothing can change and which is lent as it is, or anything else with bytes, such
@@ -102,6 +102,16 @@ class InForceReply(NamedTuple):
     place: int
 
 
+class Spread(NamedTuple):
+    """Mean and coefficient of yearly claims, doubles; where they are level, the mean alone and a coefficient of 0."""
+
+    refusal: int
+    place: int
+    level: bool
+    mean: float
+    coefficient: float
+
+
 class _Verdict(ctypes.Structure):
     _fields_ = [("refusal", ctypes.c_uint64), ("place", ctypes.c_uint64), ("n", ctypes.c_uint64)]
 
@@ -160,6 +170,16 @@ class _InForceReply(ctypes.Structure):
     _fields_ = [("refusal", ctypes.c_uint64), ("place", ctypes.c_uint64)]
 
 
+class _Summary(ctypes.Structure):
+    _fields_ = [("lowest", ctypes.c_uint64), ("first_quartile", ctypes.c_uint64), ("median", ctypes.c_uint64),
+                ("third_quartile", ctypes.c_uint64), ("highest", ctypes.c_uint64)]
+
+
+class _SpreadReply(ctypes.Structure):
+    _fields_ = [("refusal", ctypes.c_uint64), ("place", ctypes.c_uint64), ("level", ctypes.c_uint64),
+                ("mean", ctypes.c_double), ("coefficient", ctypes.c_double)]
+
+
 _BOOK = [ctypes.c_char_p, ctypes.c_size_t]
 _LISTS = [ctypes.POINTER(ctypes.c_uint64), ctypes.c_size_t] * 4
 # How a buffer names numbers that may be unsigned and of 64 bits; its item size tells.
@@ -195,6 +215,8 @@ _WRITE.argtypes = [_Values, *_LISTS, ctypes.POINTER(ctypes.c_uint8), ctypes.c_si
 _FUNDS = _declared("xaropinto_funds", _FundsReply, *_BOOK, *_BOOK, ctypes.POINTER(ctypes.c_int64), ctypes.c_size_t)
 _IN_FORCE = _declared("xaropinto_in_force", _InForceReply, *[ctypes.c_size_t] * 4,
                       ctypes.POINTER(ctypes.c_uint64), ctypes.c_size_t)
+_SPREAD = _LIBRARY.xaropinto_spread
+_SPREAD.restype, _SPREAD.argtypes = _SpreadReply, [_Summary, ctypes.c_double, ctypes.c_double]
 
 
 def check(book):
@@ -330,6 +352,27 @@ def in_force(book, setting, code, sex, age_class, numbers):
     lent = _lent_table(numbers)
     reply = _IN_FORCE(*_lent_book(book), _word(setting), _word(code), _word(sex), _word(age_class), lent, len(lent))
     return InForceReply(reply.refusal, reply.place)
+
+
+def spread(lowest, first_quartile, median, third_quartile, highest, xi, eta):
+    """Mean and coefficient of yearly claims, given by five whole numbers of centimes and two sample factors.
+
+    A factor is a float, or a whole number that a double holds; one that would have to be rounded is turned away.
+    """
+    five = (lowest, first_quartile, median, third_quartile, highest)
+    reply = _SPREAD(_Summary(*map(_word, five)), _double(xi), _double(eta))
+    return Spread(reply.refusal, reply.place, reply.level != 0, reply.mean, reply.coefficient)
+
+
+def _double(number):
+    """The number as a double, which must be the number itself."""
+    if isinstance(number, float):
+        return number
+    if not isinstance(number, int):
+        raise TypeError(f"{number!r} is neither a float nor a whole number")
+    if abs(number) > 2**53:
+        raise ValueError(f"{number} may be no double")
+    return float(number)
 
 
 def _lent_values(values):

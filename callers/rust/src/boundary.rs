@@ -98,6 +98,26 @@ pub struct InForceReply {
     pub place: u64,
 }
 
+/// Yearly claims in whole centimes, from the lowest to the highest.
+#[repr(C)]
+#[derive(Clone, Copy, Debug, PartialEq, Eq)]
+pub struct Summary {
+    pub lowest: u64,
+    pub first_quartile: u64,
+    pub median: u64,
+    pub third_quartile: u64,
+    pub highest: u64,
+}
+
+#[repr(C)]
+pub struct SpreadReply {
+    pub refusal: u64,
+    pub place: u64,
+    pub level: u64,
+    pub mean: f64,
+    pub coefficient: f64,
+}
+
 extern "C" {
     pub fn xaropinto_check(book: *const u8, length: usize) -> Verdict;
 
@@ -176,4 +196,6 @@ extern "C" {
         out: *mut u64,
         numbers: usize,
     ) -> InForceReply;
+
+    pub fn xaropinto_spread(claims: Summary, xi: f64, eta: f64) -> SpreadReply;
 }

@@ -1,4 +1,5 @@
-//! Safe calls of the proved check and reckoning of a parameter book, and of its cost rates out of accounts.
+//! Safe calls of the proved check and reckoning of a parameter book, of its cost rates out of accounts,
+//! and of the spread of yearly claims.
 //!
 //! `include/xaropinto.h` says what each call answers and which refusals it gives. Nothing checks the
 //! declarations in `boundary` against the archive but the tests.
@@ -8,12 +9,12 @@ mod boundary;
 use std::error::Error;
 use std::fmt;
 
-pub use boundary::{Accounts, Values};
+pub use boundary::{Accounts, Summary, Values};
 
 use boundary::xaropinto_in_force;
 use boundary::{
     xaropinto_check, xaropinto_convert, xaropinto_cost_rates, xaropinto_group, xaropinto_read,
-    xaropinto_record, xaropinto_totals, xaropinto_write,
+    xaropinto_record, xaropinto_spread, xaropinto_totals, xaropinto_write,
 };
 use boundary::{xaropinto_funds, Verdict};
 use boundary::{xaropinto_report, xaropinto_report_room};
@@ -58,6 +59,15 @@ pub struct Totals {
     pub totals: [i64; 8],
     /// setting 1 less 2, 3 less 4, 5 less 6, 7 less 0
     pub differences: [i64; 4],
+}
+
+/// The spread of yearly claims.
+#[derive(Clone, Copy, Debug, PartialEq)]
+pub enum Spread {
+    /// The mean in centimes, and the deviation over it.
+    Coefficient { mean: f64, coefficient: f64 },
+    /// All claims are alike.
+    Level { mean: f64 },
 }
 
 /// Is this a book?
@@ -280,6 +290,19 @@ pub fn in_force(
         )
     };
     unless_refused(reply.refusal, reply.place)
+}
+
+/// Mean and coefficient of yearly claims, by their five-number summary and two sample factors.
+pub fn spread(claims: &Summary, xi: f64, eta: f64) -> Result<Spread, Refusal> {
+    // SAFETY: all goes by value, and every number is allowed.
+    let reply = unsafe { xaropinto_spread(*claims, xi, eta) };
+    unless_refused(reply.refusal, reply.place)?;
+    let (mean, coefficient) = (reply.mean, reply.coefficient);
+    Ok(if reply.level != 0 {
+        Spread::Level { mean }
+    } else {
+        Spread::Coefficient { mean, coefficient }
+    })
 }
 
 fn unless_refused(number: u64, place: u64) -> Result<(), Refusal> {

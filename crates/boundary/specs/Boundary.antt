@@ -4,7 +4,8 @@ use mathlib.Core.List.{List}
 use Prim.Native.Nat.{ℕ}
 use lib.IntN.{ℤ}
 use lib.ListN.{length}
-use Rattle.field.specs.Verdicts.{refusalOf, placeOf, countOf}
+use lib.Ieee.{Float}
+use Rattle.field.specs.Verdicts.{pick, refusalOf, placeOf, countOf}
 use Rattle.field.specs.declared.Verdict.{Verdict}
 use Rattle.conversion.specs.Conversion.{convertCheck, ConvertPromised}
 use Rattle.reckoning.specs.Replies.{refusalIn, placeIn, liabilityIn, countIn, groupReply, GroupPromised}
@@ -18,12 +19,17 @@ use Rattle.contents.specs.declared.WriteReply.{WriteReply}
 use Rattle.funds.specs.Funds.{fundsReply, FundsPromised}
 use Rattle.funds.specs.declared.FundsReply.{FundsReply}
 use Rattle.inforce.specs.Screen.{inForceCheck, InForcePromised}
+use Rattle.spread.specs.Replies.{spreadRefusal, spreadPlace, spreadLevel, spreadMean, spreadCoefficient}
+use Rattle.spread.specs.Replies.{spreadReply, SpreadPromised}
+use Rattle.spread.specs.declared.Summary.{Summary}
+use Rattle.spread.specs.declared.SpreadReply.{SpreadReply}
 use Rattle.boundary.specs.declared.VerdictFields.{VerdictFields}
 use Rattle.boundary.specs.declared.GroupFields.{GroupFields}
 use Rattle.boundary.specs.declared.ReportFields.{ReportFields}
 use Rattle.boundary.specs.declared.WriteFields.{WriteFields}
 use Rattle.boundary.specs.declared.FundsFields.{FundsFields}
 use Rattle.boundary.specs.declared.InForceFields.{InForceFields}
+use Rattle.boundary.specs.declared.SpreadFields.{SpreadFields}
 
 -- a verdict: the paper's number and place of a refusal, and n
 abbrev pub verdictFields : Verdict → VerdictFields
@@ -85,3 +91,19 @@ pub record InForceHanded (b : List ℕ) (setting code sex class : ℕ) (before a
   pub fields-are : r ≡ inForceFields (inForceCheck b setting code sex class (length before))
   pub promised : InForcePromised b setting code sex class before after
       (inForceCheck b setting code sex class (length before))
+
+-- Spread's reply
+abbrev pub spreadFields : SpreadReply → SpreadFields
+spreadFields r =
+    record {
+      refusal = spreadRefusal r;
+      place = spreadPlace r;
+      level = pick (spreadLevel r) 1 0;
+      mean = spreadMean r;
+      coefficient = spreadCoefficient r;
+    }
+
+-- Spread across the boundary, likewise
+pub record SpreadHanded (s : Summary) (xi eta : Float) (r : SpreadFields) : Type 0 where
+  pub fields-are : r ≡ spreadFields (spreadReply s xi eta)
+  pub promised : SpreadPromised s xi eta (spreadReply s xi eta)

@@ -12,6 +12,7 @@ ghost use Rattle.boundary.specs.Boundary.{verdictFields, GroupHanded, Co
 ghost use Rattle.boundary.specs.Boundary.{reportFields, ReportHanded, RoomHanded};
 ghost use Rattle.boundary.specs.Boundary.{FundsHanded};
 ghost use Rattle.boundary.specs.Boundary.{InForceHanded};
+ghost use Rattle.boundary.specs.Boundary.{SpreadHanded};
 use accounts::Accounts;
 use accounts::CostRates;
 use contents::ReadReply;
@@ -21,6 +22,8 @@ use field::Verdict;
 use look::Located;
 use reckoning::GroupReply;
 use reckoning::TotalsReply;
+use spread::SpreadReply;
+use spread::Summary;
 use year_report::ReportReply;
 
 // A verdict in fields: refusal and place are 0 where accepted, n is 0 where refused.
@@ -261,5 +264,46 @@ pub extern "C" fn xaropinto_in_force(
             place: 0,
         },
         Verdict::Refused(refusal, place) => InForceFields { refusal, place },
+    }
+}
+
+// Spread's reply in fields: refusal and place are 0 where accepted; level is 1 where the claims are level, else 0; mean
+// and coefficient are 0 where the reply has none.
+#[repr(C)]
+pub struct SpreadFields {
+    pub refusal: u64,
+    pub place: usize,
+    pub level: u64,
+    pub mean: f64,
+    pub coefficient: f64,
+}
+
+#[no_mangle]
+pub extern "C" fn xaropinto_spread(claims: Summary, xi: f64, eta: f64) -> SpreadFields
+    ensures { λ r. ⌜ SpreadHanded claims xi eta r ⌝ }
+{
+    let reply = spread::spread(claims, xi, eta);
+    match reply {
+        SpreadReply::Coefficient(mean, coefficient) => SpreadFields {
+            refusal: 0,
+            place: 0,
+            level: 0,
+            mean,
+            coefficient,
+        },
+        SpreadReply::Level(mean) => SpreadFields {
+            refusal: 0,
+            place: 0,
+            level: 1,
+            mean,
+            coefficient: 0.0,
+        },
+        SpreadReply::Refused(refusal, place) => SpreadFields {
+            refusal,
+            place,
+            level: 0,
+            mean: 0.0,
+            coefficient: 0.0,
+        },
     }
 }

@@ -7,6 +7,7 @@ mod funds;
 mod replies;
 mod report;
 mod screen;
+mod spread;
 mod threads;
 mod trial_figures;
 mod wrapper;

@@ -1,0 +1,5 @@
+pub mod Passed
+pub mod ExactMean
+pub mod Finite
+pub mod Promised
+pub mod Examples

@@ -1,0 +1,4 @@
+pub mod Spread
+pub mod Refusals
+pub mod Replies
+pub mod Accepted
