@@ -21,10 +21,10 @@
  * writes needs a table, buffer or lists of its own.
  *
  * Stack. A call takes what it needs from the caller's stack, and no proof says how much. A process that runs out of
- * stack stops. Beside what its own functions need, give a thread 40 KiB for Report, 32 KiB for Totals, 16 KiB for
- * Group, for the cost rates, for Write and for Read, 8 KiB for the others. Measured, in a first call that is bound as
- * it is called: 21,303 bytes; 19,191; 6,071, 5,735, 10,872 and 8,248; and 3,319. Funds joins a book there: give it
- * 96 KiB; measured are 58,143 bytes.
+ * stack stops. Beside what its own functions need, give a thread 64 KiB for Report, 40 KiB for Report room, 32 KiB for
+ * Totals, 16 KiB for Group, for the cost rates, for Write and for Read, 8 KiB for the others. Measured, in a first call
+ * that is bound as it is called: 35,064 bytes; 25,400; 19,191; 6,071, 5,735, 10,872 and 8,248; and 3,319. Funds joins a
+ * book there: give it 96 KiB; measured are 58,143 bytes.
  *
  * Replies. A refusal of 0 means accepted. Otherwise `refusal` says which rule is broken and `place` where; every
  * other field of the reply is 0, and what was lent is as it was; of Funds, that fund's half of the numbers. No earlier
@@ -55,7 +55,8 @@
  *   18       no year's stock or claims add up to 0; a    0                           insurer's cost sheet
  *            group has premium in all years, or nothing
  *   19       no cost rate is above 1,000,000 millionths  0                           insurer's cost sheet
- *   20       the buffer is as long as Report room tells  0                           caller
+ *   20       the buffer is at least as long as the       0                           caller
+ *            report, which Report room tells
  *   21       on age basis 2, a class is not 0            the record's first byte + 2 portfolio desk
  *   22       lists and buffers have their lengths        0                           caller
  *   23       a percentage of edition 2 is 1 to 100       6 men, 7 women: the first   desk that writes the file
@@ -136,7 +137,7 @@
 #define XAROPINTO_TABLE_NUMBERS 200
 /* The numbers that In force writes: one for each of fifty years. */
 #define XAROPINTO_IN_FORCE_NUMBERS 50
-/* No report wants a longer buffer. */
+/* No report is longer. */
 #define XAROPINTO_MOST_REPORT_BYTES 9525
 
 /* The years of accounts. */
@@ -293,8 +294,9 @@ xaropinto_cost_rates_reply xaropinto_cost_rates(xaropinto_accounts accounts);
  * Byte 10 ends every line. The reply's length is that of the text; bytes after it are as they were. */
 xaropinto_report_reply xaropinto_report(const uint8_t *book, size_t length, size_t setting, uint8_t *out, size_t bytes);
 
-/* Report room: how many bytes Report wants of its buffer, for this book and setting: at least the report's length, and
- * at most 9,525. Nothing is written. Refusals 14, then 1 to 13 and 23. */
+/* Report room: how many bytes Report wants of its buffer, for this book and setting: the report's length, to the byte,
+ * and at most 9,525. A buffer of so many bytes holds the report and nothing else. Nothing is written. Refusals 14, then
+ * 1 to 13 and 23. */
 xaropinto_report_reply xaropinto_report_room(const uint8_t *book, size_t length, size_t setting);
 
 /* Convert: a book on age basis 2 turned into basis 1. Refusals 16, then 1 to 13, 21 and 23 as read on basis 2.

@@ -5,7 +5,7 @@ from second.layout import MOST_BYTES_TAKEN, PRODUCT_GROUPS, SETTINGS
 from second.reckoning import book_refusal, year_table
 
 HEADING = "group,year,premium,outgo"
-# The paper leaves the buffer wanted free up to this figure.
+# No report is longer.
 MOST_ROOM = 9_525
 
 
@@ -24,10 +24,16 @@ def room_refusal(book, setting):
     return book_refusal(book) if setting in SETTINGS else (14, 0)
 
 
-def report_refusal(book, setting, lent, told):
-    """(refusal, place) of the call that writes: the same, then 20 for a buffer that is shorter than told."""
+def report_room(book, setting):
+    """(refusal, place, room) of that call: the room is the report's length to the byte, 0 where refused."""
     refusal, place = room_refusal(book, setting)
-    if refusal == 0 and lent < told:
+    return refusal, place, 0 if refusal else len(report_text(book, setting))
+
+
+def report_refusal(room_reply, lent):
+    """(refusal, place) of the call that writes: those of the room's reply, then 20 for a buffer shorter than told."""
+    refusal, place, room = room_reply
+    if refusal == 0 and lent < room:
         return 20, 0
     return refusal, place
 

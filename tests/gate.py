@@ -29,7 +29,7 @@ def script(name, module, least, *words):
     return Part(name, [sys.executable, "-m", module, *words], least)
 
 
-PROOFS = Part("proofs, must-fail edits and programs", ["rt", "ci"], 249)
+PROOFS = Part("proofs, must-fail edits and programs", ["rt", "ci"], 253)
 # What runs on the proved programs, two parts at once.
 PROGRAMS = [
     script("must-fail edits fit the proof files", "tests.must_fail_reasons", 2),
@@ -49,11 +49,11 @@ PROGRAMS = [
     script("random listings against the second reckoning and the fractions", "tests.random_books.listing", 22),
 ]
 # What builds the archive and the shared library, and what runs on these, two parts at once again.
-CALLERS = script("callers in C and Rust", "tests.callers", 220)
+CALLERS = script("callers in C and Rust", "tests.callers", 223)
 CALLS = [
     script("calls from Python, on random books", "tests.calls.base", 22),
     script("cost rates from Python, on random accounts", "tests.calls.accounts", 38),
-    script("calls of the report", "tests.calls.report", 22),
+    script("calls of the report", "tests.calls.report", 27),
     script("conversions from Python, on random books", "tests.calls.convert", 63),
     script("Write and Read from Python, on random values and lists", "tests.calls.desk", 28),
     script("two funds from Python, on random pairs", "tests.calls.funds", 80),

@@ -308,22 +308,49 @@ static int report_refused(parameter_book book, size_t setting, size_t bytes, uin
     return holds;
 }
 
-/* The buffer told is in its range and takes the report of PG2's lines; one of a byte less is refused. */
+/* The text is written, and every byte after it is as it was, also those that are not lent. */
+static int report_written(parameter_book book, size_t setting, size_t bytes, const char *text, size_t length)
+{
+    uint8_t *memory = marked_memory();
+    xaropinto_report_reply reply = xaropinto_report(book.bytes, book.length, setting, memory, bytes);
+    int holds = reply.refusal == 0 && reply.place == 0 && reply.length == length &&
+                memcmp(memory, text, length) == 0 && bytes_stand(memory, length);
+    free(memory);
+    return holds;
+}
+
+/* The room told is the length of the report of PG2's lines. A buffer of just so many bytes and one of a byte more take
+ * the report; one of a byte less is refused. */
 static int report_is(parameter_book book, size_t setting, const char *const *lines, size_t years)
 {
     char *text = exact_memory(MEMORY_SIZE);
-    uint8_t *memory = marked_memory();
     size_t length = pg2_report(text, lines, years);
     xaropinto_report_reply room = xaropinto_report_room(book.bytes, book.length, setting);
-    int holds = room.refusal == 0 && room.place == 0 && length <= room.length &&
-                room.length <= XAROPINTO_MOST_REPORT_BYTES &&
-                report_refused(book, setting, room.length - 1, 20, 0);
-    xaropinto_report_reply reply = xaropinto_report(book.bytes, book.length, setting, memory, room.length);
-    holds &= reply.refusal == 0 && reply.place == 0 && reply.length == length && memcmp(memory, text, length) == 0 &&
-             bytes_stand(memory, length);
-    free(memory);
+    int holds = room.refusal == 0 && room.place == 0 && room.length == length &&
+                report_refused(book, setting, length - 1, 20, 0) &&
+                report_written(book, setting, length, text, length) &&
+                report_written(book, setting, length + 1, text, length);
     free(text);
     return holds;
+}
+
+/* A buffer cut to the room told is the report and nothing else; its memory ends with it. */
+static int cut_buffer_is_all_report(parameter_book book, size_t setting)
+{
+    size_t room = xaropinto_report_room(book.bytes, book.length, setting).length;
+    uint8_t *cut = exact_memory(room);
+    memset(cut, 0, room);
+    xaropinto_report_reply reply = xaropinto_report(book.bytes, book.length, setting, cut, room);
+    int holds = reply.refusal == 0 && reply.length == room && room > 0 && cut[room - 1] == '\n' &&
+                memchr(cut, 0, room) == NULL;
+    free(cut);
+    return holds;
+}
+
+static int room_is(parameter_book book, size_t setting, size_t room)
+{
+    xaropinto_report_reply reply = xaropinto_report_room(book.bytes, book.length, setting);
+    return reply.refusal == 0 && reply.place == 0 && reply.length == room;
 }
 
 /* The refusal is given, and the lent bytes are as they were. */
@@ -749,6 +776,11 @@ static void test_report(void)
     test("a_report_goes_by_its_setting",
          one_record_report_is(5, costs_up, base) && one_record_report_is(7, claims_up, base));
     test("a_report_has_the_premium_after_the_cap", report_is(six_years, 0, capped, 6));
+    /* The heading has 25 bytes; in each group ten lines of two noughts have 8 bytes and forty 9. */
+    test("the_room_without_figures", room_is(none, 0, 25 + 5 * (10 * 8 + 40 * 9)));
+    /* 1001 and 1000 have three digits more than a nought, 900 two. */
+    test("the_room_with_figures_in_six_lines", room_is(six_years, 0, 2225 + 6 * (3 + 2)));
+    test("a_buffer_cut_to_the_room_is_all_report", cut_buffer_is_all_report(six_years, 0));
     free(six_years.bytes);
     free(none.bytes);
 }

@@ -278,7 +278,7 @@ def _rows(rows):
 def report(book, setting, out):
     """Write the year report of a setting to the start of a lent buffer.
 
-    The buffer is one row of bytes that can be written, such as a `bytearray`, as long as `report_room` tells.
+    The buffer is one row of bytes that can be written, such as a `bytearray`, at least as long as `report_room` tells.
     Where refused, and past the report, it stays as it was.
     """
     buffer = _lent_buffer(out)
@@ -287,7 +287,7 @@ def report(book, setting, out):
 
 
 def report_room(book, setting):
-    """How long a buffer `report` wants for this book and setting."""
+    """How long a buffer `report` wants for this book and setting: the report's length, to the byte."""
     reply = _REPORT_ROOM(*_lent_book(book), _word(setting))
     return ReportReply(reply.refusal, reply.place, reply.length)
 

@@ -8,7 +8,8 @@ from typing import NamedTuple
 
 from second.book import empty_book, one_record_book, random_book
 from second.layout import COST_RATES, SETTINGS, changed
-from second.report import MOST_ROOM, report_refusal, report_text, room_refusal
+from second.report import HEADING, MOST_ROOM, report_refusal, report_room, report_text
+from tests import ROOT
 from tests.books.insurers import MANY_PRODUCTS, highest_full_book, insurer_book
 from tests.books.trial import richer_than_the_group_book, sixth_year_book
 from tests.calls.arguments import raises
@@ -23,6 +24,9 @@ DEFAULT_SEED = 9_525
 BOOKS_FOR_COVERAGE = 600
 LEAST_TIMES = 3
 LEAST_ACCEPTED = 100
+LEAST_ROOMS = 100
+# Without figures: 25 bytes of heading, and five groups with ten lines of 8 bytes and forty of 9.
+SHORTEST_ROOM = 25 + 5 * (10 * 8 + 40 * 9)
 MOST_DIFFERENCES_SHOWN = 5
 
 # Settings out of range, and some that would be in range if they lost their high bits.
@@ -30,6 +34,7 @@ ODD_SETTINGS = (8, 9, 2**32, 2**32 + 1, 2**63, 2**64 - 1)
 BOOK_REFUSALS = (*range(1, 14), 23)
 # Longer than any lent buffer, so that a byte written past what was lent shows.
 MEMORY_BYTES = MOST_ROOM + 600
+SAMPLES = sorted((ROOT / "samples").glob("*.book"))
 
 
 class Buffer(NamedTuple):
@@ -39,14 +44,11 @@ class Buffer(NamedTuple):
     lent: int
 
 
-def buffers(told, text):
-    """Buffers around what is told and what the report has; where nothing is told, around the largest figure."""
-    told = told or MOST_ROOM
-    around = [Buffer("none", 0), Buffer("told - 1", told - 1), Buffer("told", told), Buffer("told + 1", told + 1),
-              Buffer("more", told + 500)]
-    if text is None:
-        return around
-    return [*around, Buffer("text - 1", len(text) - 1), Buffer("text", len(text))]
+def buffers(room):
+    """Buffers around the report's length; where there is no report, around the largest one."""
+    room = room or MOST_ROOM
+    return [Buffer("none", 0), Buffer("heading", len(HEADING) + 1), Buffer("room - 1", room - 1), Buffer("room", room),
+            Buffer("room + 1", room + 1), Buffer("more", room + 500), Buffer("largest", MOST_ROOM)]
 
 
 class Tally:
@@ -59,6 +61,7 @@ class Tally:
         self.lent = Counter()
         self.short = Counter()
         self.settings = Counter()
+        self.rooms = set()
 
     def add(self, call, name, book, asked, due, given):
         """One reply, with the memory after it; the first entry of both is the refusal."""
@@ -90,46 +93,40 @@ class Tally:
             report.test(f"{call} accepts {accepted} times", accepted >= LEAST_ACCEPTED)
         rare = [number for number in (*BOOK_REFUSALS, 14) if self.short[number] < LEAST_TIMES]
         report.test("every refusal of report is seen before 20", not rare, f"rare: {rare}")
-        rare = [buffer.name for buffer in buffers(0, b"") if self.lent[buffer.name] < LEAST_ACCEPTED]
+        rare = [buffer.name for buffer in buffers(0) if self.lent[buffer.name] < LEAST_ACCEPTED]
         report.test("every kind of buffer is lent to accepted books", not rare, f"rare: {rare}")
         rare = [setting for setting in SETTINGS if self.settings[setting] < LEAST_TIMES]
         report.test("every setting has reports with figures", not rare, f"rare: {rare}")
+        report.test(f"{len(self.rooms)} different rooms are told", len(self.rooms) >= LEAST_ROOMS)
+        report.test("every room lies between the shortest report and 9,525",
+                    SHORTEST_ROOM == min(self.rooms) and max(self.rooms) <= MOST_ROOM, sorted(self.rooms))
 
 
-def room_reply(library, book, setting, name, tally):
-    """The figure told, which must be in its range where the book is accepted; and the report's text, if any."""
-    reply = library.report_room(book, setting)
-    refusal, place = room_refusal(book, setting)
-    text = report_text(book, setting) if refusal == 0 else None
-    in_range = text is not None and len(text) <= reply.length <= MOST_ROOM
-    # The paper leaves the figure free in its range: there it is taken as it is told.
-    due = (refusal, place, reply.length if in_range else 0)
-    tally.add("room", name, book, f"in setting {setting}", due, tuple(reply))
-    return reply.length, text
-
-
-def report_call(library, book, setting, buffer, told, text, chooser):
+def report_call(library, book, setting, buffer, room_reply, text, chooser):
     """What is due and what is given: the reply, and every byte of a marked memory, also those that are not lent."""
     marks = chooser.randbytes(MEMORY_BYTES)
     memory = bytearray(marks)
     reply = library.report(book, setting, memoryview(memory)[:buffer.lent])
-    refusal, place = report_refusal(book, setting, buffer.lent, told)
+    refusal, place = report_refusal(room_reply, buffer.lent)
     if refusal:
         return (refusal, place, 0, marks), (*reply, bytes(memory))
     return (0, 0, len(text), text + marks[len(text):]), (*reply, bytes(memory))
 
 
 def try_book(library, book, setting, name, tally, chooser):
-    """Both calls, the second with every buffer."""
-    told, text = room_reply(library, book, setting, name, tally)
-    for buffer in buffers(told, text):
-        due, given = report_call(library, book, setting, buffer, told, text, chooser)
+    """Both calls, the second with every buffer: the room told is the length of the second reading's text."""
+    room_reply = report_room(book, setting)
+    text = report_text(book, setting) if room_reply[0] == 0 else None
+    tally.add("room", name, book, f"in setting {setting}", room_reply, tuple(library.report_room(book, setting)))
+    for buffer in buffers(room_reply[2]):
+        due, given = report_call(library, book, setting, buffer, room_reply, text, chooser)
         tally.add("report", name, book, f"in setting {setting} with {buffer.lent} bytes", due, given)
         tally.lent[buffer.name] += text is not None
         if buffer.lent == 0 and due[0] != 20:
             tally.short[due[0]] += 1
-    if text is not None and text != report_text(empty_book(), 0):
-        tally.settings[setting] += 1
+    if text is not None:
+        tally.rooms.add(len(text))
+        tally.settings[setting] += len(text) > SHORTEST_ROOM
 
 
 def random_books(chooser, count):
@@ -143,7 +140,7 @@ def random_books(chooser, count):
 
 
 def named_books(seed):
-    """Books that no random one comes near, and both ends of a report's length."""
+    """Books that no random one comes near, and both ends of a report's length; every sample in every setting."""
     zeros, damaged = bytes(1_220), changed(one_record_book(), (COST_RATES[4], 1_000_001))
     for name, book in (("insurer", insurer_book(MANY_PRODUCTS, seed)), ("highest", highest_full_book())):
         yield name, book, 0
@@ -153,6 +150,8 @@ def named_books(seed):
                        ("richer", richer_than_the_group_book())):
         for setting in (*SETTINGS, *ODD_SETTINGS):
             yield name, book, setting
+    for path, setting in product(SAMPLES, SETTINGS):
+        yield path.stem, path.read_bytes(), setting
 
 
 def lines_of(library, book, setting=0):
@@ -177,8 +176,21 @@ def test_worked(report, library):
     # 1,600 of premium in all and 1,100 of claims in every year: from the sixth on ten ninths of 1,100 count.
     shared = lines_of(library, richer_than_the_group_book())[5:7]
     report.test("the cap is on PG1 as one", shared == ["1,4,1600,1100", "1,5,1222,1100"], shared)
-    empty = library.report(empty_book(), 0, bytearray(MOST_ROOM))
-    report.test("the shortest report has 2,225 bytes", empty == (0, 0, 2_225), empty)
+
+
+def test_rooms(report, library):
+    """Lengths worked by hand, and those of the samples' reports."""
+    samples = {path.stem: (path.read_bytes(), path.with_suffix(".report").read_bytes()) for path in SAMPLES}
+    for words, book, room in (
+            ("the shortest report has 2,225 bytes", empty_book(), 2_225),
+            ("seven digits and six in place of two noughts, fifty times", one_record_book(), 2_225 + 50 * (6 + 5)),
+            ("six lines of the worked example have 40 bytes more", samples["worked_example"][0],
+             2_225 + 2 * (5 + 5 + 4 + 3 + 2 + 1))):
+        told, second = library.report_room(book, 0), report_room(book, 0)
+        report.test(words, told == second == (0, 0, room), (told, second))
+    differing = [name for name, (book, page) in samples.items()
+                 if library.report_room(book, 0).length != (0 if page.startswith(b"refused") else len(page))]
+    report.test(f"the rooms of {len(SAMPLES)} samples are their reports' sizes", not differing, differing)
 
 
 def test_buffers(report, library):
@@ -208,6 +220,7 @@ def main():
     for name, book, setting in named_books(wanted.seed):
         try_book(library, book, setting, name, tally, chooser)
     test_worked(report, library)
+    test_rooms(report, library)
     test_buffers(report, library)
     tally.test_agreement(report)
     if wanted.count >= BOOKS_FOR_COVERAGE:

@@ -135,7 +135,7 @@ pub fn cost_rates(accounts: &Accounts) -> Result<[u64; 5], Refusal> {
     Ok(reply.rates)
 }
 
-/// Writes the year report of a setting to the start of the lent buffer, which must be as long as
+/// Writes the year report of a setting to the start of the lent buffer, which must be at least as long as
 /// `report_room` tells; how many bytes it has. Where refused, and past the report, the buffer stays as it was.
 pub fn report(book: &[u8], setting: usize, out: &mut [u8]) -> Result<usize, Refusal> {
     // SAFETY: as in `group`.
@@ -152,7 +152,7 @@ pub fn report(book: &[u8], setting: usize, out: &mut [u8]) -> Result<usize, Refu
     Ok(reply.length as usize)
 }
 
-/// How long a buffer `report` wants for this book and setting.
+/// How long a buffer `report` wants for this book and setting: the report's length, to the byte.
 pub fn report_room(book: &[u8], setting: usize) -> Result<usize, Refusal> {
     // SAFETY: as in `check`.
     let reply = unsafe { xaropinto_report_room(book.as_ptr(), book.len(), setting) };

@@ -4,15 +4,7 @@ use libc::STDIN_FILENO;
 use libc::STDOUT_FILENO;
 use year_report::ReportReply;
 ghost use mathlib.Core.Path.{_≡_};
-ghost use lib.ListN.{length};
 ghost use Rattle.report.specs.Words.{settingOf, settingNamed};
-
-// Room for one byte more than the longest book has: a longer input is still refused for its length.
-fn room() -> [u8; 41_877]
-    ensures { λ r. ⌜ 41_877 ≡ length r ⌝ }
-{
-    [0; 41_877]
-}
 
 fn setting_of(word: &[u8]) -> usize
     ensures { λ r. ⌜ r ≡ settingOf (now (word .entry)) ⌝ }
@@ -43,9 +35,9 @@ fn main() {
     let mut word = [0u8; 8];
     let spelled = os::arg(1, &mut word);
     let setting = setting_named(os::arg_count(), &word[..spelled]);
-    let mut space = room();
+    let mut space = book::room();
     let got = io::read_full(STDIN_FILENO, &mut space);
-    // No report wants more: so the calls' contracts say.
+    // No report wants more: so `most` of the telling call's contract says.
     let mut text = [0u8; 9_525];
     let reply = year_report::write_report(&space[..got], setting, &mut text);
     match reply {

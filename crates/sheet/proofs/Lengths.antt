@@ -1,11 +1,28 @@
--- How long a line of the year report is. Assumes nothing.
+-- How long a number, a line of the year report and a run of texts are. Assumes nothing.
 use mathlib.Core.Path.{_≡_}
-use Prim.Native.Nat.{ℕ, _+_, _^_, _<_, _≤_}
+use mathlib.Core.List.{List, [], _∷_, _++_, append-assoc}
+use Prim.Native.Nat.{ℕ, _+_, _/_, _%_, _^_, _<_, _≤_}
+use native.Mathlib.Numerals.{add-one}
 use native.Mathlib.Omega.{arith}
 use lib.ListN.{length, length-append}
-use Rattle.text.specs.Text.{decimal, ended}
-use Rattle.text.proofs.Laws.{digits-most}
+use Rattle.text.specs.Text.{decimal, ended, joined}
+use Rattle.text.proofs.Laws.{decimal-one, decimal-more, digits-most}
 use Rattle.sheet.specs.Sheet.{sheetLine}
+
+-- a number has one digit, or one more than its tenth
+pub length-one : (n : ℕ) → n < 10 → 1 ≡ length (decimal n)
+length-one n h = rw (decimal-one n h)
+
+pub length-more : (n k : ℕ) → 10 ≤ n → k ≡ length (decimal (n / 10)) → k + 1 ≡ length (decimal n)
+length-more n k h e =
+    rw (decimal-more n h) (omega (arith, length-append (decimal (n / 10)) ((48 + n % 10) ∷ [])))
+
+-- after a text t, one more text of a run
+pub joined-length : (f : ℕ → List ℕ) (n : ℕ) (t : List ℕ) (l k : ℕ)
+    → l ≡ length (t ++ joined f n) → k ≡ length (f n) → l + k ≡ length (t ++ joined f (n + 1))
+unfolding joined
+joined-length f n t l k e h =
+    rw (add-one n, ← append-assoc) (omega (arith, length-append (t ++ joined f n) (f n)))
 
 module _ (g k p o : ℕ) where
   pub length-line :

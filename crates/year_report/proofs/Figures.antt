@@ -1,16 +1,19 @@
 -- The figures that the five year tables carry are the book's, and so is the report from them. Assumes nothing.
-use mathlib.Core.Path.{_≡_, ap}
-use mathlib.Core.List.{List, [], _∷_, _++_}
-use Prim.Native.Nat.{ℕ, zero, suc, _+_, _<_}
+use mathlib.Core.Path.{_≡_, sym, ap, subst}
+use mathlib.Core.Logic.{⊎-elim}
+use mathlib.Core.List.{List, _++_}
+use Prim.Native.Nat.{ℕ, _+_, _<_}
 use native.Mathlib.Omega.{arith}
+use lib.ListN.{length, set}
+use lib.Seq.{getD-set-same, getD-set-other}
 use Rattle.settings.specs.Settings.{decrementsOf}
 use Rattle.reckoning.specs.Portfolio.{groupCells, termsOf}
 use Rattle.reckoning.specs.Replies.{yearTable}
 use Rattle.reckoning.proofs.Promised.{premium-at, outgo-at}
-use Rattle.text.proofs.Laws.{joined-same}
+use Rattle.text.proofs.Laws.{le-or-lt, joined-same}
 use Rattle.sheet.specs.Sheet.{tableLine, tableLines}
 use Rattle.year_report.specs.Report.{heading, yearLine, groupLines, reportText}
-use Rattle.year_report.specs.Tables.{Years, numbersAt, AllYears, linesAt, reportFrom}
+use Rattle.year_report.specs.Tables.{Years, none, numbersAt, FirstYears, linesAt, reportFrom}
 use Rattle.year_report.specs.declared.YearTable.{YearTable}
 
 module _ (b : List ℕ) (setting : ℕ) where
@@ -26,29 +29,33 @@ module _ (b : List ℕ) (setting : ℕ) where
         outgo-is = λ k year. rw e (outgo-at t cs 50 k rest year);
       }
 
-  pub five : (p q r s t : YearTable)
-      → Years b setting 1 (p .numbers) → Years b setting 2 (q .numbers) → Years b setting 3 (r .numbers)
-      → Years b setting 4 (s .numbers) → Years b setting 5 (t .numbers)
-      → AllYears b setting (p ∷ q ∷ r ∷ s ∷ t ∷ [])
-  five p q r s t hp hq hr hs ht zero h = hp
-  five p q r s t hp hq hr hs ht (suc zero) h = hq
-  five p q r s t hp hq hr hs ht (suc (suc zero)) h = hr
-  five p q r s t hp hq hr hs ht (suc (suc (suc zero))) h = hs
-  five p q r s t hp hq hr hs ht (suc (suc (suc (suc zero)))) h = ht
-  five p q r s t hp hq hr hs ht (suc (suc (suc (suc (suc n))))) h = absurd (omega arith)
-
-  module _ (tables : List YearTable) (all : AllYears b setting tables) where
-    line-same : (j k : ℕ) → j < 5 → k < 50 → tableLine (j + 1) (numbersAt tables j) k ≡ yearLine b setting (j + 1) k
+  -- the lines of a table with a product group's years are that group's
+  module _ (j : ℕ) (table : List ℕ) (years : Years b setting (j + 1) table) where
+    line-same : (k : ℕ) → k < 50 → tableLine (j + 1) table k ≡ yearLine b setting (j + 1) k
     unfolding tableLine yearLine
-    line-same j k few year = rw (all j few .premium-is k year, all j few .outgo-is k year)
+    line-same k year = rw (years .premium-is k year, years .outgo-is k year)
 
-    lines-same : (j : ℕ) → j < 5 → linesAt tables j ≡ groupLines b setting j
-    unfolding linesAt tableLines groupLines
-    lines-same j few =
-        joined-same (tableLine (j + 1) (numbersAt tables j)) (yearLine b setting (j + 1)) 50
-        (λ k year. line-same j k few year)
+    pub lines-same : tableLines (j + 1) table ≡ groupLines b setting j
+    unfolding tableLines groupLines
+    lines-same = joined-same (tableLine (j + 1) table) (yearLine b setting (j + 1)) 50 line-same
 
-    pub report-same : reportFrom tables ≡ reportText b setting
-    unfolding reportFrom reportText
-    report-same =
-        ap (λ (l : List ℕ). heading ++ l) (joined-same (linesAt tables) (groupLines b setting) 5 lines-same)
+  -- one more table is stored
+  pub one-more : (tables : List YearTable) (j : ℕ) (table : YearTable) → j < length tables
+      → FirstYears b setting j tables → Years b setting (j + 1) (table .numbers)
+      → FirstYears b setting (j + 1) (set tables j table)
+  one-more tables j table inside before years i h =
+      ⊎-elim
+      (λ p. let here : i ≡ j = omega arith in rw here (at-place j (getD-set-same tables j table none inside) years))
+      (λ p. at-place i (getD-set-other tables j i table none (λ e. absurd (omega arith))) (before i p))
+      (le-or-lt j i)
+    where
+      at-place : (k : ℕ) {s t : YearTable} → s ≡ t → Years b setting (k + 1) (t .numbers)
+          → Years b setting (k + 1) (s .numbers)
+      at-place k e = subst (λ (t : YearTable). Years b setting (k + 1) (t .numbers)) (sym e)
+
+  pub report-same : (tables : List YearTable) → FirstYears b setting 5 tables
+      → reportFrom tables ≡ reportText b setting
+  unfolding reportFrom reportText linesAt
+  report-same tables all =
+      ap (λ (l : List ℕ). heading ++ l)
+      (joined-same (linesAt tables) (groupLines b setting) 5 (λ j few. lines-same j (numbersAt tables j) (all j few)))

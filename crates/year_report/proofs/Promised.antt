@@ -1,5 +1,5 @@
 -- What the two calls promise holds of reply and buffer as defined: the bytes written stand in the buffer, and the
--- figure told is enough and at most 9,525. Assumes nothing.
+-- figure told is the report's length and at most 9,525. Assumes nothing.
 use mathlib.Core.Path.{_≡_, refl}
 use mathlib.Core.List.{List}
 use Prim.Native.Nat.{ℕ, _≤_}
@@ -46,18 +46,19 @@ unfolding Told
 told-reply (Accepted m) n told e = (refl, refl)
 told-reply (Refused q p) n told e = let z : _≡_ {A = ℕ} 0 1 = cc (told e) in absurd (omega arith)
 
--- no reply tells more than it is given
-told-most : (v : Verdict) (n : ℕ) → reportLength (reportReply v n) ≤ n
-told-most (Accepted m) n = omega arith
-told-most (Refused q p) n = omega arith
+-- no reply tells more than an accepted book's report has
+told-most : (v : Verdict) (n most : ℕ) → ((m : ℕ) → v ≡ Accepted m → n ≤ most) → reportLength (reportReply v n) ≤ most
+told-most (Accepted m) n most h = h m refl
+told-most (Refused q p) n most h = omega arith
 
 pub room-promised : (b : List ℕ) (setting : ℕ) (reply : ReportReply)
     → reply ≡ roomReply b setting → RoomPromised b setting reply
 unfolding roomReply roomOf
 room-promised b setting reply reply-is = record {
   reply-is = reply-is;
-  enough = λ none.
-      let h = told-reply (reportCheck b setting) (roomOf b setting) (report-told b setting) (rw reply-is at none) in
-      rw reply-is (omega (arith, h .1, report-most b (report-valid b setting _ (h .0)) setting));
-  most = rw reply-is (omega (arith, told-most (reportCheck b setting) (roomOf b setting)));
+  exact = λ none.
+      rw reply-is (told-reply (reportCheck b setting) _ (report-told b setting) (rw reply-is at none) .1);
+  most =
+      rw reply-is
+      (told-most (reportCheck b setting) _ _ (λ n e. omega (arith, report-most b (report-valid b setting n e) setting)));
 }

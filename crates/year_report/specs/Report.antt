@@ -62,9 +62,9 @@ reportReply (Refused number place) n = ReportRefused number place
 unfoldable pub reportCheck : List ℕ → ℕ → Verdict
 reportCheck b setting = need (ltb setting 8) 14 0 andThen checkBook 1 b
 
--- the buffer wanted, as told: free between the report's length and 9,525, and callers have that range (`RoomPromised`)
+-- the buffer wanted, as told: the report's length, to the byte
 unfoldable pub roomOf : List ℕ → ℕ → ℕ
-roomOf b setting = 9_525
+roomOf b setting = length (reportText b setting)
 
 -- the refusals of the writing call: those of both, and then 20 where the lent buffer is shorter than told
 unfoldable pub writeCheck : List ℕ → ℕ → ℕ → Verdict
@@ -93,8 +93,8 @@ pub record ReportPromised (b : List ℕ) (setting : ℕ) (before after : List �
   -- follows from the two: the bytes written stand in the buffer
   pub within : reportLength reply ≤ length after
 
--- What the telling call promises: the same refusals but 20; the figure told is enough for the report and at most 9,525.
+-- What the telling call promises: the same refusals but 20; the figure told is the report's length, and at most 9,525.
 pub record RoomPromised (b : List ℕ) (setting : ℕ) (reply : ReportReply) : Type 0 where
   pub reply-is : reply ≡ roomReply b setting
-  pub enough : reportRefusal reply ≡ 0 → length (reportText b setting) ≤ reportLength reply
+  pub exact : reportRefusal reply ≡ 0 → reportLength reply ≡ length (reportText b setting)
   pub most : reportLength reply ≤ 9_525

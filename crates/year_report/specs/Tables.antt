@@ -11,8 +11,9 @@ use Rattle.reckoning.specs.Steps.{outgo, countedPremium}
 use Rattle.reckoning.specs.Portfolio.{groupCells, termsOf}
 use Rattle.text.specs.Text.{joined}
 use Rattle.sheet.specs.Sheet.{tableLines}
-use Rattle.year_report.specs.Report.{heading}
+use Rattle.year_report.specs.Report.{heading, roomOf}
 use Rattle.year_report.specs.declared.YearTable.{YearTable}
+use Rattle.year_report.specs.declared.Measured.{Measured}
 
 -- what settling one product group of an accepted book asks: the weights w are the setting's
 pub record Asked (b : List ℕ) (setting : ℕ) (w : Decrements) (g : ℕ) : Type 0 where
@@ -38,8 +39,14 @@ none = record { numbers = [] }
 abbrev pub numbersAt : List YearTable → ℕ → List ℕ
 numbersAt tables j = getD tables j none .numbers
 
-abbrev pub AllYears : List ℕ → ℕ → List YearTable → Type 0
-AllYears b setting tables = (j : ℕ) → j < 5 → Years b setting (j + 1) (numbersAt tables j)
+-- the first n product groups' tables
+abbrev pub FirstYears : List ℕ → ℕ → ℕ → List YearTable → Type 0
+FirstYears b setting n tables = (j : ℕ) → j < n → Years b setting (j + 1) (numbersAt tables j)
+
+-- the five tables, and the length of the report from them
+pub record Measures (b : List ℕ) (setting : ℕ) (r : Measured) : Type 0 where
+  pub years-are : FirstYears b setting 5 (r .tables)
+  pub bytes-are : r .bytes ≡ roomOf b setting
 
 -- the lines of product group j + 1, and the report, from the tables
 unfoldable pub linesAt : List YearTable → ℕ → List ℕ

@@ -1,11 +1,11 @@
 // The year report of a book in a setting, as text in a lent buffer: premium after cap and outgo of each product group
-// and year. And how much buffer it wants.
+// and year. And how much buffer it wants, to the byte.
 ghost use mathlib.Core.Path.{_≡_};
 ghost use Prim.Native.Nat.{_<_};
 ghost use Rattle.book.specs.Reading.{ValidBook};
 ghost use Rattle.text.specs.Text.{Wrote};
 ghost use Rattle.year_report.specs.Report.{reportCheck, ReportPromised, RoomPromised};
-ghost use Rattle.year_report.specs.Tables.{Asked, Years, AllYears, reportFrom};
+ghost use Rattle.year_report.specs.Tables.{Asked, Years, Measures, reportFrom};
 use field::Verdict;
 use settings::Decrements;
 
@@ -14,9 +14,6 @@ pub enum ReportReply {
     Bytes(usize),
     Refused(u64, usize),
 }
-
-// The buffer that is told. No report is longer: 25 bytes of heading, and 250 lines of at most 38.
-const ROOM: usize = 9_525;
 
 // The refusals of both calls, in their order.
 fn check_report(book: &[u8], setting: usize) -> Verdict
@@ -49,26 +46,36 @@ fn year_table(book: &[u8], setting: usize, w: Decrements, group: usize) -> YearT
     YearTable { numbers }
 }
 
-fn year_tables(book: &[u8], setting: usize) -> [YearTable; 5]
-    requires { ⌜ (setting < 8) × ValidBook 1 (now book) ⌝ }
-    ensures { λ r. ⌜ AllYears (now (book .entry)) setting r ⌝ }
-{
-    let w = Decrements::new(book, setting);
-    [
-        year_table(book, setting, w, 1),
-        year_table(book, setting, w, 2),
-        year_table(book, setting, w, 3),
-        year_table(book, setting, w, 4),
-        year_table(book, setting, w, 5),
-    ]
+// The five product groups' tables, and how many bytes their report has: 25 of heading, and the lines. No text is built.
+struct Measured {
+    tables: [YearTable; 5],
+    bytes: usize,
 }
 
-fn put_report(tables: [YearTable; 5], out: &mut [u8]) -> usize
-    ensures { λ r. ⌜ Wrote (now (out .entry)) 0 (reportFrom tables) (now (out .exit)) r ⌝ }
+fn measured_years(book: &[u8], setting: usize) -> Measured
+    requires { ⌜ (setting < 8) × ValidBook 1 (now book) ⌝ }
+    ensures { λ r. ⌜ Measures (now (book .entry)) setting r ⌝ }
+{
+    let w = Decrements::new(book, setting);
+    let mut years = Measured {
+        tables: [YearTable { numbers: [0; 200] }; 5],
+        bytes: 25,
+    };
+    for j in 0usize..5 {
+        let table = year_table(book, setting, w, j + 1);
+        let numbers = table.numbers;
+        years.bytes = years.bytes + sheet::lines_length(j as u64 + 1, numbers);
+        years.tables[j] = table;
+    }
+    years
+}
+
+fn put_report(years: Measured, out: &mut [u8]) -> usize
+    ensures { λ r. ⌜ Wrote (now (out .entry)) 0 (reportFrom (years .tables)) (now (out .exit)) r ⌝ }
 {
     let mut at = text::put_bytes(out, 0, b"group,year,premium,outgo\n");
     for j in 0usize..5 {
-        let table = tables[j];
+        let table = years.tables[j];
         let numbers = table.numbers;
         at = sheet::put_lines(out, at, j as u64 + 1, numbers);
     }
@@ -76,7 +83,7 @@ fn put_report(tables: [YearTable; 5], out: &mut [u8]) -> usize
 }
 
 // Writes the report where the lent buffer has the room that `report_room` tells; else, and where the book is refused,
-// nothing. The book is checked once.
+// nothing. The book is checked and reckoned once: length and text are those of the same tables.
 pub fn write_report(book: &[u8], setting: usize, out: &mut [u8]) -> ReportReply
     ensures { λ r. ⌜ ReportPromised (now (book .entry)) setting (now (out .entry)) (now (out .exit)) r ⌝ }
 {
@@ -84,19 +91,20 @@ pub fn write_report(book: &[u8], setting: usize, out: &mut [u8]) -> ReportReply
     if let Verdict::Refused(number, place) = v {
         return ReportReply::Refused(number, place);
     }
-    if out.len() < ROOM {
+    let years = measured_years(book, setting);
+    if out.len() < years.bytes {
         return ReportReply::Refused(20, 0);
     }
-    ReportReply::Bytes(put_report(year_tables(book, setting), out))
+    ReportReply::Bytes(put_report(years, out))
 }
 
-// Tells the buffer that `write_report` wants.
+// Tells the buffer that `write_report` wants: the report's length, to the byte.
 pub fn report_room(book: &[u8], setting: usize) -> ReportReply
     ensures { λ r. ⌜ RoomPromised (now (book .entry)) setting r ⌝ }
 {
     let v = check_report(book, setting);
     match v {
-        Verdict::Accepted(_) => ReportReply::Bytes(ROOM),
+        Verdict::Accepted(_) => ReportReply::Bytes(measured_years(book, setting).bytes),
         Verdict::Refused(number, place) => ReportReply::Refused(number, place),
     }
 }

@@ -22,17 +22,21 @@ fn plain_report(book: &[u8], setting: usize) -> String {
     text
 }
 
-/// The report and its length, into a buffer that is as long as told and stands in a longer memory.
+/// The room told is the report's length; a buffer of as many bytes takes it, one of a byte more too, and one of a
+/// byte less is refused. The buffer stands in a longer memory.
 fn assert_report(book: &[u8], setting: usize) {
     let due = plain_report(book, setting);
-    let room = xaropinto::report_room(book, setting).expect("the book is valid");
-    assert!(due.len() <= room && room <= MOST_REPORT_BYTES);
-    let mut memory = vec![MARK; MOST_REPORT_BYTES + 1];
-    let length =
-        xaropinto::report(book, setting, &mut memory[..room]).expect("the buffer is as told");
-    assert_eq!(length, due.len());
-    assert!(memory.starts_with(due.as_bytes()));
-    assert!(memory[length..].iter().all(|byte| *byte == MARK));
+    assert_eq!(xaropinto::report_room(book, setting), Ok(due.len()));
+    assert!(due.len() <= MOST_REPORT_BYTES);
+    for bytes in [due.len(), due.len() + 1] {
+        let mut memory = vec![MARK; MOST_REPORT_BYTES + 2];
+        let length =
+            xaropinto::report(book, setting, &mut memory[..bytes]).expect("the buffer is as told");
+        assert_eq!(length, due.len());
+        assert!(memory.starts_with(due.as_bytes()));
+        assert!(memory[length..].iter().all(|byte| *byte == MARK));
+    }
+    assert_refused(book, setting, due.len() - 1, 20, 0);
 }
 
 fn assert_refused(book: &[u8], setting: usize, bytes: usize, number: u64, place: u64) {
@@ -55,8 +59,8 @@ fn a_report_has_the_years_of_all_groups() {
 #[test]
 fn a_report_that_is_refused_leaves_the_buffer() {
     let book = make_book(&Values::default());
-    let room = xaropinto::report_room(&book, 0).expect("an empty book is valid");
-    assert_refused(&book, 0, room - 1, 20, 0);
+    assert_eq!(xaropinto::report_room(&book, 0), Ok(2_225));
+    assert_refused(&book, 0, 2_224, 20, 0);
     assert_refused(&book, 8, 0, 14, 0);
     assert_refused(&[0; 1_220], 0, 0, 2, 0);
     assert_eq!(

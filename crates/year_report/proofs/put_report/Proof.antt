@@ -12,11 +12,11 @@ use Rattle.year_report.proofs.put_report.Statement.{statement}
 use Rattle.year_report.proofs.put_report.Tie as tie
 
 abbrev Inv-loop : tie.InvT-loop
-Inv-loop out₀ tables at₀ j₀ out at j =
-    (j ≤ 5) × Wrote out₀ at₀ (joined (linesAt tables) j) out at × (at ≤ at₀ + 4200 * j)
+Inv-loop out₀ years at₀ j₀ out at j =
+    (j ≤ 5) × Wrote out₀ at₀ (joined (linesAt (years .tables)) j) out at × (at ≤ at₀ + 4200 * j)
 
 abbrev μ-loop : tie.MeasureT-loop
-μ-loop out₀ tables at₀ j₀ out at j = 5 - j
+μ-loop out₀ years at₀ j₀ out at j = 5 - j
 
 loop-holds : tie.Need-loop-holds Inv-loop μ-loop
 unfolding joined

@@ -1,17 +1,25 @@
--- `year_report::report_room` meets its contract: the verdict's refusal, else the figure; what is promised of it
--- follows. Assumes nothing.
-use mathlib.Core.Path.{sym, _∙_}
+-- `year_report::report_room` meets its contract: the verdict's refusal, else the length that the reckoning gives; what is
+-- promised of it follows. Assumes nothing.
+use mathlib.Core.Path.{sym, ap, _∙_}
 use borrow.Author.Needs.{needs}
-use Rattle.year_report.specs.Report.{roomOf, roomReply}
+use Rattle.year_report.specs.Report.{roomReply}
+use Rattle.year_report.specs.declared.ReportReply.the-variants.{Bytes}
+use Rattle.year_report.proofs.Refusals.{report-setting, report-valid}
 use Rattle.year_report.proofs.Promised.{room-promised}
 use Rattle.year_report.proofs.report_room.Statement.{statement}
 use Rattle.year_report.proofs.report_room.Tie as tie
 
-returns : tie.Need-returns
-unfolding roomReply roomOf
-returns c =
+measured-years-requires : tie.Need-measured-years-requires
+measured-years-requires c κs =
     let e = sym (c .before .before .check-report .ensures) ∙ c .enum-told .given .1 in
-    room-promised _ _ _ (rw e)
+    (report-setting _ _ _ e, report-valid _ _ _ e)
+
+returns : tie.Need-returns
+unfolding roomReply
+returns c =
+    let m = c .before in
+    let e = sym (m .before .before .check-report .ensures) ∙ m .enum-told .given .1 in
+    room-promised _ _ _ (rw e (ap Bytes (c .measured-years .ensures .bytes-are)))
 
 returns-2 : tie.Need-returns-2
 unfolding roomReply
@@ -20,4 +28,6 @@ returns-2 c =
     room-promised _ _ _ (rw e)
 
 pub report-room-spec : {M : Type 1} → statement M
-report-room-spec = tie.close (tie.spec (search needs) (search needs) (search needs) returns returns-2)
+report-room-spec =
+    tie.close
+    (tie.spec (search needs) (search needs) measured-years-requires (search needs) returns returns-2)

@@ -1,0 +1,59 @@
+-- `year_report::measured_years` meets its contract. The invariant: the tables of the groups passed stand at their places,
+-- and the bytes counted are those of the heading and of these groups' lines. The measure is the number of groups left.
+-- Assumes nothing.
+use mathlib.Core.List.{_++_}
+use mathlib.Core.Path.{_≡_, refl, ap, _∙_}
+use Prim.Native.Nat.{_≤_, _+_, _*_, _-_}
+use native.Mathlib.Omega.{arith}
+use borrow.Author.Needs.{needs}
+use lib.ListN.{length, length-set}
+use Rattle.text.specs.Text.{joined}
+use Rattle.sheet.proofs.Lengths.{joined-length}
+use Rattle.year_report.specs.Report.{heading, groupLines, reportText, roomOf}
+use Rattle.year_report.specs.Tables.{FirstYears}
+use Rattle.year_report.proofs.Figures.{lines-same, one-more}
+use Rattle.year_report.proofs.measured_years.Statement.{statement}
+use Rattle.year_report.proofs.measured_years.Tie as tie
+
+abbrev Inv-loop : tie.InvT-loop
+Inv-loop book setting w years₀ j₀ years j =
+    (j ≤ 5) × (length (years .tables) ≡ 5) × FirstYears book setting j (years .tables)
+    × (years .bytes ≡ length (heading ++ joined (groupLines book setting) j)) × (years .bytes ≤ 25 + 4200 * j)
+
+abbrev μ-loop : tie.MeasureT-loop
+μ-loop book setting w years₀ j₀ years j = 5 - j
+
+new-requires : tie.Need-new-requires Inv-loop μ-loop
+new-requires c κs = c .before .pre
+
+loop-holds : tie.Need-loop-holds Inv-loop μ-loop
+unfolding joined
+loop-holds c = (search needs, refl, λ i h. absurd (omega arith), refl, search needs)
+
+year-table-requires : tie.Need-year-table-requires Inv-loop μ-loop
+year-table-requires c κs = search needs
+
+loop-again : tie.Need-loop-again Inv-loop μ-loop
+loop-again c =
+    let t = c .before .before in
+    let l = t .before .before .loop in
+    let lines = c .lines-length .ensures .0 ∙ ap length (lines-same _ _ _ _ (t .year-table .ensures)) in (
+      search needs,
+      length-set (l .years .tables) _ _ ∙ l .inv .1,
+      one-more _ _ (l .years .tables) _ _ (omega (arith, l .inv .1)) (l .inv .2) (t .year-table .ensures),
+      joined-length _ _ heading _ _ (l .inv .3) lines,
+      search needs,
+    )
+
+returns : tie.Need-returns Inv-loop μ-loop
+unfolding roomOf reportText
+returns c =
+    let l = c .before .loop in
+    let all : l .j ≡ 5 = omega arith in
+    record { years-are = rw all at (l .inv .2); bytes-are = rw all at (l .inv .3) }
+
+pub measured-years-spec : {M : Type 1} → statement M
+measured-years-spec =
+    tie.close
+    (tie.spec Inv-loop μ-loop new-requires loop-holds (search needs) year-table-requires (search needs) (search needs)
+    (search needs) (search needs) (search needs) (search needs) (search needs) loop-again returns)
