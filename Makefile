@@ -37,6 +37,7 @@ fuzz: target/bin/test_check target/bin/listing lib ## hold programs and calls ag
 	@python3 -m tests.calls.funds --pairs $(N) --seed $(SEED)
 	@python3 -m tests.calls.screen --books $(N) --seed $(SEED)
 	@python3 -m tests.calls.spread --claims $(N) --seed $(SEED)
+	@python3 -m tests.calls.deviation --models $(N) --seed $(SEED)
 	@python3 -m tests.random_books.listing --books $(N) --seed $(SEED)
 
 streams: ## write the test programs' streams anew
@@ -65,6 +66,7 @@ callers: ## run the tests of the callers in C, Rust and Python
 	@python3 -m tests.calls.funds
 	@python3 -m tests.calls.screen
 	@python3 -m tests.calls.spread
+	@python3 -m tests.calls.deviation
 
 bench: lib ## time Totals beside Rust and Python: make bench OPTIONS=--instructions counts instructions too
 	@cd callers/rust && cargo run --quiet --offline --locked --release --package bench -- $(OPTIONS)

@@ -7,9 +7,9 @@
  * Buffers. The caller owns all that it lends. A call only reads the book. Group writes to numbers 0 to 199 of the
  * table, Report to the first bytes of its buffer, Convert to as many first bytes of `out` as the book has, Write to as
  * many as the book has that it makes, Read to as many first numbers of each list as the book has linked records, Funds
- * to numbers 0 to 7 and 8 to 15, In force to the first 50 of its numbers; nothing else is written. Accounts and values
- * are handed over by value: no call sees the caller's own. No call keeps a pointer after it returns, and none
- * allocates.
+ * to numbers 0 to 7 and 8 to 15, In force to the first 50 of its numbers; nothing else is written. Accounts, values and
+ * risk models are handed over by value: no call sees the caller's own. No call keeps a pointer after it returns, and
+ * none allocates.
  *
  * Pointers. Each must be valid for its length and must not be null, also where the length is 0. The table, the lists
  * and the numbers of Funds and In force must be aligned for uint64_t; a buffer of bytes may start anywhere. What is
@@ -24,7 +24,7 @@
  * stack stops. Beside what its own functions need, give a thread 64 KiB for Report, 40 KiB for Report room, 32 KiB for
  * Totals, 16 KiB for Group, for the cost rates, for Write and for Read, 8 KiB for the others. Measured, in a first call
  * that is bound as it is called: 35,064 bytes; 25,400; 19,191; 6,071, 5,735, 10,872 and 8,248; and 3,319. Funds joins a
- * book there: give it 96 KiB; measured are 58,143 bytes.
+ * book there: give it 96 KiB; measured are 58,143 bytes. Give Deviation as much as Totals: it takes 528 bytes more.
  *
  * Replies. A refusal of 0 means accepted. Otherwise `refusal` says which rule is broken and `place` where; every
  * other field of the reply is 0, and what was lent is as it was; of Funds, that fund's half of the numbers. No earlier
@@ -69,6 +69,12 @@
  *            the highest is not 0
  *   28       a sample factor is 1/1,024 to 1,000, and a  0                           keeper of supervisor's tables
  *            number
+ *   29       a coefficient is at most 1,000,000; the     0                           caller
+ *            correlation is symmetric, from -1,000 to
+ *            1,000, and 1,000 on its diagonal
+ *   30       no scaled factor passes 1,000,000 either    0                           caller
+ *            way
+ *   31       the quadratic form is not negative          0                           caller
  *
  * Where several rules are broken, the reply names one. 14 to 16 are tested first, in this order; then 1 to 8, also in
  * order, and where a number has several places it is given with the lowest. 23 is tested in edition 2 where 4 looks at
@@ -90,6 +96,8 @@
  *
  * Doubles. Spread alone works with them. It leans on what a process starts with: rounding to nearest, at a tie to
  * even, and no trap on an operation that is inexact or invalid. Whoever has changed that sets it back before the call.
+ *
+ * Deviation refuses the book first, and then gives 29, 30 or 31, tested in this order.
  */
 #ifndef XAROPINTO_H
 #define XAROPINTO_H
@@ -147,6 +155,9 @@
 #define XAROPINTO_FUND_FRONT_BYTES XAROPINTO_CURVE_AT
 #define XAROPINTO_TABLE_FILE_BYTES (XAROPINTO_HEADER_BYTES - XAROPINTO_CURVE_AT)
 #define XAROPINTO_FUNDS_NUMBERS 16
+
+/* The risk factors: mortality, lapse, costs and claims, in this order. */
+#define XAROPINTO_FACTORS 4
 
 #ifdef __cplusplus
 extern "C" {
@@ -266,6 +277,19 @@ typedef struct {
     double coefficient;
 } xaropinto_spread_reply;
 
+/* coefficients: of variation, in millionths. correlation: of the factors, in thousandths, by row and column. */
+typedef struct {
+    uint64_t coefficients[XAROPINTO_FACTORS];
+    int64_t correlation[XAROPINTO_FACTORS][XAROPINTO_FACTORS];
+} xaropinto_risk_model;
+
+/* deviation: in thousand francs, at most 4,000,000. */
+typedef struct {
+    uint64_t refusal;
+    uint64_t place;
+    uint64_t deviation;
+} xaropinto_deviation_reply;
+
 /* Check: is this a book? Refusals 1 to 13 and 23. */
 xaropinto_verdict xaropinto_check(const uint8_t *book, size_t length);
 
@@ -353,6 +377,14 @@ xaropinto_in_force_reply xaropinto_in_force(const uint8_t *book, size_t length, 
  * deviation = ((highest - lowest) / xi + (third_quartile - first_quartile) / eta) * 0.5
  * coefficient = deviation / mean, each operation in doubles and rounded once. */
 xaropinto_spread_reply xaropinto_spread(xaropinto_summary claims, double xi, double eta);
+
+/* Deviation: one standard deviation of the four risk factors of a book, from the differences that Totals gives.
+ * Refusals 1 to 13 and 23; then 29, 30, 31, with place 0.
+ *
+ * A difference is divided by 100,000, times its coefficient, divided by 1,000 times its span (400, 600, 400, 50): both
+ * divisions go towards zero. The factors' quadratic form with the correlation is divided by 1,000, rounded down; the
+ * deviation is the largest whole number whose square is at most that. */
+xaropinto_deviation_reply xaropinto_deviation(const uint8_t *book, size_t length, xaropinto_risk_model model);
 
 #ifdef __cplusplus
 }

@@ -404,6 +404,8 @@ static void test_sizes(void)
     test("both_verdicts_have_no_gap", sizeof(xaropinto_funds_reply) == 2 * sizeof(xaropinto_verdict));
     test("summaries_and_spreads_have_no_gaps",
          sizeof(xaropinto_summary) == 5 * sizeof(uint64_t) && sizeof(xaropinto_spread_reply) == 40);
+    test("a_risk_model_and_its_reply_have_no_gaps",
+         sizeof(xaropinto_risk_model) == 20 * sizeof(uint64_t) && sizeof(xaropinto_deviation_reply) == 24);
 }
 
 /* Premiums of 1,000,000 less claims of 800,000 and costs of 100,000, in fifty years. Settings 5, 6 and 7 have other
@@ -1201,6 +1203,94 @@ static void test_spread_refusals(void)
                                                     spread_refused(even, 2.0, 1000.0000000000001, 28));
 }
 
+/* ---- the deviation of four factors ---- */
+
+/* 100,000 men of PG2: premiums of 5,000,000 at k = 0, all of them costs; half lapse; claims of 2,000,010 at k = 1. In
+ * thousand francs the differences of lapse, costs and claims are -0.3 x 2,000,010, 0.4 x 5,000,000 and 50,000.25. */
+static parameter_book risk_book(void)
+{
+    parameter_book book = unlinked_book(3);
+    contracts paid = {100000, 500000, 5000000, 0}, claimed = {0, 500000, 0, 2000010}, nothing = {0, 0, 0, 0};
+    put(book, HEADS + 2 * PG2_MEN, 2, 1);
+    put(book, COST_RATES + 4 * (PG2 - 1), 4, 1000000);
+    put_record(book, 1, PG2_MEN, LAST_CLASS - 2, paid);
+    put_record(book, 2, PG2_MEN, LAST_CLASS - 1, claimed);
+    put_record(book, 3, PG2_MEN, LAST_CLASS, nothing);
+    return book;
+}
+
+/* Factors of -1,000,000, 1,000,000 and 1,000,000 in that book, and of 0 for mortality: 600,003 x 999,996 / 600,000 is
+ * 1,000,000.99. Each two of the three have this correlation, lapse its opposite. */
+static xaropinto_risk_model three_factors(int64_t correlation)
+{
+    static const uint64_t coefficients[XAROPINTO_FACTORS] = {0, 999996, 200000, 1000000};
+    xaropinto_risk_model model;
+    memset(&model, 0, sizeof model);
+    memcpy(model.coefficients, coefficients, sizeof coefficients);
+    for (size_t i = 0; i < XAROPINTO_FACTORS; i++)
+        model.correlation[i][i] = 1000;
+    model.correlation[1][2] = model.correlation[2][1] = -correlation;
+    model.correlation[1][3] = model.correlation[3][1] = -correlation;
+    model.correlation[2][3] = model.correlation[3][2] = correlation;
+    return model;
+}
+
+/* The whole reply; the book and the caller's model are as they were. */
+static int deviation_is(parameter_book book, xaropinto_risk_model model, uint64_t refusal, uint64_t place,
+                        uint64_t deviation)
+{
+    xaropinto_risk_model before = model;
+    uint8_t *bytes = exact_memory(book.length);
+    memcpy(bytes, book.bytes, book.length);
+    xaropinto_deviation_reply reply = xaropinto_deviation(book.bytes, book.length, model),
+                              due = {refusal, place, deviation};
+    int holds = memcmp(&reply, &due, sizeof due) == 0 && memcmp(&model, &before, sizeof before) == 0 &&
+                memcmp(bytes, book.bytes, book.length) == 0;
+    free(bytes);
+    return holds;
+}
+
+static void test_deviation(void)
+{
+    parameter_book book = risk_book(), none = unlinked_book(0);
+    xaropinto_risk_model model = three_factors(0);
+    /* the root of 3 x 10^12 is 1,732,050.8 */
+    test("three_factors_without_correlation", deviation_is(book, model, 0, 0, 1732050));
+    test("three_factors_fully_correlated", deviation_is(book, three_factors(1000), 0, 0, 3000000));
+    model.coefficients[2] = model.coefficients[3] = 0;
+    test("a_factor_of_minus_1000000_passes", deviation_is(book, model, 0, 0, 1000000));
+    model.coefficients[1] = 1;
+    test("a_factor_is_cut_towards_zero", deviation_is(book, model, 0, 0, 1));
+    test("no_records_have_no_deviation", deviation_is(none, three_factors(1000), 0, 0, 0));
+    free(none.bytes);
+    free(book.bytes);
+}
+
+static void test_deviation_refusals(void)
+{
+    parameter_book book = risk_book(), zeros = blank(HEADER_SIZE);
+    xaropinto_risk_model model = three_factors(-1000);
+    test("a_negative_form_is_31", deviation_is(book, model, 31, 0, 0));
+    model.coefficients[1] = 999997;
+    test("a_factor_of_minus_1000001_is_30_before_31", deviation_is(book, model, 30, 0, 0));
+    model.correlation[0][0] = 999;
+    test("a_diagonal_of_999_is_29_before_30", deviation_is(book, model, 29, 0, 0));
+    model = three_factors(0);
+    model.correlation[0][3] = 1;
+    test("a_lopsided_correlation_is_29", deviation_is(book, model, 29, 0, 0));
+    model.correlation[0][3] = model.correlation[3][0] = INT64_MIN;
+    test("the_lowest_correlation_is_29", deviation_is(book, model, 29, 0, 0));
+    test("a_correlation_of_1001_is_29", deviation_is(book, three_factors(1001), 29, 0, 0));
+    model = three_factors(0);
+    model.coefficients[0] = UINT64_MAX;
+    test("the_highest_coefficient_is_29", deviation_is(book, model, 29, 0, 0));
+    test("the_book_comes_before_the_model", deviation_is(zeros, model, 2, 0, 0));
+    put(book, record_start(2) + LAPSE, 4, 1000001);
+    test("and_is_refused_with_its_place", deviation_is(book, model, 12, 1256, 0));
+    free(zeros.bytes);
+    free(book.bytes);
+}
+
 int main(void)
 {
     test_sizes();
@@ -1232,6 +1322,8 @@ int main(void)
     test_one_cell_refusals();
     test_spread();
     test_spread_refusals();
+    test_deviation();
+    test_deviation_refusals();
     printf("%d passed, %d failed\n", passed, failed);
     return failed != 0;
 }

@@ -112,6 +112,14 @@ class Spread(NamedTuple):
     coefficient: float
 
 
+class DeviationReply(NamedTuple):
+    """One standard deviation of the four factors, in thousand francs."""
+
+    refusal: int
+    place: int
+    deviation: int
+
+
 class _Verdict(ctypes.Structure):
     _fields_ = [("refusal", ctypes.c_uint64), ("place", ctypes.c_uint64), ("n", ctypes.c_uint64)]
 
@@ -180,6 +188,17 @@ class _SpreadReply(ctypes.Structure):
                 ("mean", ctypes.c_double), ("coefficient", ctypes.c_double)]
 
 
+_FACTORS = 4
+
+
+class _RiskModel(ctypes.Structure):
+    _fields_ = [("coefficients", ctypes.c_uint64 * _FACTORS), ("correlation", ctypes.c_int64 * (_FACTORS * _FACTORS))]
+
+
+class _DeviationReply(ctypes.Structure):
+    _fields_ = [("refusal", ctypes.c_uint64), ("place", ctypes.c_uint64), ("deviation", ctypes.c_uint64)]
+
+
 _BOOK = [ctypes.c_char_p, ctypes.c_size_t]
 _LISTS = [ctypes.POINTER(ctypes.c_uint64), ctypes.c_size_t] * 4
 # How a buffer names numbers that may be unsigned and of 64 bits; its item size tells.
@@ -217,6 +236,7 @@ _IN_FORCE = _declared("xaropinto_in_force", _InForceReply, *[ctypes.c_size_t] * 
                       ctypes.POINTER(ctypes.c_uint64), ctypes.c_size_t)
 _SPREAD = _LIBRARY.xaropinto_spread
 _SPREAD.restype, _SPREAD.argtypes = _SpreadReply, [_Summary, ctypes.c_double, ctypes.c_double]
+_DEVIATION = _declared("xaropinto_deviation", _DeviationReply, _RiskModel)
 
 
 def check(book):
@@ -373,6 +393,24 @@ def _double(number):
     if abs(number) > 2**53:
         raise ValueError(f"{number} may be no double")
     return float(number)
+
+
+def deviation(book, coefficients, correlation):
+    """One standard deviation of the four factors of a book: mortality, lapse, costs and claims.
+
+    Coefficients are four numbers in millionths, the correlation is four rows of four in thousandths.
+    """
+    model = _RiskModel(_numbers(coefficients, _FACTORS), _square(correlation))
+    reply = _DEVIATION(*_lent_book(book), model)
+    return DeviationReply(reply.refusal, reply.place, reply.deviation)
+
+
+def _square(rows):
+    """Four rows of four signed numbers, end to end."""
+    rows = tuple(tuple(row) for row in rows)
+    if [len(row) for row in rows] != [_FACTORS] * _FACTORS:
+        raise ValueError(f"{_FACTORS} rows of {_FACTORS} numbers are due")
+    return tuple(_signed_word(number) for row in rows for number in row)
 
 
 def _lent_values(values):

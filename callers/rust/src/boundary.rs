@@ -118,6 +118,22 @@ pub struct SpreadReply {
     pub coefficient: f64,
 }
 
+/// Mortality, lapse, costs and claims: their coefficients of variation in millionths, and their
+/// correlation in thousandths, by row and column.
+#[repr(C)]
+#[derive(Clone, Copy, Debug, PartialEq, Eq)]
+pub struct RiskModel {
+    pub coefficients: [u64; 4],
+    pub correlation: [[i64; 4]; 4],
+}
+
+#[repr(C)]
+pub struct DeviationReply {
+    pub refusal: u64,
+    pub place: u64,
+    pub deviation: u64,
+}
+
 extern "C" {
     pub fn xaropinto_check(book: *const u8, length: usize) -> Verdict;
 
@@ -198,4 +214,6 @@ extern "C" {
     ) -> InForceReply;
 
     pub fn xaropinto_spread(claims: Summary, xi: f64, eta: f64) -> SpreadReply;
+
+    pub fn xaropinto_deviation(book: *const u8, length: usize, model: RiskModel) -> DeviationReply;
 }

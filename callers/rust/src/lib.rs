@@ -9,8 +9,9 @@ mod boundary;
 use std::error::Error;
 use std::fmt;
 
-pub use boundary::{Accounts, Summary, Values};
+pub use boundary::{Accounts, RiskModel, Summary, Values};
 
+use boundary::xaropinto_deviation;
 use boundary::xaropinto_in_force;
 use boundary::{
     xaropinto_check, xaropinto_convert, xaropinto_cost_rates, xaropinto_group, xaropinto_read,
@@ -303,6 +304,14 @@ pub fn spread(claims: &Summary, xi: f64, eta: f64) -> Result<Spread, Refusal> {
     } else {
         Spread::Coefficient { mean, coefficient }
     })
+}
+
+/// One standard deviation of the four risk factors of a book, in thousand francs.
+pub fn deviation(book: &[u8], model: &RiskModel) -> Result<u64, Refusal> {
+    // SAFETY: as in `check`; the model goes by value, and every number in it is allowed.
+    let reply = unsafe { xaropinto_deviation(book.as_ptr(), book.len(), *model) };
+    unless_refused(reply.refusal, reply.place)?;
+    Ok(reply.deviation)
 }
 
 fn unless_refused(number: u64, place: u64) -> Result<(), Refusal> {

@@ -6,6 +6,7 @@ ghost use Rattle.book.specs.Check.{checkBook};
 ghost use Rattle.look.specs.Looker.{locatedIn};
 ghost use Rattle.reckoning.specs.Totals.{TotalsPromised};
 ghost use Rattle.accounts.specs.Replies.{RatesPromised};
+ghost use Rattle.deviation.specs.Deviation.{DeviationPromised};
 ghost use Rattle.contents.specs.Contents.{given};
 ghost use Rattle.contents.specs.Promises.{ReadPromised};
 ghost use Rattle.boundary.specs.Boundary.{verdictFields, GroupHanded, ConvertHanded, WriteHanded};
@@ -18,6 +19,8 @@ use accounts::CostRates;
 use contents::ReadReply;
 use contents::Values;
 use contents::WriteReply;
+use factors::DeviationReply;
+use factors::RiskModel;
 use field::Verdict;
 use look::Located;
 use reckoning::GroupReply;
@@ -306,4 +309,12 @@ pub extern "C" fn xaropinto_spread(claims: Summary, xi: f64, eta: f64) -> Spread
             coefficient: 0.0,
         },
     }
+}
+
+// The model by value, as the accounts: a matrix lent by pointer would have a length of its own to refuse.
+#[no_mangle]
+pub extern "C" fn xaropinto_deviation(book: &[u8], model: RiskModel) -> DeviationReply
+    ensures { λ r. ⌜ DeviationPromised (now (book .entry)) model r ⌝ }
+{
+    deviation::deviation(book, model)
 }

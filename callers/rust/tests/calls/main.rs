@@ -2,6 +2,7 @@
 
 mod accounts;
 mod desk;
+mod deviation;
 mod differential;
 mod funds;
 mod replies;
