@@ -296,12 +296,18 @@ xaropinto_verdict xaropinto_check(const uint8_t *book, size_t length);
 /* Group: the liability of one product group, PG1 to PG5, in one setting. Refusals 14, 15, 16, then 1 to 13 and 23.
  *
  * `numbers` is how many numbers the table has. Where accepted, year k from 0 to 49 has four from number 4 k on:
- * premium after the cap, outgo, discounted premium, discounted outgo. Numbers from 200 on are as they were. */
+ * premium after the cap, outgo, discounted premium, discounted outgo. Numbers from 200 on are as they were.
+ *
+ * The liability is at most 500 n + 2,850 centimes away from its exact value, which no step has rounded; at most
+ * 250 n + 1,425 where none of the book's 49 curve rates is below zero. */
 xaropinto_group_reply xaropinto_group(const uint8_t *book, size_t length, size_t setting, size_t group,
                                       uint64_t *table, size_t numbers);
 
 /* Totals: the liabilities of the five product groups added, in each of the eight settings. Refusals 1 to 13 and
- * 23. */
+ * 23.
+ *
+ * Each total is at most 500 n + 14,250 centimes away from its exact value; at most 250 n + 7,125 where none of the
+ * book's 49 curve rates is below zero. */
 xaropinto_totals_reply xaropinto_totals(const uint8_t *book, size_t length);
 
 /* Record: where record `number`, counted from 1, stands in the book, linked or not. Refusals 1 to 13 and 23; then 9
@@ -356,7 +362,8 @@ xaropinto_read_reply xaropinto_read(const uint8_t *book, size_t length, uint64_t
  *
  * `count` is how many numbers there are. Where the first fund is accepted, numbers 0 to 7 become the totals of its
  * joined book by setting; where the second is, 8 to 15 those of its own. All others are as they were, a refused fund's
- * among them. Nothing in one fund's file changes the other's verdict or numbers. */
+ * among them. Nothing in one fund's file changes the other's verdict or numbers. How far a total can be from its exact
+ * value is as for Totals, n being the fund's; the curve rates are those of the table file. */
 xaropinto_funds_reply xaropinto_funds(const uint8_t *table, size_t table_length, const uint8_t *first,
                                       size_t first_length, const uint8_t *second, size_t second_length,
                                       int64_t *numbers, size_t count);

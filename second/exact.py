@@ -3,13 +3,15 @@
 from fractions import Fraction
 
 from second.book import read_values
-from second.layout import CHAINS, GROUPS, PRODUCT_GROUPS, SUBGROUPS
+from second.layout import CHAINS, CURVE, GROUPS, PRODUCT_GROUPS, SUBGROUPS
 
 YEARS = range(50)
 MILLIONTH = Fraction(1, 10**6)
 # What stays of a contract in a year is one whole number of billionths times another.
 SHARE = 10**18
 EDITION_1_PERCENTAGES = (87, 86)
+# How far a figure may be from its exact value, in centimes: for each cell with contracts, and for each product group.
+ANY_CURVE, NO_RATE_BELOW_ZERO = (500, 2_850), (250, 1_425)
 # What each setting moves, and by how many percent.
 MOVES = {0: (None, 0), 1: ("mortality", 20), 2: ("mortality", -20), 3: ("lapse", 30),
          4: ("lapse", -30), 5: ("costs", 20), 6: ("costs", -20), 7: ("claims", 5)}
@@ -99,3 +101,24 @@ def exact_totals(book):
     """The exact totals of an accepted book by setting, each its five groups added."""
     values = read_values(book)
     return [sum(group_liability(values, setting, each) for each in PRODUCT_GROUPS) for setting in MOVES]
+
+
+def has_rate_below_zero(book):
+    """Does the curve of an accepted book dip below zero in any year?"""
+    return any(rate.read(book) < 0 for rate in CURVE)
+
+
+def distance_for(book, n, groups):
+    """What is promised of so many product groups with n cells together; W-213: half where no rate is below zero."""
+    each_cell, each_group = ANY_CURVE if has_rate_below_zero(book) else NO_RATE_BELOW_ZERO
+    return each_cell * n + each_group * groups
+
+
+def group_distance(book, n):
+    """How far the liability of a product group with n cells may be from its exact value."""
+    return distance_for(book, n, 1)
+
+
+def total_distance(book, n):
+    """How far a total may be from its exact value, n being that of the book."""
+    return distance_for(book, n, len(PRODUCT_GROUPS))

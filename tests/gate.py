@@ -29,7 +29,7 @@ def script(name, module, least, *words):
     return Part(name, [sys.executable, "-m", module, *words], least)
 
 
-PROOFS = Part("proofs, must-fail edits and programs", ["rt", "ci"], 265)
+PROOFS = Part("proofs, must-fail edits and programs", ["rt", "ci"], 270)
 # What runs on the proved programs, two parts at once.
 PROGRAMS = [
     script("must-fail edits fit the proof files", "tests.must_fail_reasons", 2),
@@ -37,26 +37,26 @@ PROGRAMS = [
     script("second check, by hand-worked examples", "tests.second_check", 35),
     script("stream of the check", "tests.streams.check", 53, "test"),
     script("stream of the looker", "tests.streams.look", 12, "test"),
-    script("second reckoning, by hand-worked examples", "tests.second_reckoning", 35),
-    script("stream of Group, against the fractions", "tests.streams.group", 30, "test"),
-    script("stream of listings, against the fractions", "tests.streams.listing", 35, "test"),
+    script("second reckoning, by hand-worked examples", "tests.second_reckoning", 38),
+    script("stream of Group, against the fractions", "tests.streams.group", 31, "test"),
+    script("stream of listings, against the fractions", "tests.streams.listing", 36, "test"),
     script("stream of the walk", "tests.streams.walk", 11, "test"),
     script("listing program, by the paper's figures", "tests.listing_program", 9),
     script("report program", "tests.report_program", 9),
     script("convert program, by hand-worked books", "tests.convert_program", 9),
     script("sample books", "tools.sample_books", 37, "test"),
     script("random books against the second check", "tests.random_books.check", 17),
-    script("random listings against the second reckoning and the fractions", "tests.random_books.listing", 22),
+    script("random listings against the second reckoning and the fractions", "tests.random_books.listing", 25),
 ]
 # What builds the archive and the shared library, and what runs on these, two parts at once again.
 CALLERS = script("callers in C and Rust", "tests.callers", 243)
 CALLS = [
-    script("calls from Python, on random books", "tests.calls.base", 22),
+    script("calls from Python, on random books", "tests.calls.base", 25),
     script("cost rates from Python, on random accounts", "tests.calls.accounts", 38),
     script("calls of the report", "tests.calls.report", 27),
     script("conversions from Python, on random books", "tests.calls.convert", 63),
     script("Write and Read from Python, on random values and lists", "tests.calls.desk", 28),
-    script("two funds from Python, on random pairs", "tests.calls.funds", 80),
+    script("two funds from Python, on random pairs", "tests.calls.funds", 83),
     script("one cell on the screen from Python, on random cells", "tests.calls.screen", 27),
     script("spread of claims from Python, on random claims", "tests.calls.spread", 32),
     script("deviations from Python, on random books and risk models", "tests.calls.deviation", 50),

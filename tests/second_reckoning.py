@@ -8,7 +8,7 @@ from fractions import Fraction
 from second.book import (PG2_MEN, Cell, Portfolio, Values, empty_book, full_book, make_book, one_record_book,
                          random_book, random_values, read_values)
 from second.check import check
-from second.exact import exact_liability
+from second.exact import exact_liability, exact_totals, group_distance, total_distance
 from second.layout import (CHAINS, CLASSES, CURVE, EDITION, HEADER_SPARE, OLDEST_CLASS, PERCENTAGES,
                            PRODUCT_GROUPS, SETTINGS, changed)
 from second.reckoning import (capped, discounted, group, in_force_by_year, listing, next_in_force, outgo_of,
@@ -54,6 +54,16 @@ def naive_liability(values, setting, product_group):
         rate = values.curve[k - 1] if k > 0 else 0
         liability += (outgo - counted) * Fraction(10**6, 10**6 + rate)**k
     return liability
+
+
+def off_by(book, product_group):
+    """How far a liability of the base setting is from its exact value."""
+    return abs(group(book, 0, product_group, 200)[2] - exact_liability(book, 0, product_group))
+
+
+def off_by_all(book):
+    """How far the total of the base setting is from its exact value."""
+    return abs(totals(book)[3][0] - exact_totals(book)[0])
 
 
 class TrialFigures(unittest.TestCase):
@@ -300,8 +310,28 @@ class Distance(unittest.TestCase):
         chooser = random.Random(1_694)
         for number in range(30):
             book = random_book(chooser, (60, 100, 115)[number % 3], 5)
+            if number % 2:
+                book = trials.without_rates_below_zero(book)
             for setting in chooser.sample(SETTINGS, 3):
                 self.hold_book(book, setting)
+
+    def test_which_distance_holds(self):
+        for rates, of_group, of_all in (([0] * 49, 1_675, 7_375), ([1] * 49, 1_675, 7_375),
+                                        ([0] * 48 + [-1], 3_350, 14_750), ([-1] + [0] * 48, 3_350, 14_750)):
+            book = make_book(Values(curve=rates))
+            self.assertEqual((group_distance(book, 1), total_distance(book, 1)), (of_group, of_all))
+
+    def test_half_the_distance_needs_all_its_parts(self):
+        # With 0 for 1,425: 250 would be allowed. With 0 for 7,125, 1,250; with one group's 1,425, 2,675.
+        self.assertEqual(int(off_by(trials.loss_at_every_rounding_book(1), 2)), 1_297)
+        self.assertEqual(int(off_by_all(trials.loss_at_every_rounding_book(1, (0, 6, 8, 10, 12)))), 6_489)
+        # With 0 for 250: 1,425. With the n of PG1 for that of the book, 7,125.
+        self.assertEqual(int(off_by(trials.loss_in_every_cell_book((PG2_MEN,)), 2)), 3_459)
+        self.assertEqual(int(off_by_all(trials.loss_in_every_cell_book(range(6, 14)))), 27_674)
+
+    def test_a_curve_below_zero_comes_near_half_the_distance(self):
+        # 1,675 is half the distance: no book is known that passes it, nor can one (docs/landings/W-213.md).
+        self.assertEqual(int(off_by(trials.loss_at_every_rounding_book(-9_999), 2)), 1_594)
 
     def hold_book(self, book, setting):
         """Every group within its distance, the groups together within theirs."""
@@ -309,11 +339,11 @@ class Distance(unittest.TestCase):
         for product_group in PRODUCT_GROUPS:
             _, _, liability, n, numbers = group(book, setting, product_group, 200)
             off = liability - exact_liability(book, setting, product_group)
-            self.assertLessEqual(abs(off), 500 * n + 2_850)
+            self.assertLessEqual(abs(off), group_distance(book, n))
             together += off
             for k in range(5, 50):
                 self.assertLessEqual(9 * numbers[4 * k], 10 * numbers[4 * k + 1])
-        self.assertLessEqual(abs(together), 500 * check(book)[1] + 14_250)
+        self.assertLessEqual(abs(together), total_distance(book, check(book)[1]))
 
 
 if __name__ == "__main__":

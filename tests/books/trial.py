@@ -1,7 +1,8 @@
 """Books of one or two contracts behind the trial figures and the traps: plain in every year."""
 
 from second.book import PG2_MEN, Cell, Portfolio, Values, make_book
-from second.layout import CLASSES, COST_RATES, CURVE
+from second.layout import CLASSES, COST_RATES, CURVE, changed
+from second.reckoning import BILLION, YEARS, next_in_force
 
 PG1A_MEN, PG1B_WOMEN = 0, 3
 CERTAIN_DEATH = [[1_000_000] * CLASSES, [1_000_000] * CLASSES]
@@ -17,6 +18,11 @@ PAPER_LISTING = b"""0 -5000000 1
 6 -5100000 1
 7 -4800000 1
 """
+
+
+def without_rates_below_zero(book):
+    """The book with each rate below zero turned into one as far above it; a rate out of its range stays."""
+    return changed(book, *((rate, -rate.read(book)) for rate in CURVE if rate.low <= rate.read(book) < 0))
 
 
 def contract(amounts, lapse=0, count=1):
@@ -96,3 +102,27 @@ def loss_in_every_step_book(chains=(PG2_MEN,)):
     cells = (cells[0]._replace(lapse=999_923), *cells[1:])
     return make_book(Values(curve=FALLING_CURVE, mortality=mortality,
                             portfolios=dict.fromkeys(chains, Portfolio(first_class, cells))))
+
+
+def loss_at_every_rounding_book(rate, chains=(PG2_MEN,)):
+    """As the book before, at any rate, and with costs: as far from the exact values as we know how to make it.
+
+    From the second year on claims are a hair under 100 centimes, of which 99 are reckoned, and premium is one centime,
+    whose costs are a hair under one. A step back from 99 loses 0.9999: at -9,999 it gives 99, at 1 it gives 98.
+    """
+    cells, in_force = [Cell(1, 999_922, 1, 0)], 10_140
+    while len(cells) < YEARS:
+        claims = min(10_000_000, (100 * BILLION - 1) // in_force)
+        cells.append(Cell(0, 1, -(-BILLION // in_force), claims))
+        in_force = next_in_force(in_force, 870, 1_000)
+    portfolio = Portfolio(CLASSES - YEARS, tuple(cells))
+    mortality = [[1] * CLASSES for _ in range(2)]
+    mortality[0][portfolio.first_class] = 1_000_000
+    return make_book(Values(cost_rates=[999_999] * len(COST_RATES), curve=[rate] * len(CURVE), mortality=mortality,
+                            portfolios=dict.fromkeys(chains, portfolio)))
+
+
+def loss_in_every_cell_book(chains):
+    """No rate below zero, and a contract at every class of these chains: the cells lose more than the group does."""
+    cells = (Cell(1, 12_345, 0, 9_999_999),) * CLASSES
+    return make_book(Values(portfolios=dict.fromkeys(chains, Portfolio(0, cells))))

@@ -1,4 +1,4 @@
-"""Random books, the shared library's replies to all four calls held against the second check and reckoning."""
+"""Random books: the shared library's replies held against the second check and reckoning, some against fractions."""
 
 import random
 import sys
@@ -9,9 +9,11 @@ from typing import NamedTuple
 
 from second.book import empty_book, random_book
 from second.check import check, look
+from second.exact import exact_liability, group_distance, has_rate_below_zero
 from second.layout import PRODUCT_GROUPS, RECORD_COUNT, SETTINGS, record_start
 from second.reckoning import group, totals
 from tests.books.insurers import MANY_PRODUCTS, dense_full_book, highest_full_book, insurer_book
+from tests.books.trial import without_rates_below_zero
 from tests.calls.arguments import test_arguments
 from tests.calls.library import open_library
 from tests.random_books.check import one_book
@@ -37,6 +39,9 @@ BOOK_FORMS = (bytes, bytearray, memoryview)
 # One book in so many, for what takes the second reckoning long; both are even, as the numbers of valid books are.
 BOOKS_FOR_TOTALS = 8
 BOOKS_FOR_ALL_GROUPS = 60
+# One liability in so many is held against its exact value, and at least so many of each curve.
+LIABILITIES_FOR_FRACTIONS = 4
+LEAST_OF_A_CURVE = 100
 
 
 class Call(NamedTuple):
@@ -129,13 +134,14 @@ def calls_on(library, book, number, chooser):
 
 
 def random_books(chooser, count):
-    """Valid and mostly damaged books in turn; the valid ones have now and then long chains."""
+    """Valid and mostly damaged books in turn; the valid ones have now and then long chains, or no rate below zero."""
     for number in range(count):
         if number % 2:
             yield one_book(chooser)
         else:
             least_class = chooser.choices((0, 60, 100, 117), weights=(1, 2, 5, 12))[0]
-            yield random_book(chooser, least_class, chooser.choice((1, 4, 14)))
+            book = random_book(chooser, least_class, chooser.choice((1, 4, 14)))
+            yield without_rates_below_zero(book) if chooser.random() < 0.5 else book
 
 
 def random_calls(library, count, seed):
@@ -171,23 +177,35 @@ class Tally:
         # Where there are contracts: the pairs that Group was asked for, and how often Totals was called.
         self.pairs = set()
         self.totals_with_contracts = 0
+        # Of liabilities with contracts, by whether a rate is below zero: the shares of their distance.
+        self.liabilities = 0
+        self.shares = {True: [], False: []}
 
     def add(self, name, book, call):
         """One call."""
         self.calls[call.name] += 1
         self.refusals[call.name, call.due[0]] += 1
-        self.count_contracts(call)
+        self.count_contracts(book, call)
         if call.given != call.due:
             self.differences[call.name] += 1
             if self.differences.total() <= MOST_DIFFERENCES_SHOWN:
                 self.show(name, book, call)
 
-    def count_contracts(self, call):
+    def count_contracts(self, book, call):
         """A call of Group or Totals whose n is not 0; no refusal has one."""
         if call.name == "group" and call.due[3] != 0:
             self.pairs.add(call.pair)
+            self.liabilities += 1
+            if self.liabilities % LIABILITIES_FOR_FRACTIONS == 0:
+                self.measure(book, call)
         if call.name == "totals" and call.due[2] != 0:
             self.totals_with_contracts += 1
+
+    def measure(self, book, call):
+        """What share of its distance the library's liability uses; half is allowed where no rate is below zero."""
+        _, _, liability, n, _ = call.given
+        share = abs(liability - exact_liability(book, *call.pair)) / group_distance(book, n)
+        self.shares[has_rate_below_zero(book)].append(share)
 
     def show(self, name, book, call):
         """Keep the book and say what differs."""
@@ -203,6 +221,10 @@ class Tally:
         for name, times in sorted(self.calls.items()):
             differing = self.differences[name]
             report.test(f"{times} replies to {name} agree", differing == 0, f"{differing} differ")
+        for below, words in ((True, "the distance, with a rate below zero"),
+                             (False, "half the distance, with no rate below zero")):
+            beyond = sum(share > 1 for share in self.shares[below])
+            report.test(f"{len(self.shares[below])} liabilities within {words}", beyond == 0, f"{beyond} are not")
 
     def test_coverage(self, report):
         """Every refusal of every call often enough, and figures of every setting and group."""
@@ -214,6 +236,8 @@ class Tally:
         report.covers("every setting with every group, with contracts", pairs, self.pairs)
         report.test(f"{self.totals_with_contracts} totals with contracts",
                     self.totals_with_contracts >= LEAST_TOTALS_WITH_CONTRACTS)
+        report.test("liabilities of both curves held against fractions",
+                    min(map(len, self.shares.values())) >= LEAST_OF_A_CURVE)
 
 
 def main():

@@ -7,13 +7,16 @@ from collections import Counter
 from typing import NamedTuple
 
 from second.book import full_book, random_book
-from second.funds import funds
+from second.exact import has_rate_below_zero
+from second.funds import funds, joined_book
 from second.layout import LONGEST_BOOK
 from tests.books.damage import damaged
+from tests.books.trial import without_rates_below_zero
 from tests.calls.funds_cases import LONGEST_FUND, fund_of, marks, table_of, test_arguments, test_cases
 from tests.calls.library import open_library
 from tests.random_books.common import keep_book, read_arguments
 from tests.report import Report
+from tests.streams.listing_coverage import distance_share
 
 DEFAULT_PAIRS = 1_000
 DEFAULT_SEED = 1_164
@@ -21,6 +24,9 @@ DEFAULT_SEED = 1_164
 PAIRS_FOR_COVERAGE = 1_000
 LEAST_TIMES = 3
 MOST_DIFFERENCES_SHOWN = 5
+# One fund with contracts in so many is held against its exact values, and at least so many of each curve.
+FUNDS_FOR_FRACTIONS = 8
+LEAST_OF_A_CURVE = 20
 # What one fund can be refused for while the other is reckoned; 7 and 8 are the table file's, and refuse both.
 OWN_REFUSALS = (1, 2, 3, 4, 5, 6, 9, 10, 11, 12, 13, 23)
 COMMON_REFUSALS = (7, 8, 16, 24)
@@ -65,7 +71,8 @@ def random_fund(chooser):
 
 def random_table(chooser):
     """A table file: sound, with a damaged rate, or of another length."""
-    table = table_of(small_book(chooser))
+    book = small_book(chooser)
+    table = table_of(without_rates_below_zero(book) if chooser.random() < 0.5 else book)
     kind = chooser.choices(("sound", "rate", "length"), weights=(16, 2, 1))[0]
     if kind == "length":
         return (table + b"\0" * 2_000)[:chooser.choice((0, 1_163, 1_165, 1_220, 3_000))]
@@ -103,6 +110,9 @@ class Tally:
         self.differences = 0
         self.together = Counter()
         self.beside_accepted = Counter()
+        # Of funds with contracts, by whether a rate is below zero: the shares of their distance.
+        self.with_contracts = 0
+        self.shares = {True: [], False: []}
 
     def differs(self, name, pair, what):
         """One difference."""
@@ -123,7 +133,16 @@ class Tally:
             self.beside_accepted["first", first] += 1
         if first == 0:
             self.beside_accepted["second", second] += 1
+        self.measure(pair, *given)
         return given
+
+    def measure(self, pair, verdicts, numbers):
+        """What share of its distance a fund's total uses at most; half is allowed where no rate is below zero."""
+        for (_, _, n), fund, half in zip(verdicts, pair.funds, HALVES, strict=True):
+            self.with_contracts += n != 0
+            if n != 0 and self.with_contracts % FUNDS_FOR_FRACTIONS == 0:
+                book = joined_book(pair.table, fund)
+                self.shares[has_rate_below_zero(book)].append(distance_share(book, (0, 0, n, numbers[half], None)))
 
     def hold_apart(self, library, name, pair, given, chooser):
         """One fund's file changed, its length too: the other's verdict and half are alike."""
@@ -144,6 +163,8 @@ class Tally:
             report.test(f"every refusal of the {side} fund beside an accepted one", not rare, f"rare: {rare}")
         rare = [number for number in COMMON_REFUSALS if self.together[number, number] < LEAST_TIMES]
         report.test("every refusal of both funds", not rare, f"rare: {rare}")
+        report.test("funds of both curves held against fractions",
+                    min(map(len, self.shares.values())) >= LEAST_OF_A_CURVE)
 
 
 def test_random(report, library, tally, count):
@@ -155,6 +176,10 @@ def test_random(report, library, tally, count):
         tally.hold_apart(library, number, pair, given, chooser)
     report.test(f"replies and numbers of {count} random pairs agree, and neither fund bears on the other",
                 tally.differences == 0, f"{tally.differences} differ")
+    for below, words in ((True, "the distance, with a rate below zero"),
+                         (False, "half the distance, with no rate below zero")):
+        beyond = sum(share > 1 for share in tally.shares[below])
+        report.test(f"the totals of {len(tally.shares[below])} funds within {words}", beyond == 0, f"{beyond} are not")
 
 
 def test_full(report, library, tally):

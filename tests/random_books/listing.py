@@ -6,11 +6,13 @@ import sys
 from collections import Counter
 
 from second.book import full_book, make_book, random_book, random_values, read_values
+from second.exact import has_rate_below_zero
 from second.layout import (COST_RATES, CURVE, FIRST_RECORD_PLACE, LONGEST_BOOK, MORTALITY, MOST_BYTES_TAKEN,
                            changed)
 from second.reckoning import cells_by_group, listing_of, totals
 from tests.books.damage import damaged
 from tests.books.insurers import dense_full_book
+from tests.books.trial import without_rates_below_zero
 from tests.program import ProgramFailed, program_path, run_program
 from tests.random_books.common import cover_verdicts, keep_book, read_arguments
 from tests.report import Report
@@ -25,6 +27,8 @@ BOOKS_FOR_COVERAGE = 450
 LEAST_DIFFERENT = 400
 LEAST_TIMES = 1
 LEAST_WITH_SEVERAL_GROUPS = 40
+# Of accepted books with contracts, with a rate below zero and without.
+LEAST_OF_A_CURVE = 40
 MOST_KEPT = 5
 # One line of progress for so many inputs.
 INPUTS_A_LINE = 500
@@ -82,10 +86,11 @@ MIX = {damaged_book: 40, spoiled_book: 12, small_book: 10, mixed_book: 22, extre
 
 
 def random_inputs(count, seed):
-    """So many inputs, drawn with a seed."""
+    """So many inputs, drawn with a seed; every second that has a curve is rid of rates below zero."""
     chooser = random.Random(seed)
-    for make in chooser.choices(list(MIX), weights=MIX.values(), k=count):
-        yield make(chooser)
+    for number, make in enumerate(chooser.choices(list(MIX), weights=MIX.values(), k=count)):
+        book = make(chooser)
+        yield without_rates_below_zero(book) if number % 2 and len(book) >= FIRST_RECORD_PLACE else book
 
 
 class Tally:
@@ -94,8 +99,10 @@ class Tally:
     def __init__(self, seed):
         self.seed = seed
         self.differing = 0
-        self.beyond = 0
-        self.largest_share = 0
+        # By whether a rate is below zero: half the distance is allowed where none is.
+        self.beyond = Counter()
+        self.largest_share = Counter()
+        self.with_contracts = Counter()
         # Digests, since all inputs together may be long.
         self.different = set()
         self.longest = 0
@@ -130,12 +137,13 @@ class Tally:
             raise ProgramFailed(f"{path}: {trouble}") from trouble
 
     def measure(self, number, book, reply):
-        """What share of the distance an accepted book uses."""
-        share = distance_share(book, reply)
-        self.largest_share = max(self.largest_share, share)
+        """What share of its distance an accepted book uses."""
+        share, below = distance_share(book, reply), has_rate_below_zero(book)
+        self.with_contracts[below] += reply[2] != 0
+        self.largest_share[below] = max(self.largest_share[below], share)
         if share > 1:
-            self.beyond += 1
-            self.keep(self.beyond, number, book, f"{float(100 * share):.2f} percent of the distance")
+            self.beyond[below] += 1
+            self.keep(self.beyond.total(), number, book, f"{float(100 * share):.2f} percent of the distance")
 
     def keep(self, times, number, book, words):
         """Keep the first inputs that are wrong in some way, and say what is."""
@@ -143,12 +151,14 @@ class Tally:
             print(f"difference: {keep_book(book, 'listing', self.seed, number)}: {words}")
 
     def test_agreement(self, report):
-        """Every listing agrees, and every total is within the distance; the largest share is told."""
+        """Every listing agrees, and every total is within its distance; the largest shares are told."""
         report.test(f"the listings of {self.refusals.total()} inputs agree", self.differing == 0,
                     f"{self.differing} differ")
-        print(f"largest share of the distance: {float(100 * self.largest_share):.2f} percent")
-        report.test(f"the totals of {self.refusals[0]} books within the distance of the exact value",
-                    self.beyond == 0, f"{self.beyond} are not")
+        for below, words in ((True, "the distance, with a rate below zero"),
+                             (False, "half the distance, with no rate below zero")):
+            print(f"largest share of {words}: {float(100 * self.largest_share[below]):.2f} percent")
+            report.test(f"the totals of {self.with_contracts[below]} books within {words}", self.beyond[below] == 0,
+                        f"{self.beyond[below]} are not")
 
     def test_coverage(self, report):
         """Inputs that differ, every verdict, contracts in any number of groups, inputs that run on."""
@@ -162,6 +172,9 @@ class Tally:
         report.test(f"{several} books with contracts in several groups", several >= LEAST_WITH_SEVERAL_GROUPS)
         report.covers("contracts in any number of groups", range(6), self.groups)
         report.test("inputs longer than what is taken", self.longest > MOST_BYTES_TAKEN)
+        for below, words in ((True, "with a rate below zero"), (False, "with no rate below zero")):
+            report.test(f"{self.with_contracts[below]} books with contracts, {words}",
+                        self.with_contracts[below] >= LEAST_OF_A_CURVE)
 
 
 def main():

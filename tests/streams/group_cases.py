@@ -76,6 +76,8 @@ def trial_calls():
     yield Call("lapse_stays_down", 4, 2, trials.lasting_lapse_book())
     yield Call("loss_in_discounting", 0, 2, trials.loss_in_discounting_book())
     yield Call("loss_in_every_step", 0, 2, trials.loss_in_every_step_book())
+    for words, rate in (("below", -9_999), ("above", 1)):
+        yield Call(f"loss_at_every_rounding_{words}_zero", 0, 2, trials.loss_at_every_rounding_book(rate))
 
 
 def class_calls():

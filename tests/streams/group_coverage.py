@@ -1,10 +1,9 @@
 """What the group stream covers, counted from its calls and replies, and every distance in it."""
 
 from dataclasses import replace
-from fractions import Fraction
 
 from second.book import read_values
-from second.exact import exact_liability
+from second.exact import exact_liability, group_distance, has_rate_below_zero
 from second.layout import (CHAINS, COST_RATES, CURVE, LONGEST_BOOK, MORTALITY, PRODUCT_GROUPS, SETTINGS,
                            record)
 from second.reckoning import year_table
@@ -115,12 +114,21 @@ def has_rich_subgroup_behind_poor(values, setting):
 
 
 def cover_distance(report, accepted):
-    """Every liability against its exact value; the largest share of the distance is named."""
+    """Every liability against its exact value."""
     shares = []
     for entry in accepted:
         call, (_, _, liability, n, _) = entry
         exact = exact_liability(call.book, call.setting, call.product_group)
-        shares.append((abs(liability - exact) / Fraction(500 * n + 2_850), entry.name))
-    share, name = max(shares)
-    print(f"largest share of the distance: {float(100 * share):.2f} percent, {name}")
-    report.test(f"{len(shares)} liabilities within the distance of the exact value", share <= 1)
+        share = abs(liability - exact) / group_distance(call.book, n)
+        shares.append((has_rate_below_zero(call.book), share, entry.name))
+    hold_shares(report, "liabilities", shares)
+
+
+def hold_shares(report, words, shares):
+    """(a rate is below zero, share, name): the largest of each curve is named; half the distance where none is."""
+    for below, curve, distance in ((True, "with a rate below zero", "the distance"),
+                                   (False, "with no rate below zero", "half the distance")):
+        share, name = max(((share, name) for dips, share, name in shares if dips == below), default=(2, "none"))
+        print(f"largest share of {distance}, {curve}: {float(100 * share):.2f} percent, {name}")
+        times = sum(dips == below for dips, _, _ in shares)
+        report.test(f"{times} {words} {curve} within {distance} of the exact value", share <= 1)

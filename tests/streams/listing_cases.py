@@ -40,6 +40,9 @@ def loss_cases():
     """What rounding loses, in all five groups at once."""
     yield Case("loss_in_every_step_of_every_group",
                trials.loss_in_every_step_book(MEN_OF_EACH_GROUP))
+    for words, rate in (("below", -9_999), ("above", 1)):
+        yield Case(f"loss_at_every_rounding_of_every_group_{words}_zero",
+                   trials.loss_at_every_rounding_book(rate, MEN_OF_EACH_GROUP))
 
 
 def longest_cases():

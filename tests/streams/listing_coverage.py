@@ -2,11 +2,11 @@
 
 from second.book import one_record_book
 from second.check import check
-from second.exact import exact_totals
+from second.exact import exact_totals, has_rate_below_zero, total_distance
 from second.layout import LONGEST_BOOK, MOST_BYTES_TAKEN, MOST_RECORDS, PRODUCT_GROUPS
 from second.reckoning import FIRST_CAPPED_YEAR, liability_of, year_sums, year_table
 from tests.streams.check_cases_order import BOOK_REFUSALS
-from tests.streams.group_coverage import cover_ends, has_rich_subgroup_behind_poor
+from tests.streams.group_coverage import cover_ends, has_rich_subgroup_behind_poor, hold_shares
 
 MOST_STDIN_BYTES = 600_000
 
@@ -112,13 +112,11 @@ def has_rich_group_beside_poor(values, setting):
 def distance_share(book, reply):
     """What share of their promised distance an accepted book's totals use, at most."""
     _, _, n, by_setting, _ = reply
-    return max(abs(total - exact) / (500 * n + 14_250)
+    return max(abs(total - exact) / total_distance(book, n)
                for total, exact in zip(by_setting, exact_totals(book), strict=True))
 
 
 def cover_distance(report, accepted):
-    """Every total against its exact value; the largest share of the distance is named."""
-    share, name = max((distance_share(entry.book, entry.reply), entry.name) for entry in accepted)
-    print(f"largest share of the distance: {float(100 * share):.2f} percent, {name}")
-    report.test(f"the totals of {len(accepted)} books within the distance of the exact value",
-                share <= 1)
+    """Every total against its exact value."""
+    hold_shares(report, "books' totals", [(has_rate_below_zero(entry.book), distance_share(entry.book, entry.reply),
+                                           entry.name) for entry in accepted])

@@ -10,8 +10,9 @@ use Rattle.field.specs.Verdicts.{pick, need, _andThen_}
 use Rattle.field.specs.declared.Verdict.{Verdict}
 use Rattle.field.specs.declared.Verdict.the-variants.{Accepted, Refused}
 use Rattle.book.specs.Layout.{headerSize, curvePlace}
+use Rattle.reckoning.specs.Portfolio.{NoRateBelowZero}
 use Rattle.reckoning.specs.Bounds.{Within}
-use Rattle.reckoning.specs.Promises.{totalDistanceOf}
+use Rattle.reckoning.specs.Promises.{totalDistanceOf, halfTotalDistanceOf}
 use Rattle.reckoning.specs.Totals.{exactTotalOf, totalsReply}
 use Rattle.reckoning.specs.declared.TotalsReply.{TotalsReply}
 use Rattle.funds.specs.declared.FundsReply.{FundsReply}
@@ -84,6 +85,11 @@ pub record FundsPromised (table first second : List ℕ) (before after : List �
       → Within (totalDistanceOf n) (getD after setting (pos 0)) (exactTotalOf (joinedBook table first) setting)
   pub second-distance : (setting n : ℕ) → setting < 8 → reply .second ≡ Accepted n
       → Within (totalDistanceOf n) (getD after (8 + setting) (pos 0)) (exactTotalOf (joinedBook table second) setting)
+  -- within 250 n + 7,125 where no rate of the curve, which the table file has, is below zero
+  pub first-half-distance : NoRateBelowZero (joinedBook table first) → (setting n : ℕ) → setting < 8 → reply .first ≡ Accepted n
+      → Within (halfTotalDistanceOf n) (getD after setting (pos 0)) (exactTotalOf (joinedBook table first) setting)
+  pub second-half-distance : NoRateBelowZero (joinedBook table second) → (setting n : ℕ) → setting < 8 → reply .second ≡ Accepted n
+      → Within (halfTotalDistanceOf n) (getD after (8 + setting) (pos 0)) (exactTotalOf (joinedBook table second) setting)
 
 -- Neither fund bears on the other: whatever changes in one fund's file, with the same table file and the same lent
 -- numbers, the other's reply and half are alike.

@@ -4,13 +4,14 @@ use mathlib.Core.List.{List, [], _∷_, _++_}
 use mathlib.Core.Bool.{Bool, true, false}
 use Prim.Native.Nat.{ℕ, zero, suc, _+_, _-_, _*_, _<_, _≤_}
 use native.Mathlib.Omega.{arith}
-use borrow.Author.Tests.{eqb-true, eqb-false, ltb-true, leb-true}
+use borrow.Author.Tests.{eqb-true, eqb-false, ne-eqb, ltb-true, leb-true}
 use lib.Dec.{eqb}
+use Rattle.field.specs.Bytes.{readU32}
 use Rattle.field.specs.Verdicts.{pick}
 use Rattle.field.specs.declared.Verdict.the-variants.{Accepted}
 use Rattle.field.proofs.Verdicts.{need-true, then-left, then-right}
 use Rattle.field.proofs.Ranges.{within-means}
-use Rattle.book.specs.Layout.{lastClass, chains, headOf, nextOf, mortalityPlace, mostRate}
+use Rattle.book.specs.Layout.{lastClass, chains, headOf, nextOf, curvePlace, mortalityPlace, mostRate}
 use Rattle.book.specs.Cells.{firstChain, chainsOf}
 use Rattle.book.specs.Reading.{ChainFrom, Standing, ValidBook}
 use Rattle.book.proofs.Valid.{valid, chain-next}
@@ -18,7 +19,7 @@ use Rattle.settings.specs.declared.Decrements.{Decrements}
 use Rattle.settings.proofs.Laws.{costs-most, claims-most}
 use Rattle.reckoning.specs.Steps.{Cell}
 use Rattle.reckoning.specs.Bounds.{GoodCell, GoodCells, GoodTerms}
-use Rattle.reckoning.specs.Portfolio.{mortalityOf, costRateOf, divisorOf, oneLess, cellOf, linksFrom, chainLinks, linksOf, cellsOf, groupCells, termsOf}
+use Rattle.reckoning.specs.Portfolio.{mortalityOf, costRateOf, divisorOf, NoRateBelowZero, oneLess, cellOf, linksFrom, chainLinks, linksOf, cellsOf, groupCells, termsOf}
 use Rattle.reckoning.specs.Replies.{groupCheck}
 use Rattle.reckoning.proofs.Rows.{chain-standing, row-standing}
 use Rattle.reckoning.proofs.Members.{counted, links-counted, cells-append}
@@ -58,6 +59,24 @@ module _ (b : List ℕ) (v : ValidBook 1 b) where
   pub divisor-high : (k : ℕ) → k < 50 → divisorOf b k ≤ 1_200_000
   divisor-high k year = divisor-range k year .1
 
+  -- no rate is below zero exactly where no divisor is below 1,000,000, the bytes of a rate making a number of 32 bits
+  pub divisor-ordinary : NoRateBelowZero b → (k : ℕ) → k < 50 → 1_000_000 ≤ divisorOf b k
+  unfolding divisorOf
+  divisor-ordinary ordinary k year =
+      let rate = v .tables .curve (k - 1) (omega arith) in
+      let sign = ordinary (k - 1) (omega arith) in
+      pick-each (λ d. 1_000_000 ≤ d) (eqb k 0) _ _ (omega arith) (omega arith)
+
+  pub ordinary-divisor : ((j : ℕ) → j < 49 → readU32 b (curvePlace + 4 * j) < 4_294_967_296)
+      → ((k : ℕ) → k < 50 → 1_000_000 ≤ divisorOf b k) → NoRateBelowZero b
+  unfolding divisorOf
+  ordinary-divisor bits least j year =
+      let rate = v .tables .curve j year in
+      let small = bits j year in
+      let before : suc j - 1 ≡ j = omega arith in
+      let divisor = rw (ne-eqb (suc j) 0 (λ z. absurd (omega arith)), before) at (least (suc j) (omega arith)) in
+      omega arith
+
   pub cost-high : (g : ℕ) → 1 ≤ g → g ≤ 5 → costRateOf b g ≤ mostRate
   unfolding costRateOf
   cost-high g lo hi = v .tables .cost (g - 1) (omega arith)
@@ -68,13 +87,15 @@ module _ (b : List ℕ) (v : ValidBook 1 b) where
       let place : mortalityPlace + 484 * sex + 4 * class ≡ mortalityPlace + 4 * (121 * sex + class) = omega arith in
       rw place (v .tables .mortality (121 * sex + class) (omega arith))
 
-pub good-terms : (b : List ℕ) (setting g : ℕ) → ValidBook 1 b → 1 ≤ g → g ≤ 5 → GoodTerms 990_000 (termsOf b setting g)
+-- the terms, with no divisor below D
+pub good-terms : (D : ℕ) (b : List ℕ) (setting g : ℕ) → ValidBook 1 b → 1 ≤ g → g ≤ 5 → ((k : ℕ) → k < 50 → D ≤ divisorOf b k)
+    → GoodTerms D (termsOf b setting g)
 unfolding termsOf
-good-terms b setting g v lo hi = record {
+good-terms D b setting g v lo hi least = record {
   claimsWeight-most = λ k year. claims-most setting k;
   costWeight-most = λ k year. costs-most setting k;
   costRate-most = cost-high b v g lo hi;
-  divisor-least = λ k later year. divisor-low b v k year;
+  divisor-least = λ k later year. least k year;
 }
 
 -- the cells

@@ -9,7 +9,7 @@ use lib.Dec.{T, leb, eqb, eqb→eq, lit≤}
 use lib.IntN.{ℤ, pos, _-ℤ_, _*ℤ_}
 use Rattle.reckoning.specs.Arithmetic.{rounded, exact, Fraction, partFraction}
 use Rattle.reckoning.specs.Steps.{Cell, Terms, held, oneUnless, inForce, cellPremium, cellClaims, sumCells, premiumSum, claimsSum, outgo, cappedIf, capped, countedPremium, discounted, discountedOutgo, discountedPremium, sumYears, totalOutgo, totalPremium, liability, exactLiability, less}
-use Rattle.reckoning.specs.Promises.{GroupDistance}
+use Rattle.reckoning.specs.Promises.{GroupDistance, GroupHalfDistance}
 use Rattle.reckoning.specs.Bounds.{GoodCell, GoodCells, GoodTerms, Within}
 use Rattle.reckoning.proofs.Near.{Near, near-whole, near-part, near-plus, near-more}
 use Rattle.reckoning.proofs.Differences.{diff-less, diff-minus, diff-times, diff-abs}
@@ -198,3 +198,9 @@ module _ (D : ℕ) (D-positive : 0 < D) (t : Terms) (good-t : GoodTerms D t) (cs
 pub distance : GroupDistance
 unfolding outgoTotalErr premiumTotalErr sumErrs backErr up
 distance t good-t cs good-cs = within 990_000 (omega arith) t good-t cs good-cs _ _ (lit≤ tt, lit≤ tt) (lit≤ tt, lit≤ tt)
+
+-- ---- for a curve with no rate below zero
+
+pub half-distance : GroupHalfDistance
+unfolding outgoTotalErr premiumTotalErr sumErrs backErr up
+half-distance t good-t cs good-cs = within 1_000_000 (omega arith) t good-t cs good-cs _ _ (lit≤ tt, lit≤ tt) (lit≤ tt, lit≤ tt)

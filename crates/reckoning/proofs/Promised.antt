@@ -1,4 +1,4 @@
--- What Group promises holds of its reply and table as defined: the distance, and the cap. Assumes nothing.
+-- What Group promises holds of its reply and table as defined: both distances, and the cap. Assumes nothing.
 use mathlib.Core.Path.{_≡_, refl, sym, subst}
 use mathlib.Core.Logic.{⊎-elim}
 use mathlib.Core.Bool.{Bool, true, false}
@@ -20,14 +20,14 @@ use Rattle.book.proofs.Numbers.{zero-accepted}
 use Rattle.settings.specs.Settings.{decrementsOf}
 use Rattle.reckoning.specs.Arithmetic.{rounded}
 use Rattle.reckoning.specs.Steps.{Cell, Terms, outgo, cappedIf, capped, countedPremium}
-use Rattle.reckoning.specs.Portfolio.{groupCells, termsOf}
+use Rattle.reckoning.specs.Portfolio.{divisorOf, NoRateBelowZero, groupCells, termsOf}
 use Rattle.reckoning.specs.Bounds.{Within}
-use Rattle.reckoning.specs.Promises.{distanceOf}
+use Rattle.reckoning.specs.Promises.{GroupPromise, eachCell, eachGroup, distanceOf, halfCell, halfGroup, halfDistanceOf}
 use Rattle.reckoning.specs.Replies.{groupCheck, groupLiability, exactGroupLiability, refusalIn, replyOf, groupReply, yearNumbers, yearTable, groupTable, GroupPromised}
 use Rattle.reckoning.specs.declared.GroupReply.{GroupReply}
-use Rattle.reckoning.proofs.Distance.{distance}
+use Rattle.reckoning.proofs.Distance.{distance, half-distance}
 use Rattle.reckoning.proofs.Members.{held-group}
-use Rattle.reckoning.proofs.Accepted.{group-range, group-valid, good-terms, good-cells}
+use Rattle.reckoning.proofs.Accepted.{group-range, group-valid, divisor-low, divisor-ordinary, good-terms, good-cells}
 
 module _ (t : Terms) (cs : List Cell) where
   pub cap-holds : (k : ℕ) → 5 ≤ k → 9 * countedPremium rounded t cs k ≤ 10 * outgo rounded t cs k
@@ -93,18 +93,31 @@ module _ (b : List ℕ) (setting g numbers : ℕ) where
   accepts = told-reply (groupCheck b setting g numbers) (groupLiability b setting g) (heldOfGroup b (lastClass 1) g) group-told
 
 -- of an accepted book
-pub group-distance : (b : List ℕ) (setting g : ℕ) → ValidBook 1 b → (1 ≤ g) × (g ≤ 5)
-    → Within (distanceOf (heldOfGroup b (lastClass 1) g)) (groupLiability b setting g) (exactGroupLiability b setting g)
-unfolding groupLiability exactGroupLiability
-group-distance b setting g v range =
-    let w = decrementsOf b setting in
-    rw (held-group b w g) at
-    (distance (termsOf b setting g) (good-terms b setting g v (range .0) (range .1)) (groupCells b w g) (good-cells b w g v (range .0) (range .1)))
+module _ (b : List ℕ) (setting g : ℕ) (v : ValidBook 1 b) (range : (1 ≤ g) × (g ≤ 5)) where
+  -- what is promised where no divisor is below D
+  group-within : (D each flat : ℕ) → GroupPromise D each flat → ((k : ℕ) → k < 50 → D ≤ divisorOf b k)
+      → Within (each * heldOfGroup b (lastClass 1) g + flat) (groupLiability b setting g) (exactGroupLiability b setting g)
+  unfolding groupLiability exactGroupLiability
+  group-within D each flat promise least =
+      let w = decrementsOf b setting in
+      rw (held-group b w g) at
+      (promise (termsOf b setting g) (good-terms D b setting g v (range .0) (range .1) least) (groupCells b w g) (good-cells b w g v (range .0) (range .1)))
+
+  pub group-distance : Within (distanceOf (heldOfGroup b (lastClass 1) g)) (groupLiability b setting g) (exactGroupLiability b setting g)
+  group-distance = group-within 990_000 eachCell eachGroup distance (divisor-low b v)
+
+  pub group-half-distance : NoRateBelowZero b
+      → Within (halfDistanceOf (heldOfGroup b (lastClass 1) g)) (groupLiability b setting g) (exactGroupLiability b setting g)
+  group-half-distance ordinary = group-within 1_000_000 halfCell halfGroup half-distance (divisor-ordinary b v ordinary)
 
 -- where Group accepts
 module _ (b : List ℕ) (setting g : ℕ) (before : List ℕ) (n : ℕ) (e : groupCheck b setting g (length before) ≡ Accepted n) where
   accepted-distance : Within (distanceOf (heldOfGroup b (lastClass 1) g)) (groupLiability b setting g) (exactGroupLiability b setting g)
   accepted-distance = group-distance b setting g (group-valid b setting g (length before) n e) (group-range b setting g (length before) n e)
+
+  accepted-half-distance : NoRateBelowZero b
+      → Within (halfDistanceOf (heldOfGroup b (lastClass 1) g)) (groupLiability b setting g) (exactGroupLiability b setting g)
+  accepted-half-distance = group-half-distance b setting g (group-valid b setting g (length before) n e) (group-range b setting g (length before) n e)
 
   group-cap : (k : ℕ) → 5 ≤ k → k < 50 → 9 * getD (groupTable b setting g before) (4 * k) 0 ≤ 10 * getD (groupTable b setting g before) (4 * k + 1) 0
   unfolding groupTable
@@ -122,5 +135,8 @@ promised b setting g before after reply reply-is table-is = record {
   reply-is = reply-is;
   table-is = table-is;
   distance = λ none. let e = accepts b setting g (length before) (rw reply-is at none) in rw (reply-is, e) (accepted-distance b setting g before _ e);
+  half-distance = λ ordinary none.
+      let e = accepts b setting g (length before) (rw reply-is at none) in
+      rw (reply-is, e) (accepted-half-distance b setting g before _ e ordinary);
   cap = λ k none late year. rw table-is (group-cap b setting g before _ (accepts b setting g (length before) (rw reply-is at none)) k late year);
 }

@@ -1,4 +1,5 @@
--- The distance of a total: distances add, so the five groups' liabilities together keep 500 n + 14,250. And what Totals promises. Assumes nothing.
+-- The distance of a total: distances add, so the five groups' liabilities together keep 500 n + 14,250, and 250 n + 7,125 where no rate is below zero.
+-- And what Totals promises. Assumes nothing.
 use mathlib.Core.Path.{_≡_, refl, sym, ap, _∙_}
 use mathlib.Core.List.{List}
 use Prim.Native.Nat.{ℕ, zero, suc, _+_, _*_, _≤_, _<_}
@@ -17,13 +18,14 @@ use Rattle.book.proofs.Cells.{groups-held}
 use Rattle.book.proofs.Numbers.{zero-accepted}
 use Rattle.book.proofs.Valid.{valid}
 use Rattle.reckoning.specs.Steps.{SignedFraction}
+use Rattle.reckoning.specs.Portfolio.{NoRateBelowZero}
 use Rattle.reckoning.specs.Bounds.{Within}
-use Rattle.reckoning.specs.Promises.{eachCell, eachGroup, distanceOf, totalDistanceOf}
+use Rattle.reckoning.specs.Promises.{eachCell, eachGroup, allGroups, totalDistanceOf, halfCell, halfGroup, halfAllGroups, halfTotalDistanceOf}
 use Rattle.reckoning.specs.Replies.{groupLiability, exactGroupLiability}
 use Rattle.reckoning.specs.Totals.{sumGroups, totalOf, plusSigned, exactSumGroups, exactTotalOf, totalsOf, totalsFor, totalsReply, TotalsPromised}
 use Rattle.reckoning.specs.declared.TotalsReply.{TotalsReply}
 use Rattle.reckoning.proofs.Differences.{above, below, diff-self, diff-plus, diff-minus, diff-times, diff-abs, abs-diff}
-use Rattle.reckoning.proofs.Promised.{group-distance}
+use Rattle.reckoning.proofs.Promised.{group-distance, group-half-distance}
 
 within-more : {b c : ℕ} {z : ℤ} {x : SignedFraction} → b ≤ c → Within b z x → Within c z x
 within-more {b} {c} {z} {x} h p = record { under-positive = p .under-positive; distance = omega (arith, mul-le-mul-right (x .under) h, p .distance) }
@@ -59,25 +61,35 @@ sumFirst f zero = 0
 sumFirst f (suc j) = sumFirst f j + f (suc j)
 
 -- distances of groups, added
-groups-within : (n : ℕ → ℕ) (l : ℕ → ℤ) (x : ℕ → SignedFraction) (j : ℕ)
-    → ((g : ℕ) → 1 ≤ g → g ≤ j → Within (distanceOf (n g)) (l g) (x g))
-    → Within (eachCell * sumFirst n j + eachGroup * j) (sumGroups l j) (exactSumGroups x j)
+groups-within : (each flat : ℕ) (n : ℕ → ℕ) (l : ℕ → ℤ) (x : ℕ → SignedFraction) (j : ℕ)
+    → ((g : ℕ) → 1 ≤ g → g ≤ j → Within (each * n g + flat) (l g) (x g))
+    → Within (each * sumFirst n j + flat * j) (sumGroups l j) (exactSumGroups x j)
 unfolding sumGroups exactSumGroups sumFirst
-groups-within n l x zero each = within-more (omega arith) within-none
-groups-within n l x (suc j) each =
+groups-within each flat n l x zero near = within-more (omega arith) within-none
+groups-within each flat n l x (suc j) near =
     within-more (omega arith)
-    (within-plus (groups-within n l x j (λ g lo hi. each g lo (omega arith))) (each (suc j) (omega arith) (omega arith)))
+    (within-plus (groups-within each flat n l x j (λ g lo hi. near g lo (omega arith))) (near (suc j) (omega arith) (omega arith)))
 
 module _ (b : List ℕ) where
   first-cells : sumFirst (heldOfGroup b (lastClass 1)) 5 ≡ heldInAll b (lastClass 1)
   unfolding sumFirst sumOf
   first-cells = omega (arith, groups-held b (lastClass 1))
 
-  pub total-distance : (setting : ℕ) → ValidBook 1 b → Within (totalDistanceOf (heldInAll b (lastClass 1))) (totalOf b setting) (exactTotalOf b setting)
+  total-within : (each flat all setting : ℕ) → flat * 5 ≤ all
+      → ((g : ℕ) → 1 ≤ g → g ≤ 5 → Within (each * heldOfGroup b (lastClass 1) g + flat) (groupLiability b setting g) (exactGroupLiability b setting g))
+      → Within (each * heldInAll b (lastClass 1) + all) (totalOf b setting) (exactTotalOf b setting)
   unfolding totalOf exactTotalOf
-  total-distance setting v =
-      within-more (omega (arith, first-cells))
-      (groups-within (heldOfGroup b (lastClass 1)) (groupLiability b setting) (exactGroupLiability b setting) 5 (λ g lo hi. group-distance b setting g v (lo, hi)))
+  total-within each flat all setting fits near =
+      within-more (rw first-cells (omega arith))
+      (groups-within each flat (heldOfGroup b (lastClass 1)) (groupLiability b setting) (exactGroupLiability b setting) 5 near)
+
+  pub total-distance : (setting : ℕ) → ValidBook 1 b → Within (totalDistanceOf (heldInAll b (lastClass 1))) (totalOf b setting) (exactTotalOf b setting)
+  total-distance setting v = total-within eachCell eachGroup allGroups setting (omega arith) (λ g lo hi. group-distance b setting g v (lo, hi))
+
+  pub total-half-distance : (setting : ℕ) → ValidBook 1 b → NoRateBelowZero b
+      → Within (halfTotalDistanceOf (heldInAll b (lastClass 1))) (totalOf b setting) (exactTotalOf b setting)
+  total-half-distance setting v ordinary =
+      total-within halfCell halfGroup halfAllGroups setting (omega arith) (λ g lo hi. group-half-distance b setting g v (lo, hi) ordinary)
 
   each-total : (setting : ℕ) → setting < 8 → getD (totalsOf b) setting (pos 0) ≡ totalOf b setting
   each-total zero h = refl
@@ -94,12 +106,19 @@ module _ (b : List ℕ) where
   refusal-told (Accepted m) n ts ds = refl
   refusal-told (Refused q p) n ts ds = refl
 
+  -- a reply without a refusal is that of an accepted book
+  accepted : (reply : TotalsReply) → reply ≡ totalsReply b → reply .refusal ≡ 0 → checkBook 1 b ≡ Accepted (countOf (checkBook 1 b))
+  unfolding totalsReply
+  accepted reply reply-is e = zero-accepted 1 b (sym (refusal-told (checkBook 1 b) _ _ _) ∙ sym (ap (λ (r : TotalsReply). r .refusal) reply-is) ∙ e)
+
   pub totals-promised : (reply : TotalsReply) → reply ≡ totalsReply b → TotalsPromised b reply
   unfolding totalsReply
   totals-promised reply reply-is = record {
     reply-is = reply-is;
     distance = λ setting few e.
-        let n = countOf (checkBook 1 b) in
-        let accepted : checkBook 1 b ≡ Accepted n = zero-accepted 1 b (sym (refusal-told (checkBook 1 b) _ _ _) ∙ sym (ap (λ (r : TotalsReply). r .refusal) reply-is) ∙ e) in
-        rw (reply-is, accepted, each-total setting few) (total-distance setting (valid 1 b n accepted));
+        let ok = accepted reply reply-is e in
+        rw (reply-is, ok, each-total setting few) (total-distance setting (valid 1 b _ ok));
+    half-distance = λ ordinary setting few e.
+        let ok = accepted reply reply-is e in
+        rw (reply-is, ok, each-total setting few) (total-half-distance setting (valid 1 b _ ok) ordinary);
   }

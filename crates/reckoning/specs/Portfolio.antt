@@ -1,5 +1,5 @@
 -- The cells and the terms of a product group in a setting, read off a book.
-use Prim.Native.Nat.{ℕ, zero, suc, _+_, _-_, _*_, _%_, min}
+use Prim.Native.Nat.{ℕ, zero, suc, _+_, _-_, _*_, _%_, _<_, min}
 use mathlib.Core.List.{List, [], _∷_, _++_}
 use lib.Dec.{ltb, eqb}
 use Rattle.field.specs.Bytes.{readU32}
@@ -20,6 +20,10 @@ costRateOf b g = readU32 b (costPlace + 4 * (g - 1))
 -- a rate below zero is stored in two's complement, so the sum is taken in 32 bits; year 0 is not discounted
 unfoldable pub divisorOf : List ℕ → ℕ → ℕ
 divisorOf b k = pick (eqb k 0) 1_000_000 ((readU32 b (curvePlace + 4 * (k - 1)) + 1_000_000) % 4_294_967_296)
+
+-- none of the 49 stored rates is below zero: one that is would be 2,147,483,648 or more as it stands in its four bytes
+abbrev pub NoRateBelowZero : List ℕ → Type 0
+NoRateBelowZero b = (j : ℕ) → j < 49 → readU32 b (curvePlace + 4 * j) < 2_147_483_648
 
 -- one less a rate in millionths at a weight in thousandths, in billionths; the weighted rate is cut to one (house rule)
 unfoldable pub oneLess : ℕ → ℕ → ℕ

@@ -15,9 +15,9 @@ use Rattle.book.specs.Check.{checkBook}
 use Rattle.settings.specs.Settings.{decrementsOf}
 use Rattle.reckoning.specs.Arithmetic.{rounded}
 use Rattle.reckoning.specs.Steps.{Cell, Terms, SignedFraction, outgo, countedPremium, discountedOutgo, discountedPremium, liability, exactLiability}
-use Rattle.reckoning.specs.Portfolio.{groupCells, termsOf}
+use Rattle.reckoning.specs.Portfolio.{NoRateBelowZero, groupCells, termsOf}
 use Rattle.reckoning.specs.Bounds.{Within}
-use Rattle.reckoning.specs.Promises.{distanceOf}
+use Rattle.reckoning.specs.Promises.{distanceOf, halfDistanceOf}
 use Rattle.reckoning.specs.declared.GroupReply.{GroupReply}
 use Rattle.reckoning.specs.declared.GroupReply.the-variants.{Reckoned, Refused as GroupRefused}
 
@@ -86,5 +86,7 @@ pub record GroupPromised (b : List ℕ) (setting g : ℕ) (before after : List �
   pub table-is : after ≡ groupTable b setting g before
   -- within 500 n + 2,850 centimes of the exact value, n and the liability being those of the reply
   pub distance : refusalIn reply ≡ 0 → Within (distanceOf (countIn reply)) (liabilityIn reply) (exactGroupLiability b setting g)
+  -- within 250 n + 1,425 where no rate of the curve is below zero
+  pub half-distance : NoRateBelowZero b → refusalIn reply ≡ 0 → Within (halfDistanceOf (countIn reply)) (liabilityIn reply) (exactGroupLiability b setting g)
   -- from the sixth year on nine times the counted premium of the table is at most ten times its outgo
   pub cap : (k : ℕ) → refusalIn reply ≡ 0 → 5 ≤ k → k < 50 → 9 * getD after (4 * k) 0 ≤ 10 * getD after (4 * k + 1) 0

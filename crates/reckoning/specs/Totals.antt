@@ -10,8 +10,9 @@ use Rattle.book.specs.Layout.{lastClass}
 use Rattle.book.specs.Cells.{heldInAll}
 use Rattle.book.specs.Check.{checkBook}
 use Rattle.reckoning.specs.Steps.{SignedFraction}
+use Rattle.reckoning.specs.Portfolio.{NoRateBelowZero}
 use Rattle.reckoning.specs.Bounds.{Within}
-use Rattle.reckoning.specs.Promises.{totalDistanceOf}
+use Rattle.reckoning.specs.Promises.{totalDistanceOf, halfTotalDistanceOf}
 use Rattle.reckoning.specs.Replies.{groupLiability, exactGroupLiability}
 use Rattle.reckoning.specs.declared.TotalsReply.{TotalsReply}
 
@@ -64,3 +65,6 @@ pub record TotalsPromised (b : List ℕ) (reply : TotalsReply) : Type 0 where
   -- within 500 n + 14,250 centimes of the exact value, n and the total being those of the reply
   pub distance : (setting : ℕ) → setting < 8 → reply .refusal ≡ 0
       → Within (totalDistanceOf (reply .n)) (getD (reply .totals) setting (pos 0)) (exactTotalOf b setting)
+  -- within 250 n + 7,125 where no rate of the curve is below zero
+  pub half-distance : NoRateBelowZero b → (setting : ℕ) → setting < 8 → reply .refusal ≡ 0
+      → Within (halfTotalDistanceOf (reply .n)) (getD (reply .totals) setting (pos 0)) (exactTotalOf b setting)

@@ -16,7 +16,7 @@ use Rattle.reckoning.specs.Arithmetic.{rounded}
 use Rattle.reckoning.specs.Steps.{Cell, Terms, premiumSum, claimsSum, outgo, cappedIf, capped, countedPremium}
 use Rattle.reckoning.specs.Bounds.{GoodTerms}
 use Rattle.reckoning.specs.Portfolio.{chainLinks, linksOf, groupLinks, groupCells, termsOf}
-use Rattle.reckoning.proofs.Accepted.{chains-few, good-terms}
+use Rattle.reckoning.proofs.Accepted.{chains-few, divisor-low, good-terms}
 use Rattle.cell.specs.States.{premiumAt, claimsAt}
 use Rattle.cell.proofs.Cells.{premium-at-le, claims-at-le}
 use Rattle.projection.specs.Tables.{addedAll, AtMost}
@@ -95,6 +95,6 @@ module _ (b : List ℕ) (v : ValidBook 1 b) (setting g k : ℕ) (lo : 1 ≤ g) (
       let w = decrementsOf b setting in
       omega (
         arith,
-        outgo-le (termsOf b setting g) (groupCells b w g) k 990_000 (good-terms b setting g v lo hi) year
+        outgo-le (termsOf b setting g) (groupCells b w g) k 990_000 (good-terms 990_000 b setting g v lo hi (divisor-low b v)) year
             (premium-most b v w g k hi year) (claims-most b v w g k hi year),
       )
