@@ -1,10 +1,11 @@
 # `make` lists the targets. The toolchain, a POSIX shell, make and Python 3.10 or later are needed; gcc for the
 # library and what calls it, g++, cargo and valgrind for the callers' tests.
 .DEFAULT_GOAL := help
-.PHONY: help test check list report convert fuzz streams samples lib callers bench clean FORCE
+.PHONY: help test check list report convert practice fuzz streams samples lib callers bench clean FORCE
 
 BOOK ?= samples/one_record.book
 SETTING ?= 0
+START ?= 1
 OUT ?= target/converted.book
 N ?= 2000
 SEED ?= 1
@@ -27,6 +28,10 @@ report: target/bin/report ## write the year report of a book in a setting: make 
 convert: target/bin/convert ## turn a book of age basis 2 into basis 1: make convert BOOK=path OUT=path
 	@target/bin/convert < "$(BOOK)" > "$(OUT)" && test -s "$(OUT)" || { rm -f "$(OUT)"; exit 1; }
 
+practice: OUT = target/practice.book
+practice: lib ## write the practice book of a start number: make practice START=1 OUT=path
+	@python3 -m tools.practice_book -- "$(START)" "$(OUT)"
+
 fuzz: target/bin/test_check target/bin/listing lib ## hold programs and calls against Python: make fuzz N=2000 SEED=1
 	@python3 -m tests.random_books.check --books $(N) --seed $(SEED)
 	@python3 -m tests.calls.base --books $(N) --seed $(SEED)
@@ -38,6 +43,7 @@ fuzz: target/bin/test_check target/bin/listing lib ## hold programs and calls ag
 	@python3 -m tests.calls.screen --books $(N) --seed $(SEED)
 	@python3 -m tests.calls.spread --claims $(N) --seed $(SEED)
 	@python3 -m tests.calls.deviation --models $(N) --seed $(SEED)
+	@python3 -m tests.calls.practice --books $(N) --seed $(SEED)
 	@python3 -m tests.random_books.listing --books $(N) --seed $(SEED)
 
 streams: ## write the test programs' streams anew
@@ -67,6 +73,7 @@ callers: ## run the tests of the callers in C, Rust and Python
 	@python3 -m tests.calls.screen
 	@python3 -m tests.calls.spread
 	@python3 -m tests.calls.deviation
+	@python3 -m tests.calls.practice
 
 bench: lib ## time Totals beside Rust and Python: make bench OPTIONS=--instructions counts instructions too
 	@cd callers/rust && cargo run --quiet --offline --locked --release --package bench -- $(OPTIONS)

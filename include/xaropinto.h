@@ -5,11 +5,11 @@
  * accounts whole francs.
  *
  * Buffers. The caller owns all that it lends. A call only reads the book. Group writes to numbers 0 to 199 of the
- * table, Report to the first bytes of its buffer, Convert to as many first bytes of `out` as the book has, Write to as
- * many as the book has that it makes, Read to as many first numbers of each list as the book has linked records, Funds
- * to numbers 0 to 7 and 8 to 15, In force to the first 50 of its numbers; nothing else is written. Accounts, values and
- * risk models are handed over by value: no call sees the caller's own. No call keeps a pointer after it returns, and
- * none allocates.
+ * table, Report to the first bytes of its buffer, Convert to as many first bytes of `out` as the book has, Write and
+ * Practice to as many as the book has that they make, Read to as many first numbers of each list as the book has
+ * linked records, Funds to numbers 0 to 7 and 8 to 15, In force to the first 50 of its numbers; nothing else is
+ * written. Accounts, values and risk models are handed over by value: no call sees the caller's own. No call keeps a
+ * pointer after it returns, and none allocates.
  *
  * Pointers. Each must be valid for its length and must not be null, also where the length is 0. The table, the lists
  * and the numbers of Funds and In force must be aligned for uint64_t; a buffer of bytes may start anywhere. What is
@@ -24,7 +24,8 @@
  * stack stops. Beside what its own functions need, give a thread 64 KiB for Report, 40 KiB for Report room, 32 KiB for
  * Totals, 16 KiB for Group, for the cost rates, for Write and for Read, 8 KiB for the others. Measured, in a first call
  * that is bound as it is called: 35,064 bytes; 25,400; 19,191; 6,071, 5,735, 10,872 and 8,248; and 3,319. Funds joins a
- * book there: give it 96 KiB; measured are 58,143 bytes. Give Deviation as much as Totals: it takes 528 bytes more.
+ * book there, and Practice keeps its lists there: give each 96 KiB; measured are 58,143 and 64,520 bytes. Give
+ * Deviation as much as Totals: it takes 528 bytes more.
  *
  * Replies. A refusal of 0 means accepted. Otherwise `refusal` says which rule is broken and `place` where; every
  * other field of the reply is 0, and what was lent is as it was; of Funds, that fund's half of the numbers. No earlier
@@ -75,6 +76,7 @@
  *   30       no scaled factor passes 1,000,000 either    0                           caller
  *            way
  *   31       the quadratic form is not negative          0                           caller
+ *   32       the start number is not 0                   0                           caller
  *
  * Where several rules are broken, the reply names one. 14 to 16 are tested first, in this order; then 1 to 8, also in
  * order, and where a number has several places it is given with the lowest. 23 is tested in edition 2 where 4 looks at
@@ -98,6 +100,8 @@
  * even, and no trap on an operation that is inexact or invalid. Whoever has changed that sets it back before the call.
  *
  * Deviation refuses the book first, and then gives 29, 30 or 31, tested in this order.
+ *
+ * Practice refuses a buffer of under 41,876 bytes with 16, and then the start number 0 with 32.
  */
 #ifndef XAROPINTO_H
 #define XAROPINTO_H
@@ -232,7 +236,7 @@ typedef struct {
     uint64_t first_classes[XAROPINTO_CHAINS];
 } xaropinto_values;
 
-/* length: of the book that was written. */
+/* length: of the book that was written, by Write or by Practice. */
 typedef struct {
     uint64_t refusal;
     uint64_t place;
@@ -392,6 +396,14 @@ xaropinto_spread_reply xaropinto_spread(xaropinto_summary claims, double xi, dou
  * divisions go towards zero. The factors' quadratic form with the correlation is divided by 1,000, rounded down; the
  * deviation is the largest whole number whose square is at most that. */
 xaropinto_deviation_reply xaropinto_deviation(const uint8_t *book, size_t length, xaropinto_risk_model model);
+
+/* Practice: a book that holds no insurer's data, out of a start number, into the first bytes of `out`, which has room
+ * for so many. Refusals 16, where that is under 41,876, then 32; both with place 0.
+ *
+ * The book is of SST year 2021, edition 1, with 14 full chains as Write lays them: XAROPINTO_LONGEST_BOOK bytes, which
+ * are the reply's length. Later bytes are as they were. Every rate and every record's numbers are drawn: docs/BOOK.md
+ * says how. Check accepts every such book, and equal start numbers give equal bytes. */
+xaropinto_write_reply xaropinto_practice(uint64_t start, uint8_t *out, size_t room);
 
 #ifdef __cplusplus
 }

@@ -29,7 +29,7 @@ def script(name, module, least, *words):
     return Part(name, [sys.executable, "-m", module, *words], least)
 
 
-PROOFS = Part("proofs, must-fail edits and programs", ["rt", "ci"], 270)
+PROOFS = Part("proofs, must-fail edits and programs", ["rt", "ci"], 282)
 # What runs on the proved programs, two parts at once.
 PROGRAMS = [
     script("must-fail edits fit the proof files", "tests.must_fail_reasons", 2),
@@ -49,7 +49,7 @@ PROGRAMS = [
     script("random listings against the second reckoning and the fractions", "tests.random_books.listing", 25),
 ]
 # What builds the archive and the shared library, and what runs on these, two parts at once again.
-CALLERS = script("callers in C and Rust", "tests.callers", 243)
+CALLERS = script("callers in C and Rust", "tests.callers", 257)
 CALLS = [
     script("calls from Python, on random books", "tests.calls.base", 25),
     script("cost rates from Python, on random accounts", "tests.calls.accounts", 38),
@@ -60,6 +60,7 @@ CALLS = [
     script("one cell on the screen from Python, on random cells", "tests.calls.screen", 27),
     script("spread of claims from Python, on random claims", "tests.calls.spread", 32),
     script("deviations from Python, on random books and risk models", "tests.calls.deviation", 50),
+    script("practice books from Python, on random start numbers", "tests.calls.practice", 23),
 ]
 PARTS = [PROOFS, *PROGRAMS, CALLERS, *CALLS]
 

@@ -1291,6 +1291,59 @@ static void test_deviation_refusals(void)
     free(book.bytes);
 }
 
+/* The four bytes at a place, least byte first. */
+static uint32_t number_at(const uint8_t *bytes, size_t place)
+{
+    return bytes[place] | (uint32_t)bytes[place + 1] << 8 | (uint32_t)bytes[place + 2] << 16 |
+           (uint32_t)bytes[place + 3] << 24;
+}
+
+/* The refusal is given with place 0, and no byte of the lent part is changed. */
+static int practice_refused(uint64_t start, size_t room, uint64_t refusal)
+{
+    uint8_t *out = exact_memory(room);
+    memset(out, 0xA5, room);
+    xaropinto_write_reply reply = xaropinto_practice(start, out, room), due = {refusal, 0, 0};
+    int holds = memcmp(&reply, &due, sizeof due) == 0;
+    for (size_t i = 0; i < room; i++)
+        holds &= out[i] == 0xA5;
+    free(out);
+    return holds;
+}
+
+/* By hand, start number 1: the word is 8,193, 8,257, 1,082,269,761 and the counter 362,437, so the first draw is
+ * 1,082,632,198; by 1,000,001 that leaves 631,116. The other figures are worked outside. */
+static void test_practice(void)
+{
+    size_t room = XAROPINTO_LONGEST_BOOK + 16;
+    uint8_t *out = exact_memory(room), *again = exact_memory(XAROPINTO_LONGEST_BOOK);
+    memset(out, 0xA5, room);
+    xaropinto_write_reply reply = xaropinto_practice(1, out, room);
+    test("practice_book_is_the_longest", reply.refusal == 0 && reply.place == 0 &&
+                                             reply.length == XAROPINTO_LONGEST_BOOK);
+    test("first_draw_of_1_is_the_cost_rate_of_pg1", number_at(out, XAROPINTO_COST_RATES_AT) == 631116);
+    test("sixth_draw_is_the_curves_first_rate", number_at(out, XAROPINTO_CURVE_AT) == 67683);
+    test("record_1_takes_four_draws", number_at(out, record_start(1) + XAROPINTO_COUNT_AT) == 80487 &&
+                                          number_at(out, record_start(1) + XAROPINTO_LAPSE_AT) == 386145 &&
+                                          number_at(out, record_start(1) + XAROPINTO_PREMIUM_AT) == 8977337 &&
+                                          number_at(out, record_start(1) + XAROPINTO_CLAIMS_AT) == 8126851);
+    xaropinto_verdict verdict = xaropinto_check(out, XAROPINTO_LONGEST_BOOK);
+    test("practice_book_is_accepted", verdict.refusal == 0 && verdict.n == XAROPINTO_MOST_RECORDS);
+    int later = 1;
+    for (size_t i = XAROPINTO_LONGEST_BOOK; i < room; i++)
+        later &= out[i] == 0xA5;
+    test("bytes_past_the_practice_book_stay", later);
+    xaropinto_practice(1, again, XAROPINTO_LONGEST_BOOK);
+    test("equal_start_numbers_give_equal_bytes", memcmp(out, again, XAROPINTO_LONGEST_BOOK) == 0);
+    xaropinto_practice(HIGH_BIT + 1, again, XAROPINTO_LONGEST_BOOK);
+    test("high_bit_of_the_start_number_counts", memcmp(out, again, XAROPINTO_LONGEST_BOOK) != 0);
+    test("a_byte_too_few_is_16", practice_refused(1, XAROPINTO_LONGEST_BOOK - 1, 16));
+    test("short_buffer_comes_before_the_number_0", practice_refused(0, XAROPINTO_LONGEST_BOOK - 1, 16));
+    test("start_number_0_is_32", practice_refused(0, XAROPINTO_LONGEST_BOOK, 32));
+    free(out);
+    free(again);
+}
+
 int main(void)
 {
     test_sizes();
@@ -1324,6 +1377,7 @@ int main(void)
     test_spread_refusals();
     test_deviation();
     test_deviation_refusals();
+    test_practice();
     printf("%d passed, %d failed\n", passed, failed);
     return failed != 0;
 }

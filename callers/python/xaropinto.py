@@ -237,6 +237,9 @@ _IN_FORCE = _declared("xaropinto_in_force", _InForceReply, *[ctypes.c_size_t] * 
 _SPREAD = _LIBRARY.xaropinto_spread
 _SPREAD.restype, _SPREAD.argtypes = _SpreadReply, [_Summary, ctypes.c_double, ctypes.c_double]
 _DEVIATION = _declared("xaropinto_deviation", _DeviationReply, _RiskModel)
+_PRACTICE = _LIBRARY.xaropinto_practice
+_PRACTICE.restype = _WriteReply
+_PRACTICE.argtypes = [ctypes.c_uint64, ctypes.POINTER(ctypes.c_uint8), ctypes.c_size_t]
 
 
 def check(book):
@@ -411,6 +414,16 @@ def _square(rows):
     if [len(row) for row in rows] != [_FACTORS] * _FACTORS:
         raise ValueError(f"{_FACTORS} rows of {_FACTORS} numbers are due")
     return tuple(_signed_word(number) for row in rows for number in row)
+
+
+def practice(start, out):
+    """The practice book of a start number, written into a buffer of bytes; its length.
+
+    The start number is any of 64 bits but 0. Bytes of the buffer past the book stay as they were.
+    """
+    room = _lent_buffer(out)
+    reply = _PRACTICE(_word(start), room, len(room))
+    return WriteReply(reply.refusal, reply.place, reply.length)
 
 
 def _lent_values(values):

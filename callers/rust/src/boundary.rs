@@ -216,4 +216,6 @@ extern "C" {
     pub fn xaropinto_spread(claims: Summary, xi: f64, eta: f64) -> SpreadReply;
 
     pub fn xaropinto_deviation(book: *const u8, length: usize, model: RiskModel) -> DeviationReply;
+
+    pub fn xaropinto_practice(start: u64, out: *mut u8, room: usize) -> WriteReply;
 }

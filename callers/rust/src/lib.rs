@@ -13,6 +13,7 @@ pub use boundary::{Accounts, RiskModel, Summary, Values};
 
 use boundary::xaropinto_deviation;
 use boundary::xaropinto_in_force;
+use boundary::xaropinto_practice;
 use boundary::{
     xaropinto_check, xaropinto_convert, xaropinto_cost_rates, xaropinto_group, xaropinto_read,
     xaropinto_record, xaropinto_spread, xaropinto_totals, xaropinto_write,
@@ -312,6 +313,16 @@ pub fn deviation(book: &[u8], model: &RiskModel) -> Result<u64, Refusal> {
     let reply = unsafe { xaropinto_deviation(book.as_ptr(), book.len(), *model) };
     unless_refused(reply.refusal, reply.place)?;
     Ok(reply.deviation)
+}
+
+/// The practice book of a start number, in the first bytes of `out`; its length.
+///
+/// The same start number always gives the same bytes. Those past the book stay as they were.
+pub fn practice(start: u64, out: &mut [u8]) -> Result<usize, Refusal> {
+    // SAFETY: as in `group`; `out` is lent to this call alone.
+    let reply = unsafe { xaropinto_practice(start, out.as_mut_ptr(), out.len()) };
+    unless_refused(reply.refusal, reply.place)?;
+    Ok(reply.length as usize)
 }
 
 fn unless_refused(number: u64, place: u64) -> Result<(), Refusal> {

@@ -23,6 +23,7 @@ use Rattle.spread.specs.Replies.{spreadRefusal, spreadPlace, spreadLevel, sprea
 use Rattle.spread.specs.Replies.{spreadReply, SpreadPromised}
 use Rattle.spread.specs.declared.Summary.{Summary}
 use Rattle.spread.specs.declared.SpreadReply.{SpreadReply}
+use Rattle.practice.specs.Practice.{practiceReply, PracticePromised}
 use Rattle.boundary.specs.declared.VerdictFields.{VerdictFields}
 use Rattle.boundary.specs.declared.GroupFields.{GroupFields}
 use Rattle.boundary.specs.declared.ReportFields.{ReportFields}
@@ -63,7 +64,7 @@ pub record ConvertHanded (b before after : List ℕ) (r : VerdictFields) : Type 
   pub fields-are : r ≡ verdictFields (convertCheck b (length before))
   pub promised : ConvertPromised b before after (convertCheck b (length before))
 
--- Write's reply
+-- the reply of Write, and of the call that writes practice books
 abbrev pub writeFields : WriteReply → WriteFields
 writeFields r = record { refusal = writeRefusal r; place = writePlace r; length = writeLength r }
 
@@ -107,3 +108,8 @@ spreadFields r =
 pub record SpreadHanded (s : Summary) (xi eta : Float) (r : SpreadFields) : Type 0 where
   pub fields-are : r ≡ spreadFields (spreadReply s xi eta)
   pub promised : SpreadPromised s xi eta (spreadReply s xi eta)
+
+-- the call that writes practice books, likewise
+pub record PracticeHanded (start : ℕ) (before after : List ℕ) (r : WriteFields) : Type 0 where
+  pub fields-are : r ≡ writeFields (practiceReply start (length before))
+  pub promised : PracticePromised start before after (practiceReply start (length before))

@@ -14,6 +14,7 @@ ghost use Rattle.boundary.specs.Boundary.{reportFields, ReportHanded, Ro
 ghost use Rattle.boundary.specs.Boundary.{FundsHanded};
 ghost use Rattle.boundary.specs.Boundary.{InForceHanded};
 ghost use Rattle.boundary.specs.Boundary.{SpreadHanded};
+ghost use Rattle.boundary.specs.Boundary.{writeFields, PracticeHanded};
 use accounts::Accounts;
 use accounts::CostRates;
 use contents::ReadReply;
@@ -163,12 +164,29 @@ pub extern "C" fn xaropinto_convert(book: &[u8], out: &mut [u8]) -> VerdictField
     in_fields(conversion::convert(book, out))
 }
 
-// Write's reply in fields: refusal and place are 0 where written, length is 0 where refused.
+// Write's reply in fields, and Practice's: refusal and place are 0 where written, length is 0 where refused.
 #[repr(C)]
 pub struct WriteFields {
     pub refusal: u64,
     pub place: usize,
     pub length: usize,
+}
+
+fn write_fields(reply: WriteReply) -> WriteFields
+    ensures { λ r. ⌜ r ≡ writeFields reply ⌝ }
+{
+    match reply {
+        WriteReply::Written(length) => WriteFields {
+            refusal: 0,
+            place: 0,
+            length,
+        },
+        WriteReply::Refused(refusal, place) => WriteFields {
+            refusal,
+            place,
+            length: 0,
+        },
+    }
 }
 
 // The values by value: a C programmer fills one struct, and what Read hands back can be handed on as it is.
@@ -185,19 +203,7 @@ pub extern "C" fn xaropinto_write(
         (given values (now (counts .entry)) (now (lapses .entry)) (now (premiums .entry)) (now (claims .entry)))
         (now (out .entry)) (now (out .exit)) r ⌝ }
 {
-    let reply = writer::write(values, counts, lapses, premiums, claims, out);
-    match reply {
-        WriteReply::Written(length) => WriteFields {
-            refusal: 0,
-            place: 0,
-            length,
-        },
-        WriteReply::Refused(refusal, place) => WriteFields {
-            refusal,
-            place,
-            length: 0,
-        },
-    }
+    write_fields(writer::write(values, counts, lapses, premiums, claims, out))
 }
 
 #[no_mangle]
@@ -317,4 +323,11 @@ pub extern "C" fn xaropinto_deviation(book: &[u8], model: RiskModel) -> Deviatio
     ensures { λ r. ⌜ DeviationPromised (now (book .entry)) model r ⌝ }
 {
     deviation::deviation(book, model)
+}
+
+#[no_mangle]
+pub extern "C" fn xaropinto_practice(start: u64, out: &mut [u8]) -> WriteFields
+    ensures { λ r. ⌜ PracticeHanded start (now (out .entry)) (now (out .exit)) r ⌝ }
+{
+    write_fields(practice::practice(start, out))
 }

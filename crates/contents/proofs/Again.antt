@@ -10,8 +10,8 @@ use native.Mathlib.Nat.{eq-or-lt-of-le, pos-of-ne-zero}
 use native.Mathlib.Numerals.{add-one}
 use native.Mathlib.Omega.{arith}
 use borrow.Author.Tests.{eq-eqb, ne-eqb}
-use lib.IntN.{pos}
-use lib.ListN.{length, getD, length-append, List·getD-append, List·getD-eq-default}
+use lib.IntN.{ℤ, pos}
+use lib.ListN.{length, getD, length-append, List·getD-append}
 use lib.Seq.{getD-append-add}
 use Rattle.field.specs.Bytes.{byteAt, readU16, readU32}
 use Rattle.field.specs.declared.Verdict.the-variants.{Accepted}
@@ -32,7 +32,7 @@ use Rattle.contents.specs.Written.{bookSize}
 use Rattle.contents.specs.Limits.{curveRate, checkContents, Fit}
 use Rattle.contents.specs.Reading.{each, signedOf, firstIn, firstsOf, listIn, listOf, valuesOf, contentsOf}
 use Rattle.contents.specs.Reading.{OfBytes, InOrder}
-use Rattle.contents.proofs.Stands.{Stands, stands-whole, stands-both, each-length, each-at}
+use Rattle.contents.proofs.Stands.{Stands, stands-whole, stands-both, each-length, each-at, each-all}
 use Rattle.contents.proofs.Numbers.{two-stands, four-stands, two-length, u32-small, signed-back, signed-rate}
 use Rattle.contents.proofs.Laid.{Laid, laid-stands, book-length}
 use Rattle.contents.proofs.Fit.{fit-good}
@@ -229,11 +229,7 @@ written-again b n bytes e o =
 
 -- What is read keeps the rules of values. Past its end a list reads 0.
 each-most : (f : ℕ → ℕ) (n most : ℕ) → ((j : ℕ) → j < n → f j ≤ most) → (j : ℕ) → getD (each f n) j 0 ≤ most
-each-most f n most h j =
-    ⊎-elim
-    (λ (g : n ≤ j). omega (arith, List·getD-eq-default (each f n) 0 {n = j} (omega (arith, each-length f n))))
-    (λ (l : j < n). omega (arith, each-at f 0 n j l, h j l))
-    (le-or-lt n j)
+each-most f n most = each-all (λ (x : ℕ). x ≤ most) f 0 n zero-le
 
 append-most : (s t : List ℕ) (most : ℕ) → ((j : ℕ) → getD s j 0 ≤ most) → ((j : ℕ) → getD t j 0 ≤ most) → (j : ℕ)
     → getD (s ++ t) j 0 ≤ most
@@ -268,15 +264,10 @@ module _ (b : List ℕ) (v : ValidBook 1 b) (r : Rules 1 b) where
   curve-most : OfBytes b → (j : ℕ)
       → curveRate (getD (each (λ (i : ℕ). signedOf (readU32 b (curvePlace + 4 * i))) 49) j (pos 0)) ≡ true
   unfolding curveRate
-  curve-most bytes j =
-      ⊎-elim
-      (λ (g : 49 ≤ j).
-      rw (List·getD-eq-default (each (λ (i : ℕ). signedOf (readU32 b (curvePlace + 4 * i))) 49) (pos 0) {n = j}
-      (omega (arith, each-length (λ (i : ℕ). signedOf (readU32 b (curvePlace + 4 * i))) 49))))
-      (λ (l : j < 49).
-      rw (each-at (λ (i : ℕ). signedOf (readU32 b (curvePlace + 4 * i))) (pos 0) 49 j l)
-      (signed-rate (readU32 b (curvePlace + 4 * j)) (u32-small b (curvePlace + 4 * j) 0 bytes) (r .tables .curve j l)))
-      (le-or-lt 49 j)
+  curve-most bytes =
+      each-all (λ (z : ℤ). curveRate z ≡ true) (λ (i : ℕ). signedOf (readU32 b (curvePlace + 4 * i))) (pos 0) 49 refl
+      (λ j l.
+      signed-rate (readU32 b (curvePlace + 4 * j)) (u32-small b (curvePlace + 4 * j) 0 bytes) (r .tables .curve j l))
 
   -- the spare bytes of edition 1 are zero, each
   spare-both : edition b ≡ 1 → byteAt b 6 + 256 * byteAt b 7 ≡ 0

@@ -1,11 +1,11 @@
 -- A text that stands in a list from a place on: its parts stand there, and what is made of parts does. Assumes nothing.
-use mathlib.Core.Path.{_≡_, refl, sym, ap, _∙_}
+use mathlib.Core.Path.{_≡_, refl, sym, ap, subst, _∙_}
 use mathlib.Core.Logic.{⊎-elim}
 use mathlib.Core.List.{List, [], _∷_, _++_}
 use Prim.Native.Nat.{ℕ, zero, suc, _+_, _-_, _*_, _<_, _≤_}
 use native.Mathlib.Nat.{zero-add, eq-or-lt-of-le, not-suc-le-zero}
 use native.Mathlib.Omega.{arith}
-use lib.ListN.{length, getD, length-append, List·getD-append}
+use lib.ListN.{length, getD, length-append, List·getD-append, List·getD-eq-default}
 use lib.Seq.{getD-append-add, ext-getD}
 use Rattle.text.specs.Text.{joined}
 use Rattle.text.proofs.Laws.{le-or-lt}
@@ -82,6 +82,16 @@ each-at f d (suc n) j h =
     ap (λ (q : ℕ). getD (each f n ++ f n ∷ []) q d) w ∙ getD-append-add (each f n) (f n ∷ []) 0 d ∙ ap f (sym e))
     (λ (g : j < n). List·getD-append (each f n) (f n ∷ []) d j (omega (arith, each-length f n)) ∙ each-at f d n j g)
     (eq-or-lt-of-le (omega arith))
+
+-- what holds of each that f gives, and of what is read past the end, holds of each of the list
+pub each-all : {A : Type 0} (P : A → Type 0) (f : ℕ → A) (d : A) (n : ℕ) → P d → ((j : ℕ) → j < n → P (f j)) → (j : ℕ)
+    → P (getD (each f n) j d)
+each-all P f d n past h j =
+    ⊎-elim
+    (λ (g : n ≤ j).
+    subst P (sym (List·getD-eq-default (each f n) d {n = j} (omega (arith, each-length f n)))) past)
+    (λ (l : j < n). subst P (sym (each-at f d n j l)) (h j l))
+    (le-or-lt n j)
 
 -- a list is its numbers, one by one
 pub each-whole : {A : Type 0} (f : ℕ → A) (d : A) (n : ℕ) (l : List A) → length l ≡ n

@@ -5,6 +5,7 @@ mod desk;
 mod deviation;
 mod differential;
 mod funds;
+mod practice;
 mod replies;
 mod report;
 mod screen;
