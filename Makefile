@@ -1,14 +1,28 @@
 # `make` lists the targets. The toolchain, a POSIX shell, make and Python 3.10 or later are needed; gcc for the
 # library and what calls it, g++, cargo and valgrind for the callers' tests.
 .DEFAULT_GOAL := help
-.PHONY: help test check list report convert practice fuzz streams samples lib callers bench clean FORCE
+.PHONY: help test check list report convert practice fuzz streams samples lib install dist callers bench clean FORCE
 
-BOOK ?= samples/one_record.book
+SAMPLE := samples/one_record.book
 SETTING ?= 0
 START ?= 1
-OUT ?= target/converted.book
 N ?= 2000
 SEED ?= 1
+PREFIX ?= /usr/local
+VERSION := $(shell cat VERSION)
+# The name by which programs ask for the shared library: it changes where an old caller would break.
+SHARED := libxaropinto.so.1
+DIST := xaropinto-$(VERSION)-linux-x86_64
+# Paths reach the shell through the environment and as they were given: quotes and dollar signs stay what they are.
+export BOOK_PATH := $(if $(value BOOK),$(value BOOK),$(SAMPLE))
+export OUT_PATH := $(if $(value OUT),$(value OUT),target/converted.book)
+export SETTING_WORD := $(value SETTING)
+export START_WORD := $(value START)
+
+# A word that is no target would be passed over, and the sample listed in its place.
+STRAY := $(filter-out $(shell sed -n 's/^\([a-z]*\):[^=].*/\1/p' Makefile) target/bin/%,$(MAKECMDGOALS))
+$(if $(STRAY),$(error $(firstword $(STRAY)) is no target; a book is named by BOOK=path))
+$(foreach word,book setting out start prefix destdir,$(if $(filter command line,$(origin $(word))),$(error $(word)= is not known: these words are in capitals)))
 
 help: ## list the targets
 	@sed -n 's/^\([a-z]*\):[^#]*## /\1: /p' Makefile
@@ -17,20 +31,22 @@ test: ## prove everything from nothing and run the outside tests
 	@exec python3 -m tests.gate
 
 check: target/bin/listing ## say the verdict on a book in words: make check BOOK=path
-	@python3 -m tools.say_verdict "$(BOOK)"
+	@python3 -m tools.say_verdict "$$BOOK_PATH"
 
 list: target/bin/listing ## write the listing of a book: make list BOOK=path
-	@target/bin/listing < "$(BOOK)"
+	@$(or $(if $(value BOOK),:),echo "no BOOK=path is given: this is the sample $(SAMPLE)" >&2)
+	@target/bin/listing < "$$BOOK_PATH" > target/listing.text
+	@cat target/listing.text && ! grep -q '^refused' target/listing.text
 
 report: target/bin/report ## write the year report of a book in a setting: make report BOOK=path SETTING=0
-	@target/bin/report "$(SETTING)" < "$(BOOK)"
+	@target/bin/report "$$SETTING_WORD" < "$$BOOK_PATH"
 
 convert: target/bin/convert ## turn a book of age basis 2 into basis 1: make convert BOOK=path OUT=path
-	@target/bin/convert < "$(BOOK)" > "$(OUT)" && test -s "$(OUT)" || { rm -f "$(OUT)"; exit 1; }
+	@target/bin/convert < "$$BOOK_PATH" > "$$OUT_PATH" && test -s "$$OUT_PATH" || { rm -f "$$OUT_PATH"; exit 1; }
 
-practice: OUT = target/practice.book
+practice: export OUT_PATH := $(if $(value OUT),$(value OUT),target/practice.book)
 practice: lib ## write the practice book of a start number: make practice START=1 OUT=path
-	@python3 -m tools.practice_book -- "$(START)" "$(OUT)"
+	@PYTHONPATH=python python3 -m xaropinto practice "$$START_WORD" -o "$$OUT_PATH"
 
 fuzz: target/bin/test_check target/bin/listing lib ## hold programs and calls against Python: make fuzz N=2000 SEED=1
 	@python3 -m tests.random_books.check --books $(N) --seed $(SEED)
@@ -57,10 +73,22 @@ samples: ## write the sample books, their listings and their reports anew
 	@python3 -m tools.sample_books write
 
 lib: ## prove the C boundary and put its archive and shared library under target/lib
-	@rm -rf target/lib && mkdir -p target/lib
-	@rt staticlib boundary > target/lib/build.log 2>&1 || { cat target/lib/build.log; exit 1; }
-	@cp target/staticlib/libboundary.a target/lib/libxaropinto.a
-	@gcc -shared -o target/lib/libxaropinto.so -Wl,--whole-archive target/lib/libxaropinto.a -Wl,--no-whole-archive
+	@rm -rf target/lib.new && mkdir -p target/lib target/lib.new
+	@rt staticlib boundary > target/lib.new/build.log 2>&1 || { cat target/lib.new/build.log; exit 1; }
+	@cp target/staticlib/libboundary.a target/lib.new/libxaropinto.a
+	@$(CC) -shared -Wl,-soname,$(SHARED) -o target/lib.new/$(SHARED) \
+		-Wl,--whole-archive target/lib.new/libxaropinto.a -Wl,--no-whole-archive
+	@ln -s $(SHARED) target/lib.new/libxaropinto.so
+	@cp target/lib.new/$(SHARED) target/lib.new/beside && mv -f target/lib.new/beside python/xaropinto/libxaropinto.so
+	@mv -f target/lib.new/* target/lib/
+
+install: lib target/bin/listing target/bin/report target/bin/convert ## install under PREFIX, /usr/local unless told, below DESTDIR
+	@sh install/install.sh "$(DESTDIR)$(PREFIX)" $(SHARED) $(VERSION)
+
+dist: lib target/bin/listing target/bin/report target/bin/convert ## an archive for machines without the toolchain, under target/dist
+	@rm -rf target/dist && sh install/install.sh target/dist/$(DIST) $(SHARED) $(VERSION)
+	@tar -C target/dist -czf target/dist/$(DIST).tar.gz $(DIST)
+	@echo target/dist/$(DIST).tar.gz
 
 callers: ## run the tests of the callers in C, Rust and Python
 	@python3 -m tests.callers
@@ -79,7 +107,7 @@ bench: lib ## time Totals beside Rust and Python: make bench OPTIONS=--instructi
 	@cd callers/rust && cargo run --quiet --offline --locked --release --package bench -- $(OPTIONS)
 
 clean: ## remove all that was built; the next run proves everything again
-	@rm -rf target differing
+	@rm -rf target differing python/build python/xaropinto.egg-info python/xaropinto/libxaropinto.so
 	@find . -name __pycache__ -not -path './.git/*' -prune -exec rm -rf {} +
 
 # A program is proved before it is built; where nothing has changed since, that takes a moment.

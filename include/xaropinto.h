@@ -11,10 +11,10 @@
  * written. Accounts, values and risk models are handed over by value: no call sees the caller's own. No call keeps a
  * pointer after it returns, and none allocates.
  *
- * Pointers. Each must be valid for its length and must not be null, also where the length is 0. The table, the lists
- * and the numbers of Funds and In force must be aligned for uint64_t; a buffer of bytes may start anywhere. What is
- * written must overlap neither the book nor anything else that is lent at the time; lists that Write only reads may be
- * one and the same, and so may the files of Funds.
+ * Pointers. Each must be valid for its length; where the length is 0 it may be null, as that of an empty std::vector is.
+ * The table, the lists and the numbers of Funds and In force must be aligned for uint64_t; a buffer of bytes may start
+ * anywhere. What is written must overlap neither the book nor anything else that is lent at the time; lists that Write
+ * only reads may be one and the same, and so may the files of Funds.
  *
  * Threads. Calls may run at the same time in several threads. While a call runs, no other thread may write to its
  * book or to lists that are only read, nor read or write what the call writes. Calls may share a book; each call that
@@ -25,58 +25,13 @@
  * Totals, 16 KiB for Group, for the cost rates, for Write and for Read, 8 KiB for the others. Measured, in a first call
  * that is bound as it is called: 35,064 bytes; 25,400; 19,191; 6,071, 5,735, 10,872 and 8,248; and 3,319. Funds joins a
  * book there, and Practice keeps its lists there: give each 96 KiB; measured are 58,143 and 64,520 bytes. Give
- * Deviation as much as Totals: it takes 528 bytes more.
+ * Deviation and Listing as much as Totals: they take 528 and 32 bytes more.
  *
  * Replies. A refusal of 0 means accepted. Otherwise `refusal` says which rule is broken and `place` where; every
  * other field of the reply is 0, and what was lent is as it was; of Funds, that fund's half of the numbers. No earlier
  * call is trusted: each checks the whole book, or all accounts.
  *
- *   refusal  broken rule                                 place                       who mends it
- *    1       the book has at least 1,220 bytes           its length                  desk that writes the file
- *    2       the edition is 1 or 2                       0                           desk that writes the file
- *    3       age basis                                   1                           desk that writes the file
- *    4       SST year, number of records N, bytes 6-7    2, 4 or 6: the first        desk that writes the file
- *            of edition 1
- *    5       the length is 1,220 + 24 N bytes            its length                  desk that writes the file
- *    6       cost rate                                   its first byte              insurer's cost sheet
- *    7       curve rate                                  its first byte              keeper of supervisor's tables
- *    8       mortality                                   its first byte              keeper of supervisor's tables
- *    9       a head or next is at most N                 its first byte              portfolio desk
- *   10       code, sex, spare bytes of a linked record   the record's first byte     portfolio desk
- *   11       class                                       the record's first byte + 2 portfolio desk
- *   12       count, lapse, premium, claims               the first too large         portfolio desk
- *   13       a chain ends at class 120, nowhere else     the record's first byte + 4 portfolio desk
- *   14       the setting is 0 to 7                       0                           caller
- *   15       the product group is 1 to 5                 0                           caller
- *   16       the table has at least 200 numbers,         0                           caller
- *            `out` at least as many bytes as the book,
- *            the numbers of Funds are at least 16
- *   17       an amount is at most 1,000,000,000 francs,  0                           insurer's cost sheet
- *            a stock at most 10,000,000 contracts
- *   18       no year's stock or claims add up to 0; a    0                           insurer's cost sheet
- *            group has premium in all years, or nothing
- *   19       no cost rate is above 1,000,000 millionths  0                           insurer's cost sheet
- *   20       the buffer is at least as long as the       0                           caller
- *            report, which Report room tells
- *   21       on age basis 2, a class is not 0            the record's first byte + 2 portfolio desk
- *   22       lists and buffers have their lengths        0                           caller
- *   23       a percentage of edition 2 is 1 to 100       6 men, 7 women: the first   desk that writes the file
- *   24       the table file has 1,164 bytes              0                           desk that writes the file
- *   25       the subgroup code is 1 to 7, the sex 0 or   0                           caller
- *            1, and `out` has at least 50 numbers
- *   26       the chain of code and sex has the class     0                           caller
- *   27       yearly claims do not fall from one to the   0                           portfolio desk
- *            next, are at most 10,000,000 centimes, and
- *            the highest is not 0
- *   28       a sample factor is 1/1,024 to 1,000, and a  0                           keeper of supervisor's tables
- *            number
- *   29       a coefficient is at most 1,000,000; the     0                           caller
- *            correlation is symmetric, from -1,000 to
- *            1,000, and 1,000 on its diagonal
- *   30       no scaled factor passes 1,000,000 either    0                           caller
- *            way
- *   31       the quadratic form is not negative          0                           caller
- *   32       the start number is not 0                   0                           caller
+ * `xaropinto_refusal_text` says in words which rule it is and who mends it; docs/BOOK.md has the places.
  *
  * Where several rules are broken, the reply names one. 14 to 16 are tested first, in this order; then 1 to 8, also in
  * order, and where a number has several places it is given with the lowest. 23 is tested in edition 2 where 4 looks at
@@ -149,6 +104,8 @@
 #define XAROPINTO_TABLE_NUMBERS 200
 /* The numbers that In force writes: one for each of fifty years. */
 #define XAROPINTO_IN_FORCE_NUMBERS 50
+/* No listing is longer. */
+#define XAROPINTO_MOST_LISTING_BYTES 512
 /* No report is longer. */
 #define XAROPINTO_MOST_REPORT_BYTES 9525
 
@@ -162,6 +119,9 @@
 
 /* The risk factors: mortality, lapse, costs and claims, in this order. */
 #define XAROPINTO_FACTORS 4
+
+/* The version of this header and of the library that came with it. */
+#define XAROPINTO_VERSION "1.0.0"
 
 #ifdef __cplusplus
 extern "C" {
@@ -314,6 +274,11 @@ xaropinto_group_reply xaropinto_group(const uint8_t *book, size_t length, size_t
  * book's 49 curve rates is below zero. */
 xaropinto_totals_reply xaropinto_totals(const uint8_t *book, size_t length);
 
+/* Listing: the text to file, a line for each setting with its number, its total and n; for a refused book the line
+ * `refused`, number and place. The answer is the text's length, never above XAROPINTO_MOST_LISTING_BYTES; where the
+ * buffer is shorter than the text, nothing is written and the answer is 0. No byte past the text is written. */
+size_t xaropinto_listing(const uint8_t *book, size_t length, uint8_t *out, size_t room);
+
 /* Record: where record `number`, counted from 1, stands in the book, linked or not. Refusals 1 to 13 and 23; then 9
  * with place 0, the caller's, where the number is 0 or above N. */
 xaropinto_record_reply xaropinto_record(const uint8_t *book, size_t length, size_t number);
@@ -404,6 +369,83 @@ xaropinto_deviation_reply xaropinto_deviation(const uint8_t *book, size_t length
  * are the reply's length. Later bytes are as they were. Every rate and every record's numbers are drawn: docs/BOOK.md
  * says how. Check accepts every such book, and equal start numbers give equal bytes. */
 xaropinto_write_reply xaropinto_practice(uint64_t start, uint8_t *out, size_t room);
+
+/* The broken rule of a refusal, and who mends it; "accepted" for 0, and for a number that no call gives "". */
+static inline const char *xaropinto_refusal_text(uint64_t refusal)
+{
+    switch (refusal) {
+    case 0:
+        return "accepted";
+    /* refusals: begin, written by python3 -m tools.refusals write */
+    case 1:
+        return "a book has at least 1,220 bytes, a fund file at least 56; mended by: the desk that writes the file";
+    case 2:
+        return "the edition is 1 or 2; mended by: the desk that writes the file";
+    case 3:
+        return "the age basis is 1; for the converter it is 2; mended by: the desk that writes the file";
+    case 4:
+        return "the SST year is 2017 to 2100, there are at most 1,694 records, and bytes 6 and 7 are zero in edition 1; mended by: the desk that writes the file";
+    case 5:
+        return "the length is 1,220 bytes and 24 for each record; mended by: the desk that writes the file";
+    case 6:
+        return "a cost rate is at most 1,000,000 millionths; mended by: the insurer's cost sheet";
+    case 7:
+        return "a curve rate is -10,000 to 200,000 millionths; mended by: the keeper of the supervisor's tables";
+    case 8:
+        return "a mortality is at most 1,000,000 millionths; mended by: the keeper of the supervisor's tables";
+    case 9:
+        return "a head or next is at most the number of records; so is the number that the looker is asked for, and it is not 0; mended by: the portfolio desk; in the looker the caller";
+    case 10:
+        return "a linked record has its chain's code and sex, and zero in its spare bytes; mended by: the portfolio desk";
+    case 11:
+        return "a chain's first class is at most 120, each later class one more; mended by: the portfolio desk";
+    case 12:
+        return "the count is at most 100,000, the lapse at most 1,000,000 millionths, premium and claims each at most 10,000,000 centimes; mended by: the portfolio desk";
+    case 13:
+        return "a chain ends at class 120 and nowhere else; mended by: the portfolio desk";
+    case 14:
+        return "the setting is 0 to 7; mended by: the caller";
+    case 15:
+        return "the product group is 1 to 5; mended by: the caller";
+    case 16:
+        return "what is lent to be written is long enough: 200 numbers for Group, 16 for Funds, the book's length for the converter, 41,876 bytes for Practice; mended by: the caller";
+    case 17:
+        return "amounts of accounts are at most 1,000,000,000 francs, a stock at most 10,000,000 contracts; mended by: the insurer's cost sheet";
+    case 18:
+        return "no year's stock or claims add up to 0, and a group with something in any of three years has premium in each; mended by: the insurer's cost sheet";
+    case 19:
+        return "no cost rate out of the accounts is above 1,000,000 millionths; mended by: the insurer's cost sheet";
+    case 20:
+        return "the buffer lent for a year report is as long as told; mended by: the caller";
+    case 21:
+        return "on age basis 2 no linked record has class 0; mended by: the portfolio desk";
+    case 22:
+        return "the lists have the lengths that their chains ask, and what is to be filled is long enough; mended by: the caller";
+    case 23:
+        return "each mortality percentage of edition 2 is 1 to 100; mended by: the desk that writes the file";
+    case 24:
+        return "the table file has 1,164 bytes; mended by: the desk that writes the file";
+    case 25:
+        return "the subgroup code is 1 to 7, the sex 0 or 1, and the buffer has at least 50 numbers; mended by: the caller";
+    case 26:
+        return "the chain of that code and sex has a record of that class; mended by: the caller";
+    case 27:
+        return "none of the five figures is below the one before it or above 10,000,000 centimes, and the highest is not 0; mended by: the portfolio desk";
+    case 28:
+        return "the sample factors are numbers from 1/1,024 to 1,000; mended by: the keeper of the supervisor's tables";
+    case 29:
+        return "a coefficient is at most 1,000,000 millionths; the correlation is symmetric, 1,000 on its diagonal and -1,000 to 1,000 elsewhere; mended by: the caller";
+    case 30:
+        return "no scaled factor is above 1,000,000 or below -1,000,000; mended by: the caller";
+    case 31:
+        return "the quadratic form is not negative; mended by: the caller";
+    case 32:
+        return "the start number is not 0; mended by: the caller";
+    /* refusals: end */
+    default:
+        return "";
+    }
+}
 
 #ifdef __cplusplus
 }

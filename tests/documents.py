@@ -15,8 +15,10 @@ from tests import ROOT
 from tests.books.trial import PAPER_LISTING
 from tests.gate import PARTS
 from tests.report import Report, read_no_words
-from tests.streams.files import verdict_line
-from tools.say_verdict import plain_words
+
+sys.path.insert(0, str(ROOT / "python"))
+
+from xaropinto.words import explain  # noqa: E402
 
 README, DOCS = ROOT / "README.md", ROOT / "docs"
 # The notes in docs/landings speak of the tree as it was on their day, and are not held against it.
@@ -251,11 +253,14 @@ def decisions():
 
 def shown():
     """What README shows of the samples is what is printed of them."""
-    refusal = verdict_line(check((ROOT / "samples" / "lapse_too_large.book").read_bytes()))
+    refused = ROOT / "samples" / "lapse_too_large.book"
+    _, number, place = check(refused.read_bytes())
+    words = f"samples/{refused.name}: {explain(number, place, refused.read_bytes())}"
     report = (ROOT / "samples" / "small_insurer.report").read_text(encoding="ascii").splitlines()
     for what, printed in (("the paper's listing", PAPER_LISTING.decode("ascii").splitlines()),
                           ("the first lines of a report", report[:4]),
-                          ("the refused sample in words", [refusal, plain_words(refusal)])):
+                          ("the refused sample in words", [f"samples/{refused.name}: refused {number} {place}", words]),
+                          ("the refused sample's line", [f"refused {number} {place}"])):
         block = "".join(f"    {line}\n" for line in printed)
         yield "README.md", block in text_of(README), f"does not show {what}"
 

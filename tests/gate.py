@@ -29,11 +29,12 @@ def script(name, module, least, *words):
     return Part(name, [sys.executable, "-m", module, *words], least)
 
 
-PROOFS = Part("proofs, must-fail edits and programs", ["rt", "ci"], 282)
+PROOFS = Part("proofs, must-fail edits and programs", ["rt", "ci"], 283)
 # What runs on the proved programs, two parts at once.
 PROGRAMS = [
     script("must-fail edits fit the proof files", "tests.must_fail_reasons", 2),
     script("documents", "tests.documents", 13),
+    script("refusals, from one table", "tools.refusals", 4, "test"),
     script("second check, by hand-worked examples", "tests.second_check", 35),
     script("stream of the check", "tests.streams.check", 53, "test"),
     script("stream of the looker", "tests.streams.look", 12, "test"),
@@ -49,9 +50,9 @@ PROGRAMS = [
     script("random listings against the second reckoning and the fractions", "tests.random_books.listing", 25),
 ]
 # What builds the archive and the shared library, and what runs on these, two parts at once again.
-CALLERS = script("callers in C and Rust", "tests.callers", 257)
+CALLERS = script("callers in C and Rust", "tests.callers", 278)
 CALLS = [
-    script("calls from Python, on random books", "tests.calls.base", 25),
+    script("calls from Python, on random books", "tests.calls.base", 26),
     script("cost rates from Python, on random accounts", "tests.calls.accounts", 38),
     script("calls of the report", "tests.calls.report", 27),
     script("conversions from Python, on random books", "tests.calls.convert", 63),
@@ -60,7 +61,10 @@ CALLS = [
     script("one cell on the screen from Python, on random cells", "tests.calls.screen", 27),
     script("spread of claims from Python, on random claims", "tests.calls.spread", 32),
     script("deviations from Python, on random books and risk models", "tests.calls.deviation", 50),
-    script("practice books from Python, on random start numbers", "tests.calls.practice", 23),
+    script("practice books from Python, on random start numbers", "tests.calls.practice", 19),
+    script("the command's habits", "tests.front_door.habits", 15),
+    script("the command's answers, against the second reading", "tests.front_door.figures", 19),
+    script("what is installed", "tests.front_door.installed", 8),
 ]
 PARTS = [PROOFS, *PROGRAMS, CALLERS, *CALLS]
 

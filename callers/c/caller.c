@@ -1344,6 +1344,58 @@ static void test_practice(void)
     free(again);
 }
 
+/* ---- the listing ---- */
+
+static void test_listing(void)
+{
+    static const char text[] = "0 -5000000 1\n1 -5000000 1\n2 -5000000 1\n3 -5000000 1\n"
+                               "4 -5000000 1\n5 -4900000 1\n6 -5100000 1\n7 -4800000 1\n";
+    static const char refused[] = "refused 1 0\n";
+    size_t length = sizeof text - 1, short_length = sizeof refused - 1;
+    parameter_book book = one_record_book();
+    uint8_t out[XAROPINTO_MOST_LISTING_BYTES];
+    memset(out, 7, sizeof out);
+    test("a_buffer_one_byte_short_gets_no_listing",
+         xaropinto_listing(book.bytes, book.length, out, length - 1) == 0 && out[0] == 7);
+    test("the_listing_has_eight_lines", xaropinto_listing(book.bytes, book.length, out, sizeof out) == length &&
+                                            memcmp(out, text, length) == 0 && out[length] == 7);
+    test("a_refused_book_has_one_line", xaropinto_listing(book.bytes, 0, out, sizeof out) == short_length &&
+                                            memcmp(out, refused, short_length) == 0);
+    free(book.bytes);
+}
+
+static void test_refusal_texts(void)
+{
+    test("every_refusal_has_words", *xaropinto_refusal_text(1) && *xaropinto_refusal_text(32));
+    test("no_other_number_has", !*xaropinto_refusal_text(33) && !*xaropinto_refusal_text(UINT64_MAX));
+    test("none_is_accepted", strcmp(xaropinto_refusal_text(0), "accepted") == 0);
+}
+
+/* ---- null pointers, as an empty std::vector has them ---- */
+
+static void test_nulls(void)
+{
+    xaropinto_values values;
+    xaropinto_risk_model model;
+    memset(&values, 0, sizeof values);
+    memset(&model, 0, sizeof model);
+    test("check_takes_a_null_of_no_bytes", xaropinto_check(NULL, 0).refusal == 1);
+    test("group_takes_nulls", xaropinto_group(NULL, 0, 0, 1, NULL, 0).refusal == 16);
+    test("totals_takes_a_null", xaropinto_totals(NULL, 0).refusal == 1);
+    test("listing_takes_nulls", xaropinto_listing(NULL, 0, NULL, 0) == 0);
+    test("record_takes_a_null", xaropinto_record(NULL, 0, 1).refusal == 1);
+    test("report_takes_nulls", xaropinto_report(NULL, 0, 0, NULL, 0).refusal == 1);
+    test("report_room_takes_a_null", xaropinto_report_room(NULL, 0, 0).refusal == 1);
+    test("convert_takes_nulls", xaropinto_convert(NULL, 0, NULL, 0).refusal == 1);
+    test("write_takes_nulls",
+         xaropinto_write(values, NULL, 0, NULL, 0, NULL, 0, NULL, 0, NULL, 0).refusal == 22);
+    test("read_takes_nulls", xaropinto_read(NULL, 0, NULL, 0, NULL, 0, NULL, 0, NULL, 0).refusal == 1);
+    test("funds_takes_nulls", xaropinto_funds(NULL, 0, NULL, 0, NULL, 0, NULL, 0).first.refusal == 16);
+    test("in_force_takes_nulls", xaropinto_in_force(NULL, 0, 0, 1, 0, 0, NULL, 0).refusal == 25);
+    test("deviation_takes_a_null", xaropinto_deviation(NULL, 0, model).refusal == 1);
+    test("practice_takes_a_null", xaropinto_practice(1, NULL, 0).refusal == 16);
+}
+
 int main(void)
 {
     test_sizes();
@@ -1378,6 +1430,9 @@ int main(void)
     test_deviation();
     test_deviation_refusals();
     test_practice();
+    test_listing();
+    test_refusal_texts();
+    test_nulls();
     printf("%d passed, %d failed\n", passed, failed);
     return failed != 0;
 }

@@ -32,8 +32,8 @@ def test_turned_away(report, library):
     report.test("a number below 0 is turned away",
                 raises(ValueError, library.group, empty_book(), -1, 1, array("Q")))
     report.test("a table of signed numbers is turned away", table_raises(TypeError, array("q", [0] * 200)))
-    report.test("a table of two rows is turned away",
-                table_raises(TypeError, memoryview(bytearray(2 * TABLE_BYTES)).cast("Q", (2, 200))))
+    report.test("two tables of fifty rows are turned away",
+                table_raises(TypeError, memoryview(bytearray(2 * TABLE_BYTES)).cast("Q", (2, 50, 4))))
     report.test("a table that cannot be written is turned away",
                 table_raises(TypeError, memoryview(bytes(TABLE_BYTES)).cast("Q")))
     misaligned = memoryview(bytearray(TABLE_BYTES + 8))[1:TABLE_BYTES + 1].cast("Q")
@@ -50,6 +50,9 @@ def test_taken(report, library):
         first_year = list(table)[:4]
         report.test(f"{words} is a table", (reply, first_year) == (
             (0, 0, -5_000_000, 1), [1_000_000, 900_000, 1_000_000, 900_000]), (reply, first_year))
+    rows = memoryview(bytearray(TABLE_BYTES)).cast("Q", (50, 4))
+    library.group(one_record_book(), 0, 2, rows)
+    report.test("fifty rows of four are a table", rows.tolist()[0] == [1_000_000, 900_000, 1_000_000, 900_000])
     report.test("an empty array is a table of no numbers",
                 library.group(one_record_book(), 0, 2, array("Q")) == (16, 0, 0, 0))
 

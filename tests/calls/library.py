@@ -1,4 +1,4 @@
-"""The Python module over the shared library, for the tests of its calls."""
+"""The raw calls of the Python package over the shared library, for the tests of the calls."""
 
 import sys
 
@@ -7,10 +7,13 @@ from tests import ROOT
 
 def open_library(report):
     """The module; None, with a failed test, where `make lib` has not built the shared library."""
-    sys.path.insert(0, str(ROOT / "callers" / "python"))
+    sys.path.insert(0, str(ROOT / "python"))
+    from xaropinto import calls
+    from xaropinto.library import LibraryMissing
+
     try:
-        import xaropinto
-    except OSError as trouble:
+        calls.check(b"")
+    except (LibraryMissing, OSError) as trouble:
         report.test("the shared library is built by make lib", False, trouble)
         return None
-    return xaropinto
+    return calls

@@ -3,10 +3,8 @@ reckoning."""
 
 import random
 import sys
-import tempfile
 from collections import Counter
 from itertools import islice
-from pathlib import Path
 
 from second.check import check
 from second.layout import LONGEST_BOOK
@@ -14,7 +12,6 @@ from second.practice import draws, practice
 from second.reckoning import listing
 from tests.calls.arguments import raises
 from tests.calls.library import open_library
-from tests.command import run
 from tests.program import ProgramFailed, run_program
 from tests.random_books.common import keep_book, read_arguments
 from tests.report import Report
@@ -31,8 +28,6 @@ BEYOND = 40
 # The lowest start number with a record of count 0.
 WITH_A_COUNT_OF_0 = 32
 MOST_DIFFERENCES_SHOWN = 5
-MOST_SECONDS = 60
-TOOL = [sys.executable, "-m", "tools.practice_book"]
 
 
 class Tally:
@@ -135,18 +130,6 @@ def test_listings(report, library):
                     (written, code) == (listing(practice(start, LONGEST_BOOK)[1]), 0), written)
 
 
-def test_tool(report):
-    """What `make practice` runs: a file for a start number, none for 0 and for no number of 64 bits."""
-    with tempfile.TemporaryDirectory() as folder:
-        path = Path(folder) / "practice.book"
-        for start in (0, 2**64, -1):
-            code, text = run([*TOOL, "--", str(start), str(path)], MOST_SECONDS)
-            report.test(f"no file for start number {start}", code != 0 and not path.exists(), text)
-        code, text = run([*TOOL, str(2**63), str(path)], MOST_SECONDS)
-        report.test("a file of the practice book", code == 0
-                    and path.read_bytes() == practice(2**63, LONGEST_BOOK)[1], text)
-
-
 def main():
     """Run and report."""
     wanted = read_arguments(__doc__, DEFAULT_BOOKS, DEFAULT_SEED)
@@ -160,7 +143,6 @@ def main():
     test_by_hand(report, library)
     test_turned_away(report, library)
     test_listings(report, library)
-    test_tool(report)
     return report.finish()
 
 

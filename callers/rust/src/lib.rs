@@ -5,6 +5,7 @@
 //! declarations in `boundary` against the archive but the tests.
 
 mod boundary;
+mod refusals;
 
 use std::error::Error;
 use std::fmt;
@@ -15,8 +16,8 @@ use boundary::xaropinto_deviation;
 use boundary::xaropinto_in_force;
 use boundary::xaropinto_practice;
 use boundary::{
-    xaropinto_check, xaropinto_convert, xaropinto_cost_rates, xaropinto_group, xaropinto_read,
-    xaropinto_record, xaropinto_spread, xaropinto_totals, xaropinto_write,
+    xaropinto_check, xaropinto_convert, xaropinto_cost_rates, xaropinto_group, xaropinto_listing,
+    xaropinto_read, xaropinto_record, xaropinto_spread, xaropinto_totals, xaropinto_write,
 };
 use boundary::{xaropinto_funds, Verdict};
 use boundary::{xaropinto_report, xaropinto_report_room};
@@ -30,7 +31,20 @@ pub struct Refusal {
 
 impl fmt::Display for Refusal {
     fn fmt(&self, line: &mut fmt::Formatter) -> fmt::Result {
-        write!(line, "refused {} {}", self.number, self.place)
+        write!(
+            line,
+            "refused {} {}: {}",
+            self.number,
+            self.place,
+            self.words()
+        )
+    }
+}
+
+impl Refusal {
+    /// The broken rule, and who mends it.
+    pub fn words(&self) -> &'static str {
+        refusals::words(self.number)
     }
 }
 
@@ -118,6 +132,14 @@ pub fn totals(book: &[u8]) -> Result<Totals, Refusal> {
         totals: reply.totals,
         differences: reply.differences,
     })
+}
+
+/// The listing of a book, or the line of its refusal, at the start of a lent buffer; its length.
+///
+/// No listing is longer than 512 bytes. Where the buffer is too short, it stays as it was and the answer is 0.
+pub fn listing(book: &[u8], out: &mut [u8]) -> usize {
+    // SAFETY: as in `group`; a buffer of bytes may start anywhere.
+    unsafe { xaropinto_listing(book.as_ptr(), book.len(), out.as_mut_ptr(), out.len()) }
 }
 
 /// The 24 bytes of a record, linked or not, as a part of the book; records are numbered from 1.

@@ -4,7 +4,8 @@
 ghost use mathlib.Core.Path.{_≡_};
 ghost use Rattle.book.specs.Check.{checkBook};
 ghost use Rattle.look.specs.Looker.{locatedIn};
-ghost use Rattle.reckoning.specs.Totals.{TotalsPromised};
+ghost use Rattle.reckoning.specs.Totals.{totalsReply, TotalsPromised};
+ghost use Rattle.lines.specs.Listing.{listingOf, Listed};
 ghost use Rattle.accounts.specs.Replies.{RatesPromised};
 ghost use Rattle.deviation.specs.Deviation.{DeviationPromised};
 ghost use Rattle.contents.specs.Contents.{given};
@@ -102,6 +103,14 @@ pub extern "C" fn xaropinto_totals(book: &[u8]) -> TotalsReply
     ensures { λ r. ⌜ TotalsPromised (now (book .entry)) r ⌝ }
 {
     totals::totals(book)
+}
+
+// The listing is never longer than 512 bytes; where the buffer is shorter than it, nothing is written and the answer is 0.
+#[no_mangle]
+pub extern "C" fn xaropinto_listing(book: &[u8], out: &mut [u8]) -> usize
+    ensures { λ r. ⌜ Listed (listingOf (totalsReply (now (book .entry)))) (now (out .entry)) (now (out .exit)) r ⌝ }
+{
+    lines::write_listing(book, out)
 }
 
 #[no_mangle]

@@ -16,7 +16,24 @@ fn a_record_is_a_part_of_the_book() {
 #[test]
 fn a_refusal_reads_as_the_program_writes_it() {
     let refusal = xaropinto::check(&[0; 1_220]).expect_err("zeros are no book");
-    assert_eq!(refusal.to_string(), "refused 2 0");
+    assert_eq!(
+        refusal.to_string(),
+        "refused 2 0: the edition is 1 or 2; mended by: the desk that writes the file"
+    );
+}
+
+#[test]
+fn a_listing_tells_the_totals() {
+    let book = full_book(&mut Chooser::new(8), Kind::Anywhere);
+    let told = xaropinto::totals(&book).expect("a full book is accepted");
+    let lines: String = (0..8)
+        .map(|setting| format!("{setting} {} {}\n", told.totals[setting], told.n))
+        .collect();
+    let mut out = [7; 512];
+    assert_eq!(xaropinto::listing(&book, &mut out), lines.len());
+    assert_eq!(&out[..lines.len()], lines.as_bytes());
+    assert!(out[lines.len()..].iter().all(|byte| *byte == 7));
+    assert_eq!(xaropinto::listing(&book, &mut out[..lines.len() - 1]), 0);
 }
 
 /// The book on age basis 2 that becomes this one, whose records are all linked.

@@ -1,17 +1,22 @@
 """The proved check and reckoning of a parameter book, its cost rates, and the spread of claims, called through ctypes.
 
-`make lib` links the shared library. `include/xaropinto.h` says what each call answers and which refusals it
-gives. A book is `bytes`, which nothing can change and which is lent as it is, or anything else with bytes, such
-as a `bytearray`, which is copied first: other threads run during a call and may write to it. A table, or a buffer
-to be written, is lent as it is.
+`make lib` links the shared library; `xaropinto.library` finds it. `include/xaropinto.h` says what each call answers
+and which refusals it gives. A book is `bytes`, which nothing can change and which is lent as it is, or anything else
+with bytes, such as a `bytearray`, which is copied first: other threads run during a call and may write to it. A table,
+or a buffer to be written, is lent as it is.
 """
 
 import ctypes
-from pathlib import Path
-from typing import NamedTuple
+from functools import lru_cache
+from typing import Any, NamedTuple, Sequence, Union
 
-LIBRARY_PATH = Path(__file__).resolve().parents[2] / "target" / "lib" / "libxaropinto.so"
+from xaropinto.library import find_library
+
 WORD_LIMIT = 2**64
+# A book; a table, list or buffer that is lent is anything with the numbers of its kind.
+Bytes = Union[bytes, bytearray, memoryview]
+Row = Sequence[int]
+Rows = Sequence[Row]
 
 
 class Verdict(NamedTuple):
@@ -199,80 +204,95 @@ class _DeviationReply(ctypes.Structure):
     _fields_ = [("refusal", ctypes.c_uint64), ("place", ctypes.c_uint64), ("deviation", ctypes.c_uint64)]
 
 
-_BOOK = [ctypes.c_char_p, ctypes.c_size_t]
-_LISTS = [ctypes.POINTER(ctypes.c_uint64), ctypes.c_size_t] * 4
+# What is lent: a pointer and a length.
+_BOOK = (ctypes.c_char_p, ctypes.c_size_t)
+_NUMBERS = (ctypes.POINTER(ctypes.c_uint64), ctypes.c_size_t)
+_BYTES = (ctypes.POINTER(ctypes.c_uint8), ctypes.c_size_t)
 # How a buffer names numbers that may be unsigned and of 64 bits; its item size tells.
 _UNSIGNED = {order + letter for order in ("", "@", "=", "<") for letter in "QL"}
 # And signed.
 _SIGNED = {order + letter for order in ("", "@", "=", "<") for letter in "ql"}
 
 
-def _declared(name, reply, *more):
-    """A function of the library that takes a book and more."""
-    function = getattr(_LIBRARY, name)
-    function.restype = reply
-    function.argtypes = _BOOK + list(more)
-    return function
+class _Call:
+    """A function of the library, looked up when it is first called: help and words do without the library."""
+
+    def __init__(self, name, reply, *arguments):
+        self.name, self.reply, self.arguments = name, reply, arguments
+        self.function = None
+
+    def __call__(self, *arguments):
+        if self.function is None:
+            function = getattr(_library(), self.name)
+            function.restype, function.argtypes = self.reply, self.arguments
+            self.function = function
+        return self.function(*arguments)
 
 
-_LIBRARY = ctypes.CDLL(str(LIBRARY_PATH))
-_CHECK = _declared("xaropinto_check", _Verdict)
-_GROUP = _declared("xaropinto_group", _GroupReply, ctypes.c_size_t, ctypes.c_size_t,
-                   ctypes.POINTER(ctypes.c_uint64), ctypes.c_size_t)
-_TOTALS = _declared("xaropinto_totals", _TotalsReply)
-_RECORD = _declared("xaropinto_record", _RecordReply, ctypes.c_size_t)
-_COST_RATES = _LIBRARY.xaropinto_cost_rates
-_COST_RATES.restype, _COST_RATES.argtypes = _CostRates, [_Accounts]
-_REPORT = _declared("xaropinto_report", _ReportReply, ctypes.c_size_t,
-                    ctypes.POINTER(ctypes.c_uint8), ctypes.c_size_t)
-_REPORT_ROOM = _declared("xaropinto_report_room", _ReportReply, ctypes.c_size_t)
-_CONVERT = _declared("xaropinto_convert", _Verdict, ctypes.POINTER(ctypes.c_uint8), ctypes.c_size_t)
-_READ = _declared("xaropinto_read", _ReadReply, *_LISTS)
-_WRITE = _LIBRARY.xaropinto_write
-_WRITE.restype = _WriteReply
-_WRITE.argtypes = [_Values, *_LISTS, ctypes.POINTER(ctypes.c_uint8), ctypes.c_size_t]
-_FUNDS = _declared("xaropinto_funds", _FundsReply, *_BOOK, *_BOOK, ctypes.POINTER(ctypes.c_int64), ctypes.c_size_t)
-_IN_FORCE = _declared("xaropinto_in_force", _InForceReply, *[ctypes.c_size_t] * 4,
-                      ctypes.POINTER(ctypes.c_uint64), ctypes.c_size_t)
-_SPREAD = _LIBRARY.xaropinto_spread
-_SPREAD.restype, _SPREAD.argtypes = _SpreadReply, [_Summary, ctypes.c_double, ctypes.c_double]
-_DEVIATION = _declared("xaropinto_deviation", _DeviationReply, _RiskModel)
-_PRACTICE = _LIBRARY.xaropinto_practice
-_PRACTICE.restype = _WriteReply
-_PRACTICE.argtypes = [ctypes.c_uint64, ctypes.POINTER(ctypes.c_uint8), ctypes.c_size_t]
+@lru_cache(maxsize=None)
+def _library():
+    """The shared library, loaded once."""
+    return ctypes.CDLL(str(find_library()))
 
 
-def check(book):
+_CHECK = _Call("xaropinto_check", _Verdict, *_BOOK)
+_GROUP = _Call("xaropinto_group", _GroupReply, *_BOOK, ctypes.c_size_t, ctypes.c_size_t, *_NUMBERS)
+_TOTALS = _Call("xaropinto_totals", _TotalsReply, *_BOOK)
+_LISTING = _Call("xaropinto_listing", ctypes.c_size_t, *_BOOK, *_BYTES)
+_RECORD = _Call("xaropinto_record", _RecordReply, *_BOOK, ctypes.c_size_t)
+_COST_RATES = _Call("xaropinto_cost_rates", _CostRates, _Accounts)
+_REPORT = _Call("xaropinto_report", _ReportReply, *_BOOK, ctypes.c_size_t, *_BYTES)
+_REPORT_ROOM = _Call("xaropinto_report_room", _ReportReply, *_BOOK, ctypes.c_size_t)
+_CONVERT = _Call("xaropinto_convert", _Verdict, *_BOOK, *_BYTES)
+_READ = _Call("xaropinto_read", _ReadReply, *_BOOK, *_NUMBERS * 4)
+_WRITE = _Call("xaropinto_write", _WriteReply, _Values, *_NUMBERS * 4, *_BYTES)
+_FUNDS = _Call("xaropinto_funds", _FundsReply, *_BOOK * 3, ctypes.POINTER(ctypes.c_int64), ctypes.c_size_t)
+_IN_FORCE = _Call("xaropinto_in_force", _InForceReply, *_BOOK, *[ctypes.c_size_t] * 4, *_NUMBERS)
+_SPREAD = _Call("xaropinto_spread", _SpreadReply, _Summary, ctypes.c_double, ctypes.c_double)
+_DEVIATION = _Call("xaropinto_deviation", _DeviationReply, *_BOOK, _RiskModel)
+_PRACTICE = _Call("xaropinto_practice", _WriteReply, ctypes.c_uint64, *_BYTES)
+
+
+def check(book: Bytes) -> Verdict:
     """Is this a book?"""
     reply = _CHECK(*_lent_book(book))
     return Verdict(reply.refusal, reply.place, reply.n)
 
 
-def group(book, setting, product_group, table):
+def group(book: Bytes, setting: int, product_group: int, table: Any) -> GroupReply:
     """The liability of a product group in a setting.
 
     The table is one row of unsigned 64-bit numbers that can be written, such as an `array.array("Q")` or a
-    `(ctypes.c_uint64 * 200)()`, and starts at a multiple of 8 bytes. Where accepted, its first 200 become the
-    fifty years; all others stay as they were.
+    `(ctypes.c_uint64 * 200)()`, or rows of such, fifty of four; it starts at a multiple of 8 bytes. Where accepted,
+    its first 200 become the fifty years; all others stay as they were.
     """
     numbers = _lent_table(table)
     reply = _GROUP(*_lent_book(book), _word(setting), _word(product_group), numbers, len(numbers))
     return GroupReply(reply.refusal, reply.place, reply.liability, reply.n)
 
 
-def totals(book):
+def totals(book: Bytes) -> TotalsReply:
     """The eight totals and the four differences."""
     reply = _TOTALS(*_lent_book(book))
     return TotalsReply(reply.refusal, reply.place, reply.n, tuple(reply.totals), tuple(reply.differences))
 
 
-def record(book, number):
+def listing(book: Bytes, out: Any) -> int:
+    """Write the listing of a book, or the line of its refusal, to the start of a lent buffer of bytes; its length.
+
+    No listing is longer than 512 bytes. Where the buffer is too short, it stays as it was and the answer is 0.
+    """
+    buffer = _lent_buffer(out)
+    return _LISTING(*_lent_book(book), buffer, len(buffer))
+
+
+def record(book: Bytes, number: int) -> RecordReply:
     """Where the record of this number, counted from 1, stands in the book."""
     reply = _RECORD(*_lent_book(book), _word(number))
     return RecordReply(reply.refusal, reply.place, reply.start, reply.length)
 
 
-def cost_rates(expenses, stock, claims, premium):
+def cost_rates(expenses: Row, stock: Rows, claims: Rows, premium: Rows) -> CostRates:
     """The cost rates of the five product groups out of three years of accounts.
 
     Expenses are three numbers; stock, claims and premium are three rows of five, a row for each year. Stock is in
@@ -298,7 +318,7 @@ def _rows(rows):
     return sum((_numbers(row, _PRODUCT_GROUPS) for row in rows), ())
 
 
-def report(book, setting, out):
+def report(book: Bytes, setting: int, out: Any) -> ReportReply:
     """Write the year report of a setting to the start of a lent buffer.
 
     The buffer is one row of bytes that can be written, such as a `bytearray`, at least as long as `report_room` tells.
@@ -309,13 +329,13 @@ def report(book, setting, out):
     return ReportReply(reply.refusal, reply.place, reply.length)
 
 
-def report_room(book, setting):
+def report_room(book: Bytes, setting: int) -> ReportReply:
     """How long a buffer `report` wants for this book and setting: the report's length, to the byte."""
     reply = _REPORT_ROOM(*_lent_book(book), _word(setting))
     return ReportReply(reply.refusal, reply.place, reply.length)
 
 
-def convert(book, out):
+def convert(book: Bytes, out: Any) -> Verdict:
     """The book of age basis 2 turned into basis 1.
 
     `out` is one row of bytes that can be written, such as a `bytearray`. Where accepted, its first bytes, as many as
@@ -326,7 +346,7 @@ def convert(book, out):
     return Verdict(reply.refusal, reply.place, reply.n)
 
 
-def write(values, counts, lapses, premiums, claims, out):
+def write(values: Values, counts: Any, lapses: Any, premiums: Any, claims: Any, out: Any) -> WriteReply:
     """The book of the values and lists, written into a buffer of bytes; its length.
 
     The lists of one kind stand end to end, in head order, in one row of unsigned 64-bit numbers that can be
@@ -341,7 +361,7 @@ def write(values, counts, lapses, premiums, claims, out):
     return WriteReply(reply.refusal, reply.place, reply.length)
 
 
-def read(book, counts, lapses, premiums, claims):
+def read(book: Bytes, counts: Any, lapses: Any, premiums: Any, claims: Any) -> ReadReply:
     """The values of a book; its lists fill the four rows, whose later numbers stay as they were."""
     lists = [_lent_table(numbers) for numbers in (counts, lapses, premiums, claims)]
     for at, numbers in enumerate(lists):
@@ -354,7 +374,7 @@ def read(book, counts, lapses, premiums, claims):
     return ReadReply(reply.refusal, reply.place, values)
 
 
-def funds(table, first, second, numbers):
+def funds(table: Bytes, first: Bytes, second: Bytes, numbers: Any) -> tuple[Verdict, ...]:
     """Two funds on the same tables: the verdict of each.
 
     The table file and the fund files are taken as books are. `numbers` is one row of signed 64-bit numbers that can
@@ -366,7 +386,7 @@ def funds(table, first, second, numbers):
     return tuple(Verdict(each.refusal, each.place, each.n) for each in (reply.first, reply.second))
 
 
-def in_force(book, setting, code, sex, age_class, numbers):
+def in_force(book: Bytes, setting: int, code: int, sex: int, age_class: int, numbers: Any) -> InForceReply:
     """What is in force of one cell, year by year, in billionths of a contract.
 
     The numbers are lent as a table is in `group`. Where accepted, the first 50 become those of the linked record of
@@ -377,7 +397,8 @@ def in_force(book, setting, code, sex, age_class, numbers):
     return InForceReply(reply.refusal, reply.place)
 
 
-def spread(lowest, first_quartile, median, third_quartile, highest, xi, eta):
+def spread(lowest: int, first_quartile: int, median: int, third_quartile: int, highest: int, xi: float,
+           eta: float) -> Spread:
     """Mean and coefficient of yearly claims, given by five whole numbers of centimes and two sample factors.
 
     A factor is a float, or a whole number that a double holds; one that would have to be rounded is turned away.
@@ -398,7 +419,7 @@ def _double(number):
     return float(number)
 
 
-def deviation(book, coefficients, correlation):
+def deviation(book: Bytes, coefficients: Row, correlation: Rows) -> DeviationReply:
     """One standard deviation of the four factors of a book: mortality, lapse, costs and claims.
 
     Coefficients are four numbers in millionths, the correlation is four rows of four in thousandths.
@@ -416,7 +437,7 @@ def _square(rows):
     return tuple(_signed_word(number) for row in rows for number in row)
 
 
-def practice(start, out):
+def practice(start: int, out: Any) -> WriteReply:
     """The practice book of a start number, written into a buffer of bytes; its length.
 
     The start number is any of 64 bits but 0. Bytes of the buffer past the book stay as they were.
@@ -460,10 +481,12 @@ def _lent_book(book):
 
 
 def _lent_table(table):
-    """The table's own numbers."""
+    """The table's own numbers; rows of a table, such as fifty of four, stand one after the other."""
     view = memoryview(table)
-    if view.ndim != 1 or view.itemsize != 8 or view.format not in _UNSIGNED:
-        raise TypeError("the table must be one row of unsigned 64-bit numbers")
+    if view.ndim not in (1, 2) or not view.c_contiguous or view.itemsize != 8 or view.format not in _UNSIGNED:
+        raise TypeError("the table must be rows of unsigned 64-bit numbers, one after the other")
+    if view.ndim == 2 and view.nbytes:
+        view = view.cast("B").cast("Q")
     return _lent_words(view, ctypes.c_uint64)
 
 
@@ -477,7 +500,7 @@ def _lent_signed(numbers):
 
 def _lent_words(view, kind):
     """A row's own words of 64 bits."""
-    if len(view) == 0:
+    if view.nbytes == 0:
         # An empty buffer may stand anywhere.
         return (kind * 0)()
     numbers = (kind * len(view)).from_buffer(view)

@@ -1,0 +1,1 @@
+"""The command: each module has some of its verbs."""
