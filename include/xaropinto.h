@@ -11,7 +11,7 @@
  * written. Accounts, values and risk models are handed over by value: no call sees the caller's own. No call keeps a
  * pointer after it returns, and none allocates.
  *
- * Pointers. Each must be valid for its length; where the length is 0 it may be null, as that of an empty std::vector is.
+ * Pointers. Each must be valid for its length; where that is 0 it may be null, as that of an empty std::vector is.
  * The table, the lists and the numbers of Funds and In force must be aligned for uint64_t; a buffer of bytes may start
  * anywhere. What is written must overlap neither the book nor anything else that is lent at the time; lists that Write
  * only reads may be one and the same, and so may the files of Funds.
@@ -31,7 +31,8 @@
  * other field of the reply is 0, and what was lent is as it was; of Funds, that fund's half of the numbers. No earlier
  * call is trusted: each checks the whole book, or all accounts.
  *
- * `xaropinto_refusal_text` says in words which rule it is and who mends it; docs/BOOK.md has the places.
+ * `xaropinto_refusal_text` has for each refusal the rule that is broken, what `place` then is, and who mends it;
+ * docs/BOOK.md has the same table with an example of each.
  *
  * Where several rules are broken, the reply names one. 14 to 16 are tested first, in this order; then 1 to 8, also in
  * order, and where a number has several places it is given with the lowest. 23 is tested in edition 2 where 4 looks at
@@ -370,7 +371,7 @@ xaropinto_deviation_reply xaropinto_deviation(const uint8_t *book, size_t length
  * says how. Check accepts every such book, and equal start numbers give equal bytes. */
 xaropinto_write_reply xaropinto_practice(uint64_t start, uint8_t *out, size_t room);
 
-/* The broken rule of a refusal, and who mends it; "accepted" for 0, and for a number that no call gives "". */
+/* The broken rule of a refusal, its place, and who mends it; "accepted" for 0, "" for a number that no call gives. */
 static inline const char *xaropinto_refusal_text(uint64_t refusal)
 {
     switch (refusal) {
@@ -378,69 +379,69 @@ static inline const char *xaropinto_refusal_text(uint64_t refusal)
         return "accepted";
     /* refusals: begin, written by python3 -m tools.refusals write */
     case 1:
-        return "a book has at least 1,220 bytes, a fund file at least 56; mended by: the desk that writes the file";
+        return "a book has at least 1,220 bytes, a fund file at least 56; place: the length of the file; mended by: the desk that writes the file";
     case 2:
-        return "the edition is 1 or 2; mended by: the desk that writes the file";
+        return "the edition is 1 or 2; place: 0; mended by: the desk that writes the file";
     case 3:
-        return "the age basis is 1; for the converter it is 2; mended by: the desk that writes the file";
+        return "the age basis is 1; for the converter it is 2; place: 1; mended by: the desk that writes the file";
     case 4:
-        return "the SST year is 2017 to 2100, there are at most 1,694 records, and bytes 6 and 7 are zero in edition 1; mended by: the desk that writes the file";
+        return "the SST year is 2017 to 2100, there are at most 1,694 records, and bytes 6 and 7 are zero in edition 1; place: 2, 4 or 6, the first; 0 in Write; mended by: the desk that writes the file";
     case 5:
-        return "the length is 1,220 bytes and 24 for each record; mended by: the desk that writes the file";
+        return "the length is 1,220 bytes and 24 for each record; place: the length of the file; mended by: the desk that writes the file";
     case 6:
-        return "a cost rate is at most 1,000,000 millionths; mended by: the insurer's cost sheet";
+        return "a cost rate is at most 1,000,000 millionths; place: the field; 0 in Write; mended by: the insurer's cost sheet";
     case 7:
-        return "a curve rate is -10,000 to 200,000 millionths; mended by: the keeper of the supervisor's tables";
+        return "a curve rate is -10,000 to 200,000 millionths; place: the field; 0 in Write; mended by: the keeper of the supervisor's tables";
     case 8:
-        return "a mortality is at most 1,000,000 millionths; mended by: the keeper of the supervisor's tables";
+        return "a mortality is at most 1,000,000 millionths; place: the field; 0 in Write; mended by: the keeper of the supervisor's tables";
     case 9:
-        return "a head or next is at most the number of records; so is the number that the looker is asked for, and it is not 0; mended by: the portfolio desk; in the looker the caller";
+        return "a head or next is at most the number of records; so is the number that the looker is asked for, and it is not 0; place: the field; 0 in the looker; mended by: the portfolio desk; in the looker the caller";
     case 10:
-        return "a linked record has its chain's code and sex, and zero in its spare bytes; mended by: the portfolio desk";
+        return "a linked record has its chain's code and sex, and zero in its spare bytes; place: the record's start; mended by: the portfolio desk";
     case 11:
-        return "a chain's first class is at most 120, each later class one more; mended by: the portfolio desk";
+        return "a chain's first class is at most 120, each later class one more; place: record + 2; 0 in Write; mended by: the portfolio desk";
     case 12:
-        return "the count is at most 100,000, the lapse at most 1,000,000 millionths, premium and claims each at most 10,000,000 centimes; mended by: the portfolio desk";
+        return "the count is at most 100,000, the lapse at most 1,000,000 millionths, premium and claims each at most 10,000,000 centimes; place: the field, the first; 0 in Write; mended by: the portfolio desk";
     case 13:
-        return "a chain ends at class 120 and nowhere else; mended by: the portfolio desk";
+        return "a chain ends at class 120 and nowhere else; place: record + 4; mended by: the portfolio desk";
     case 14:
-        return "the setting is 0 to 7; mended by: the caller";
+        return "the setting is 0 to 7; place: 0; mended by: the caller";
     case 15:
-        return "the product group is 1 to 5; mended by: the caller";
+        return "the product group is 1 to 5; place: 0; mended by: the caller";
     case 16:
-        return "what is lent to be written is long enough: 200 numbers for Group, 16 for Funds, the book's length for the converter, 41,876 bytes for Practice; mended by: the caller";
+        return "what is lent to be written is long enough: 200 numbers for Group, 16 for Funds, the book's length for the converter, 41,876 bytes for Practice; place: 0; mended by: the caller";
     case 17:
-        return "amounts of accounts are at most 1,000,000,000 francs, a stock at most 10,000,000 contracts; mended by: the insurer's cost sheet";
+        return "amounts of accounts are at most 1,000,000,000 francs, a stock at most 10,000,000 contracts; place: 0; mended by: the insurer's cost sheet";
     case 18:
-        return "no year's stock or claims add up to 0, and a group with something in any of three years has premium in each; mended by: the insurer's cost sheet";
+        return "no year's stock or claims add up to 0, and a group with something in any of three years has premium in each; place: 0; mended by: the insurer's cost sheet";
     case 19:
-        return "no cost rate out of the accounts is above 1,000,000 millionths; mended by: the insurer's cost sheet";
+        return "no cost rate out of the accounts is above 1,000,000 millionths; place: 0; mended by: the insurer's cost sheet";
     case 20:
-        return "the buffer lent for a year report is as long as told; mended by: the caller";
+        return "the buffer lent for a year report is as long as told; place: 0; mended by: the caller";
     case 21:
-        return "on age basis 2 no linked record has class 0; mended by: the portfolio desk";
+        return "on age basis 2 no linked record has class 0; place: record + 2; mended by: the portfolio desk";
     case 22:
-        return "the lists have the lengths that their chains ask, and what is to be filled is long enough; mended by: the caller";
+        return "the lists have the lengths that their chains ask, and what is to be filled is long enough; place: 0; mended by: the caller";
     case 23:
-        return "each mortality percentage of edition 2 is 1 to 100; mended by: the desk that writes the file";
+        return "each mortality percentage of edition 2 is 1 to 100; place: 6 or 7, the first; 0 in Write; mended by: the desk that writes the file";
     case 24:
-        return "the table file has 1,164 bytes; mended by: the desk that writes the file";
+        return "the table file has 1,164 bytes; place: 0; mended by: the desk that writes the file";
     case 25:
-        return "the subgroup code is 1 to 7, the sex 0 or 1, and the buffer has at least 50 numbers; mended by: the caller";
+        return "the subgroup code is 1 to 7, the sex 0 or 1, and the buffer has at least 50 numbers; place: 0; mended by: the caller";
     case 26:
-        return "the chain of that code and sex has a record of that class; mended by: the caller";
+        return "the chain of that code and sex has a record of that class; place: 0; mended by: the caller";
     case 27:
-        return "none of the five figures is below the one before it or above 10,000,000 centimes, and the highest is not 0; mended by: the portfolio desk";
+        return "none of the five figures is below the one before it or above 10,000,000 centimes, and the highest is not 0; place: 0; mended by: the portfolio desk";
     case 28:
-        return "the sample factors are numbers from 1/1,024 to 1,000; mended by: the keeper of the supervisor's tables";
+        return "the sample factors are numbers from 1/1,024 to 1,000; place: 0; mended by: the keeper of the supervisor's tables";
     case 29:
-        return "a coefficient is at most 1,000,000 millionths; the correlation is symmetric, 1,000 on its diagonal and -1,000 to 1,000 elsewhere; mended by: the caller";
+        return "a coefficient is at most 1,000,000 millionths; the correlation is symmetric, 1,000 on its diagonal and -1,000 to 1,000 elsewhere; place: 0; mended by: the caller";
     case 30:
-        return "no scaled factor is above 1,000,000 or below -1,000,000; mended by: the caller";
+        return "no scaled factor is above 1,000,000 or below -1,000,000; place: 0; mended by: the caller";
     case 31:
-        return "the quadratic form is not negative; mended by: the caller";
+        return "the quadratic form is not negative; place: 0; mended by: the caller";
     case 32:
-        return "the start number is not 0; mended by: the caller";
+        return "the start number is not 0; place: 0; mended by: the caller";
     /* refusals: end */
     default:
         return "";

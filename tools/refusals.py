@@ -22,7 +22,8 @@ def in_book(rows):
 def in_header(rows):
     """The cases of a function in C."""
     return [line for row in rows
-            for line in (f"    case {row.number}:", f'        return "{row.rule}; mended by: {row.mended_by}";')]
+            for line in (f"    case {row.number}:",
+                         f'        return "{row.rule}; place: {row.place}; mended by: {row.mended_by}";')]
 
 
 def in_rust(rows):
