@@ -122,3 +122,16 @@ same-decrements-6 b = refl
 pub same-decrements-7 : (b : List ℕ) → decrementsOf b 0 ≡ decrementsOf b 7
 unfolding decrementsOf weightOf mortalityWeight
 same-decrements-7 b = refl
+
+-- and they settle as the base does from year 5 on
+pub same-outgo-5 : outgoingsOf 0 .later ≡ outgoingsOf 5 .later
+unfolding outgoingsOf weightOf
+same-outgo-5 = refl
+
+pub same-outgo-6 : outgoingsOf 0 .later ≡ outgoingsOf 6 .later
+unfolding outgoingsOf weightOf
+same-outgo-6 = refl
+
+pub same-outgo-7 : outgoingsOf 0 .later ≡ outgoingsOf 7 .later
+unfolding outgoingsOf weightOf
+same-outgo-7 = refl

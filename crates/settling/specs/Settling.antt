@@ -6,19 +6,16 @@ use Rattle.settings.specs.Settings.{costsIn, claimsIn}
 use Rattle.settings.specs.declared.Outgoings.{Outgoings}
 use Rattle.reckoning.specs.Arithmetic.{rounded}
 use Rattle.reckoning.specs.Steps.{Cell, Terms, outgo, capped, countedPremium, discounted, discountedOutgo, discountedPremium}
-use Rattle.settling.specs.declared.Amounts.{Amounts}
 use Rattle.settling.specs.declared.Year.{Year}
 
 -- step 3 of sums of premium and claims
 unfoldable pub outgoOf : Outgoings → ℕ → ℕ → ℕ → ℕ → ℕ
 outgoOf w k rate premium claims = claims * claimsIn w k / 1000 + premium * (rate * costsIn w k) / 1_000_000_000
 
--- step 5 of both amounts of a year, for j years with the divisor d. The bounds leave room for a further step.
-pub record Discounted (d j : ℕ) (x r : Amounts) : Type 0 where
-  pub premium-is : r .premium ≡ discounted rounded d j (x .premium)
-  pub outgo-is : r .outgo ≡ discounted rounded d j (x .outgo)
-  pub premium-most : r .premium ≤ 4_000_000_000_000_000 + 82_000_000_000_000 * j
-  pub outgo-most : r .outgo ≤ 4_000_000_000_000_000 + 82_000_000_000_000 * j
+-- step 5 of an amount, for j years with the divisor d. The bound leaves room for a further step.
+pub record Discounted (d j x r : ℕ) : Type 0 where
+  pub is : r ≡ discounted rounded d j x
+  pub most : r ≤ 4_000_000_000_000_000 + 82_000_000_000_000 * j
 
 -- steps 4 and 5 of a premium sum and an outgo
 abbrev pub settled : ℕ → ℕ → ℕ → ℕ → Year

@@ -10,6 +10,7 @@ ghost use Rattle.settings.specs.Settings.{OutgoWeighed};
 ghost use Rattle.reckoning.specs.Arithmetic.{rounded};
 ghost use Rattle.reckoning.specs.Steps.{capped};
 ghost use Rattle.reckoning.specs.Portfolio.{costRateOf, divisorOf};
+ghost use Rattle.arith.specs.Fractions.{Fraction};
 ghost use Rattle.settling.specs.Settling.{Discounted, outgoOf, yearFrom, fourOf};
 use settings::Outgoings;
 
@@ -32,49 +33,47 @@ pub fn divisor_of(book: &[u8], k: usize) -> u64
     (field::read_u32(book, book::CURVE_PLACE + 4 * (k - 1)) + 1_000_000) % 4_294_967_296
 }
 
-// An amount a year back at divisor d. One division serves where the product fits.
-fn step_back(x: u64, d: u64) -> u64
-    requires { ⌜ (x ≤ 10000000000000000) × (990000 ≤ d) × (d ≤ 1200000) ⌝ }
+// 1,000,000 over d as a fraction of 2^63, rounded up.
+pub fn fraction_of(d: u64) -> u64
+    requires { ⌜ (990000 ≤ d) × (d ≤ 1200000) ⌝ }
+    ensures { λ r. ⌜ Fraction 1000000 d 9223372036854775808 r ⌝ }
+{
+    let whole = 9_223_372_036_854_775_808 / d;
+    let rest = 9_223_372_036_854_775_808 % d;
+    1_000_000 * whole + (1_000_000 * rest + (d - 1)) / d
+}
+
+// An amount a year back at divisor d: by its fraction, with no division, where the amount is small beside that.
+fn step_back(x: u64, d: u64, fraction: u64) -> u64
+    requires { ⌜ (x ≤ 10000000000000000) × (990000 ≤ d) × (d ≤ 1200000) × Fraction 1000000 d 9223372036854775808 fraction ⌝ }
     ensures { λ r. ⌜ r ≡ x * 1000000 / d ⌝ }
 {
-    if x < 18_000_000_000_000 {
-        return x * 1_000_000 / d;
+    if x < 7_600_000_000_000 {
+        return arith::part(x, fraction);
     }
     arith::mul_div(x, 1_000_000, d)
 }
 
-// A year's counted premium and outgo.
-pub struct Amounts {
-    pub premium: u64,
-    pub outgo: u64,
-}
-
-// Both discounted for j years with the divisor d: one step on the amounts discounted for one year less.
-// Two amounts at once, since neither's division waits for the other's.
-fn discount(d: u64, j: usize, x: Amounts) -> Amounts
-    requires { ⌜ (990000 ≤ d) × (d ≤ 1200000) × (j ≤ 49) × (x .premium ≤ 4000000000000000) × (x .outgo ≤ 4000000000000000) ⌝ }
+// An amount discounted for j years with the divisor d: one step on the amount discounted for one year less.
+fn discount(d: u64, fraction: u64, j: usize, x: u64) -> u64
+    requires { ⌜ (990000 ≤ d) × (d ≤ 1200000) × (j ≤ 49) × (x ≤ 4000000000000000) × Fraction 1000000 d 9223372036854775808 fraction ⌝ }
     ensures { λ r. ⌜ Discounted d j x r ⌝ }
 {
     if j == 0 {
         return x;
     }
-    let y = discount(d, j - 1, x);
-    Amounts {
-        premium: step_back(y.premium, d),
-        outgo: step_back(y.outgo, d),
-    }
+    step_back(discount(d, fraction, j - 1, x), d, fraction)
 }
 
 // The same, with no step where there is nothing to discount: many a later year of an old product.
-fn discount_any(d: u64, j: usize, x: Amounts) -> Amounts
-    requires { ⌜ (990000 ≤ d) × (d ≤ 1200000) × (j ≤ 49) × (x .premium ≤ 4000000000000000) × (x .outgo ≤ 4000000000000000) ⌝ }
+fn discount_any(d: u64, fraction: u64, j: usize, x: u64) -> u64
+    requires { ⌜ (990000 ≤ d) × (d ≤ 1200000) × (j ≤ 49) × (x ≤ 4000000000000000) × Fraction 1000000 d 9223372036854775808 fraction ⌝ }
     ensures { λ r. ⌜ Discounted d j x r ⌝ }
 {
-    let both = x.premium + x.outgo;
-    if both == 0 {
+    if x == 0 {
         return x;
     }
-    discount(d, j, x)
+    discount(d, fraction, j, x)
 }
 
 // The outgo of year k: weighted claims, and the cost of the premium before the cap.
@@ -106,25 +105,26 @@ pub struct Year {
 }
 
 // A year from its sums.
-pub fn settle_year(w: Outgoings, k: usize, rate: u64, d: u64, premium: u64, claims: u64) -> Year
+pub fn settle_year(
+    w: Outgoings,
+    k: usize,
+    rate: u64,
+    d: u64,
+    fraction: u64,
+    premium: u64,
+    claims: u64,
+) -> Year
     requires { ⌜ OutgoWeighed w × (k ≤ 49) × (rate ≤ 1000000) × (990000 ≤ d) × (d ≤ 1200000) × (premium ≤ 726000000000000) × (claims ≤ 726000000000000) ⌝ }
+    requires { ⌜ Fraction 1000000 d 9223372036854775808 fraction ⌝ }
     ensures { λ r. ⌜ (r ≡ yearFrom w k rate d premium claims) × (r .dpremium ≤ 9000000000000000) × (r .doutgo ≤ 9000000000000000) ⌝ }
 {
     let spent = outgo(w, k, rate, premium, claims);
     let due = counted(k, premium, spent);
-    let discounted = discount_any(
-        d,
-        k,
-        Amounts {
-            premium: due,
-            outgo: spent,
-        },
-    );
     Year {
         premium: due,
         outgo: spent,
-        dpremium: discounted.premium,
-        doutgo: discounted.outgo,
+        dpremium: discount_any(d, fraction, k, due),
+        doutgo: discount_any(d, fraction, k, spent),
     }
 }
 

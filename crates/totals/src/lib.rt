@@ -8,11 +8,13 @@ ghost use Rattle.field.specs.declared.Verdict.the-variants.{Accepted, Refused};
 ghost use Rattle.book.specs.Reading.{ValidBook};
 ghost use Rattle.settings.specs.Settings.{decrementsOf};
 ghost use Rattle.reckoning.specs.Totals.{totalOf, totalsOf, differencesOf, totalsFor, TotalsPromised};
-ghost use Rattle.totals.specs.Sums.{AllSums};
+ghost use Rattle.years.specs.Outcome.{Curve};
+ghost use Rattle.totals.specs.Sums.{AllSums, AllLater};
 use field::Verdict;
 use projection::Sums;
 use reckoning::TotalsReply;
 use settings::Decrements;
+use years::Amounts;
 
 fn plus(a: i64, b: i64) -> i64
     requires { ⌜ mag a + mag b < 9223372036854775807 ⌝ }
@@ -43,43 +45,80 @@ fn all_sums(book: &[u8], setting: usize) -> [Sums; 5]
     ]
 }
 
-// The total of a setting: the five groups' liabilities added.
-fn total(book: &[u8], setting: usize, sums: [Sums; 5]) -> i64
-    requires { ⌜ (setting < 8) × ValidBook 1 (now book) × AllSums (now book) (decrementsOf (now book) setting) sums ⌝ }
-    ensures { λ r. ⌜ (r ≡ totalOf (now (book .entry)) setting) × (mag r ≤ 2250000000000000005) ⌝ }
+// What the years from k = 5 on give to the five product groups. Their weights of costs and claims are the same in every setting.
+fn all_later(book: &[u8], curve: &[u64; 50], setting: usize, sums: [Sums; 5]) -> [Amounts; 5]
+    requires { ⌜ (setting < 8) × ValidBook 1 (now book) × AllSums (now book) (decrementsOf (now book) setting) sums × Curve (now book) (now curve) ⌝ }
+    ensures { λ r. ⌜ AllLater (now (book .entry)) setting r ⌝ }
 {
-    // Totals gives no year table; this one is written over by each group.
-    let mut table = [0u64; 200];
+    let p = sums[0];
+    let q = sums[1];
+    let r = sums[2];
+    let s = sums[3];
+    let t = sums[4];
+    [
+        years::settle_in(book, curve, setting, 1, p, 5, 50),
+        years::settle_in(book, curve, setting, 2, q, 5, 50),
+        years::settle_in(book, curve, setting, 3, r, 5, 50),
+        years::settle_in(book, curve, setting, 4, s, 5, 50),
+        years::settle_in(book, curve, setting, 5, t, 5, 50),
+    ]
+}
+
+// The total of a setting: the five groups' liabilities added, each from its first five years and from its later ones.
+fn total(
+    book: &[u8],
+    curve: &[u64; 50],
+    setting: usize,
+    sums: [Sums; 5],
+    later: [Amounts; 5],
+) -> i64
+    requires { ⌜ (setting < 8) × ValidBook 1 (now book) × AllSums (now book) (decrementsOf (now book) setting) sums × AllLater (now book) setting later × Curve (now book) (now curve) ⌝ }
+    ensures { λ r. ⌜ (r ≡ totalOf (now (book .entry)) setting) × (mag r ≤ 2475000000000000005) ⌝ }
+{
     let mut sum: i64 = 0;
     for j in 0usize..5 {
         let s = sums[j];
-        sum = plus(sum, years::settle(book, setting, j + 1, s, &mut table));
+        let l = later[j];
+        let f = years::settle_in(book, curve, setting, j + 1, s, 0, 5);
+        sum = plus(
+            sum,
+            settling::less(f.outgo + l.outgo, f.premium + l.premium),
+        );
     }
     sum
 }
 
 // The total of a setting whose sums no other setting shares.
-fn total_of(book: &[u8], setting: usize) -> i64
-    requires { ⌜ (setting < 8) × ValidBook 1 (now book) ⌝ }
-    ensures { λ r. ⌜ (r ≡ totalOf (now (book .entry)) setting) × (mag r ≤ 2250000000000000005) ⌝ }
+fn total_of(book: &[u8], curve: &[u64; 50], setting: usize) -> i64
+    requires { ⌜ (setting < 8) × ValidBook 1 (now book) × Curve (now book) (now curve) ⌝ }
+    ensures { λ r. ⌜ (r ≡ totalOf (now (book .entry)) setting) × (mag r ≤ 2475000000000000005) ⌝ }
 {
-    total(book, setting, all_sums(book, setting))
+    let sums = all_sums(book, setting);
+    total(
+        book,
+        curve,
+        setting,
+        sums,
+        all_later(book, curve, setting, sums),
+    )
 }
 
-// The reply of an accepted book. Settings 5, 6 and 7 shift costs and claims alone, so the sums of the base setting serve them too.
-fn reckoned(book: &[u8], n: u64) -> TotalsReply
-    requires { ⌜ ValidBook 1 (now book) ⌝ }
+// The reply of an accepted book. Settings 5, 6 and 7 shift costs and claims alone, and these in the first five years: the sums of the base
+// setting serve them too, and so do its later years.
+fn eight_totals(book: &[u8], curve: &[u64; 50], n: u64) -> TotalsReply
+    requires { ⌜ ValidBook 1 (now book) × Curve (now book) (now curve) ⌝ }
     ensures { λ r. ⌜ r ≡ totalsFor (Accepted n) n (totalsOf (now (book .entry))) (differencesOf (now (book .entry))) ⌝ }
 {
     let sums = all_sums(book, 0);
-    let base = total(book, 0, sums);
-    let deaths_up = total_of(book, 1);
-    let deaths_down = total_of(book, 2);
-    let lapses_up = total_of(book, 3);
-    let lapses_down = total_of(book, 4);
-    let costs_up = total(book, 5, sums);
-    let costs_down = total(book, 6, sums);
-    let claims_up = total(book, 7, sums);
+    let later = all_later(book, curve, 0, sums);
+    let base = total(book, curve, 0, sums, later);
+    let deaths_up = total_of(book, curve, 1);
+    let deaths_down = total_of(book, curve, 2);
+    let lapses_up = total_of(book, curve, 3);
+    let lapses_down = total_of(book, curve, 4);
+    let costs_up = total(book, curve, 5, sums, later);
+    let costs_down = total(book, curve, 6, sums, later);
+    let claims_up = total(book, curve, 7, sums, later);
     TotalsReply {
         refusal: 0,
         place: 0,
@@ -101,6 +140,15 @@ fn reckoned(book: &[u8], n: u64) -> TotalsReply
             minus(claims_up, base),
         ],
     }
+}
+
+// The same: the curve is read once for all settings.
+fn reckoned(book: &[u8], n: u64) -> TotalsReply
+    requires { ⌜ ValidBook 1 (now book) ⌝ }
+    ensures { λ r. ⌜ r ≡ totalsFor (Accepted n) n (totalsOf (now (book .entry))) (differencesOf (now (book .entry))) ⌝ }
+{
+    let curve = years::curve_of(book);
+    eight_totals(book, &curve, n)
 }
 
 // The reply of a refused book.

@@ -1,4 +1,4 @@
--- `settling::discount` meets its contract: each call is one step on the amounts discounted for one year less. The measure is the number of years.
+-- `settling::discount` meets its contract: each call is one step on the amount discounted for one year less. The measure is the number of years.
 -- Assumes nothing.
 use native.Mathlib.Omega.{arith}
 use Rattle.settling.proofs.Discounting.{discounted-none, one-back, back-most}
@@ -13,7 +13,7 @@ use Rattle.settling.proofs.+discount.{statement}
 use Rattle.settling.proofs.+discount.Tie.{close}
 
 abbrev μ-discount : Measures 0 discount-kinds.ps ℕ
-μ-discount κs a = a .1 .0
+μ-discount κs a = a .1 .1 .0
 
 abbrev discount-at : ℕ → In 0 discount-kinds.ps
 discount-at t = and 0 discount-kinds.ps (is 0 discount-kinds.ps μ-discount t) discount.Pre
@@ -30,12 +30,7 @@ discount-returns : (t : ℕ) → discount-lts.Need-returns (
 ) (discount-at t) discount.Post
 discount-returns t c =
     let a = c .before .args in
-    record {
-      premium-is = discounted-none (a .d) (a .j) (a .x .premium) (c .if1 .taken);
-      outgo-is = discounted-none (a .d) (a .j) (a .x .outgo) (c .if1 .taken);
-      premium-most = omega arith;
-      outgo-most = omega arith;
-    }
+    record { is = discounted-none (a .d) (a .j) (a .x) (c .if1 .taken); most = omega arith }
 
 discount-sub-discount : (t : ℕ) → discount-lts.Need-sub-discount (
   discount-below t,
@@ -51,7 +46,9 @@ discount-discount-requires : (t : ℕ) → discount-lts.Need-discount-requires (
   step-back-reads.Asked,
   step-back-reads.Learnt,
 ) (discount-at t) discount.Post
-discount-discount-requires t c κs = omega arith
+discount-discount-requires t c κs =
+    let a = c .before .pre .1 in
+    (omega arith, (a .0, a .1, omega arith, a .3, a .4))
 
 discount-step-back-requires : (t : ℕ) → discount-lts.Need-step-back-requires (
   discount-below t,
@@ -59,15 +56,9 @@ discount-step-back-requires : (t : ℕ) → discount-lts.Need-step-back-requires
   step-back-reads.Asked,
   step-back-reads.Learnt,
 ) (discount-at t) discount.Post
-discount-step-back-requires t c κs = omega arith
-
-discount-step-back-requires-2 : (t : ℕ) → discount-lts.Need-step-back-requires-2 (
-  discount-below t,
-  discount.Post,
-  step-back-reads.Asked,
-  step-back-reads.Learnt,
-) (discount-at t) discount.Post
-discount-step-back-requires-2 t c κs = omega arith
+discount-step-back-requires t c κs =
+    let a = c .before .before .pre .1 in
+    (omega (arith, c .discount .ensures .most), a .0, a .1, a .4)
 
 discount-returns-2 : (t : ℕ) → discount-lts.Need-returns-2 (
   discount-below t,
@@ -76,15 +67,12 @@ discount-returns-2 : (t : ℕ) → discount-lts.Need-returns-2 (
   step-back-reads.Learnt,
 ) (discount-at t) discount.Post
 discount-returns-2 t c =
-    let y = c .before .before .discount in
-    let p = c .before .step-back in
-    let o = c .step-back2 in
-    let a = c .before .before .before .before .args in
+    let y = c .before .discount in
+    let p = c .step-back in
+    let a = c .before .before .before .args in
     record {
-      premium-is = one-back (a .d) (a .j) (a .x .premium) (y .result .premium) (p .result) (omega arith) (y .ensures .premium-is) (p .ensures);
-      outgo-is = one-back (a .d) (a .j) (a .x .outgo) (y .result .outgo) (o .result) (omega arith) (y .ensures .outgo-is) (o .ensures);
-      premium-most = rw (p .ensures) (back-most (a .d) (a .j) (y .result .premium) (omega arith) (omega arith) (omega arith) (omega (arith, y .ensures .premium-most)));
-      outgo-most = rw (o .ensures) (back-most (a .d) (a .j) (y .result .outgo) (omega arith) (omega arith) (omega arith) (omega (arith, y .ensures .outgo-most)));
+      is = one-back (a .d) (a .j) (a .x) (y .result) (p .result) (omega arith) (y .ensures .is) (p .ensures);
+      most = rw (p .ensures) (back-most (a .d) (a .j) (y .result) (omega arith) (omega arith) (omega arith) (omega (arith, y .ensures .most)));
     }
 
 pub +discount-spec : {M : Type 1} → statement M
@@ -100,5 +88,4 @@ pub +discount-spec : {M : Type 1} → statement M
     (discount-sub-discount t)
     (discount-discount-requires t)
     (discount-step-back-requires t)
-    (discount-step-back-requires-2 t)
     (discount-returns-2 t)

@@ -6,15 +6,16 @@ use Rattle.settling.proofs.settle_year.Tie as tie
 
 returns : tie.Need-returns
 returns c =
-    let o = c .before .before .outgo in
-    let p = c .before .counted in
-    let e = c .discount-any .ensures in (
-      simp (e .premium-is, e .outgo-is, p .ensures .0, o .ensures .0),
-      omega (arith, e .premium-most),
-      omega (arith, e .outgo-most),
+    let o = c .before .before .before .outgo in
+    let p = c .before .before .counted in
+    let q = c .before .discount-any .ensures in
+    let s = c .discount-any2 .ensures in (
+      simp (q .is, s .is, p .ensures .0, o .ensures .0),
+      omega (arith, q .most),
+      omega (arith, s .most),
     )
 
 pub settle-year-spec : {M : Type 1} → statement M
 settle-year-spec =
     tie.close
-    (tie.spec (search needs) (search needs) (search needs) returns)
+    (tie.spec (search needs) (search needs) (search needs) (search needs) returns)

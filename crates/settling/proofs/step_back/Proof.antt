@@ -1,10 +1,18 @@
--- `settling::step_back` meets its contract: one division, or `mul_div` where the product may not fit. Assumes nothing.
+-- `settling::step_back` meets its contract: a part by the fraction, or `mul_div` where the amount is too large for it. Assumes nothing.
+use mathlib.Core.Path.{_∙_}
 use Prim.Native.Nat.{_≤_, _/_}
 use native.Mathlib.Nat.{div-le-of-le-mul}
 use native.Mathlib.Omega.{arith}
 use borrow.Author.Needs.{needs}
+use Rattle.settling.proofs.Discounting.{step-by}
 use Rattle.settling.proofs.step_back.Statement.{statement}
 use Rattle.settling.proofs.step_back.Tie as tie
+
+returns : tie.Need-returns
+returns c =
+    let i = c .before in
+    let a = i .before in
+    c .part .ensures ∙ step-by (a .args .x) (a .args .d) (a .args .fraction) (i .if1 .taken) (a .pre .1) (a .pre .2) (a .pre .3)
 
 mul-div-requires : tie.Need-mul-div-requires
 mul-div-requires c κs =
@@ -14,4 +22,4 @@ mul-div-requires c κs =
 
 pub step-back-spec : {M : Type 1} → statement M
 step-back-spec = tie.close
-    (tie.spec (search needs) (search needs) (search needs) mul-div-requires (search needs))
+    (tie.spec (search needs) returns mul-div-requires (search needs))

@@ -48,25 +48,28 @@ divisor-of-requires c κs = (omega arith, c .before .before .before .before .bef
 
 settle-year-requires : tie.Need-settle-year-requires Inv-loop μ-loop
 settle-year-requires c κs =
-    let m = c .before .before in
-    let l = m .loop in
+    let d = c .before .divisor-of in
+    let m = c .before .before .before in
     let n = m .before .before .before .before in
-    let a = n .before .before .before in
-    (n .new .ensures .1, omega arith, m .before .cost-rate-of .ensures .1, c .divisor-of .ensures .1, c .divisor-of .ensures .2, a .pre .5 .premium-most _, a .pre .5 .claims-most _)
+    let a = n .before .before .before in (
+      (n .new .ensures .1, omega arith, m .before .cost-rate-of .ensures .1, d .ensures .1, d .ensures .2, a .pre .5 .premium-most _, a .pre .5 .claims-most _),
+      c .fraction-of .ensures,
+    )
 
 put-year-requires : tie.Need-put-year-requires Inv-loop μ-loop
 put-year-requires c κs =
-    let m = c .before .before .before .before in
+    let m = c .before .before .before .before .before in
     let l = m .loop in
     let a = m .before .before .before .before .before .before .before in
-    let lt : l .k < 50 = c .before .before .before .loop-test .taken in
+    let lt : l .k < 50 = c .before .before .before .before .loop-test .taken in
     let long : 200 ≤ length (a .args .table .now) = a .pre .3 in
     omega (arith, years-length (terms (a .args .book .now) (a .args .setting) (a .args .group)) (cells (a .args .book .now) (a .args .setting) (a .args .group)) (l .k) (a .args .table .now) (l .table) (omega arith) (l .inv .1))
 
 loop-again : tie.Need-loop-again Inv-loop μ-loop
 loop-again c =
     let r = c .before .before .before .before .before .before in
-    let m = r .before .before .before in
+    let d = r .before .before in
+    let m = d .before .before in
     let l = m .loop in
     let n = m .before .before .before .before in
     let a = n .before .before .before in
@@ -76,11 +79,11 @@ loop-again c =
     let t = terms b s g in
     let cs = cells b s g in
     let y = r .settle-year in
-    let lt : l .k < 50 = r .before .before .loop-test .taken in
+    let lt : l .k < 50 = d .before .loop-test .taken in
     let long : 200 ≤ length (a .args .table .now) = a .pre .3 in
     let e : y .result ≡ yearOf t cs (l .k) =
-    year-is b s g (l .k) (m .before .cost-rate-of .result) (r .before .divisor-of .result) (getD (a .args .sums .premium) (l .k) 0) (getD (a .args .sums .claims) (l .k) 0) (y .result)
-    (rw (n .new .ensures .0) at (y .ensures .0)) (m .before .cost-rate-of .ensures .0) (r .before .divisor-of .ensures .0) (a .pre .5 .premium-is (l .k) lt) (a .pre .5 .claims-is (l .k) lt) in (
+    year-is b s g (l .k) (m .before .cost-rate-of .result) (d .divisor-of .result) (getD (a .args .sums .premium) (l .k) 0) (getD (a .args .sums .claims) (l .k) 0) (y .result)
+    (rw (n .new .ensures .0) at (y .ensures .0)) (m .before .cost-rate-of .ensures .0) (d .divisor-of .ensures .0) (a .pre .5 .premium-is (l .k) lt) (a .pre .5 .claims-is (l .k) lt) in (
       omega arith,
       years-more t cs (l .k) (a .args .table .now) (l .table) (c .before .before .before .before .put-year .last .0) (omega arith) (l .inv .1) (rw e at (c .before .before .before .before .put-year .ensures)),
       sum-more (discountedOutgo rounded t cs) (l .k) (l .paid) (y .result .doutgo) (l .inv .2) (ap (λ (x : Year). x .doutgo) e ∙ outgo-is t cs (l .k)),
@@ -113,5 +116,5 @@ pub settle-spec : {M : Type 1} → statement M
 settle-spec =
     tie.close
     (tie.spec Inv-loop μ-loop (search needs) cost-rate-of-requires loop-holds divisor-of-requires (search needs) (search needs)
-    (search needs) (search needs) settle-year-requires put-year-requires (search needs) (search needs) (search needs) (search needs)
+    (search needs) (search needs) (search needs) settle-year-requires put-year-requires (search needs) (search needs) (search needs) (search needs)
     loop-again (search needs) same-length returns)

@@ -1,6 +1,6 @@
--- `totals::reckoned` meets its contract: each total is its setting's, and the sums of the base setting are those of settings 5, 6 and 7. Assumes nothing.
+-- `totals::eight_totals` meets its contract: each total is its setting's, and the sums and later years of the base setting are those of settings 5, 6 and 7. Assumes nothing.
 use mathlib.Core.Path.{_≡_, ap, _∙_}
-use Prim.Native.Nat.{_<_, _^_}
+use Prim.Native.Nat.{_+_, _<_, _^_}
 use native.Mathlib.Omega.{arith}
 use borrow.Author.Needs.{needs}
 use lib.IntN.{ℤ}
@@ -8,9 +8,10 @@ use lib.Signed.{mag}
 use mir.Syntax.{w64}
 use mir.Val.{toZ, ofZ, hbits}
 use mir.ValLaws.{toZ-ofZ}
-use Rattle.settings.proofs.Laws.{same-decrements-5, same-decrements-6, same-decrements-7}
-use Rattle.totals.proofs.reckoned.Statement.{statement}
-use Rattle.totals.proofs.reckoned.Tie as tie
+use Rattle.settings.proofs.Laws.{same-decrements-5, same-decrements-6, same-decrements-7, same-outgo-5, same-outgo-6, same-outgo-7}
+use Rattle.totals.proofs.Laws.{later-same}
+use Rattle.totals.proofs.eight_totals.Statement.{statement}
+use Rattle.totals.proofs.eight_totals.Tie as tie
 
 -- a call's result is what its contract says, read with its sign
 told : (r x : ℤ) → mag r < 2 ^ hbits w64 → r ≡ x → toZ w64 (ofZ w64 r) ≡ x
@@ -18,6 +19,9 @@ told r x ok e = toZ-ofZ w64 r (record { sfits = ok }) ∙ e
 
 all-sums-requires : tie.Need-all-sums-requires
 all-sums-requires c κs = search needs
+
+all-later-requires : tie.Need-all-later-requires
+all-later-requires c κs = search needs
 
 total-requires : tie.Need-total-requires
 total-requires c κs = search needs
@@ -37,20 +41,23 @@ total-of-requires-4 c κs = search needs
 total-requires-2 : tie.Need-total-requires-2
 total-requires-2 c κs =
     let m = c .before .before .before .before .before in
-    let a = m .before .before in
-    (omega arith, a .pre, rw (same-decrements-5 (a .args .book .now)) at (m .all-sums .ensures))
+    let a = m .before .before .before in
+    let b = a .args .book .now in
+    (omega arith, a .pre .0, rw (same-decrements-5 b) at (m .before .all-sums .ensures), λ j h. later-same b 5 (same-decrements-5 b) same-outgo-5 (j + 1) _ (m .all-later .ensures j h), a .pre .1)
 
 total-requires-3 : tie.Need-total-requires-3
 total-requires-3 c κs =
     let m = c .before .before .before .before .before .before in
-    let a = m .before .before in
-    (omega arith, a .pre, rw (same-decrements-6 (a .args .book .now)) at (m .all-sums .ensures))
+    let a = m .before .before .before in
+    let b = a .args .book .now in
+    (omega arith, a .pre .0, rw (same-decrements-6 b) at (m .before .all-sums .ensures), λ j h. later-same b 6 (same-decrements-6 b) same-outgo-6 (j + 1) _ (m .all-later .ensures j h), a .pre .1)
 
 total-requires-4 : tie.Need-total-requires-4
 total-requires-4 c κs =
     let m = c .before .before .before .before .before .before .before in
-    let a = m .before .before in
-    (omega arith, a .pre, rw (same-decrements-7 (a .args .book .now)) at (m .all-sums .ensures))
+    let a = m .before .before .before in
+    let b = a .args .book .now in
+    (omega arith, a .pre .0, rw (same-decrements-7 b) at (m .before .all-sums .ensures), λ j h. later-same b 7 (same-decrements-7 b) same-outgo-7 (j + 1) _ (m .all-later .ensures j h), a .pre .1)
 
 minus-requires : tie.Need-minus-requires
 minus-requires c κs =
@@ -113,8 +120,8 @@ returns c =
       told (d4 .result) _ (d4 .ok) (d4 .ensures),
     )
 
-pub reckoned-spec : {M : Type 1} → statement M
-reckoned-spec =
+pub eight-totals-spec : {M : Type 1} → statement M
+eight-totals-spec =
     tie.close
-    (tie.spec all-sums-requires total-requires total-of-requires total-of-requires-2 total-of-requires-3 total-of-requires-4
+    (tie.spec all-sums-requires all-later-requires total-requires total-of-requires total-of-requires-2 total-of-requires-3 total-of-requires-4
     total-requires-2 total-requires-3 total-requires-4 minus-requires minus-requires-2 minus-requires-3 minus-requires-4 returns)
