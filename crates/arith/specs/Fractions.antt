@@ -1,7 +1,6 @@
--- A fraction kept as a whole number, by which a product's upper part is the quotient.
-use Prim.Native.Nat.{ℕ, _+_, _*_, _≤_, _<_}
+-- A fraction kept as a whole number, by which a product's upper half is the quotient.
+use Prim.Native.Nat.{ℕ, _+_, _*_, _≤_}
 
--- f is w m over d, rounded up: to times w and divide by d is to times f and divide by m
-pub record Fraction (w d m f : ℕ) : Type 0 where
-  pub low : w * m ≤ f * d
-  pub high : f * d < w * m + d
+-- f is w over d in parts of 2^64, rounded down; for one whole 2^64 - 1 will do
+unfoldable pub Fraction : ℕ → ℕ → ℕ → Type 0
+Fraction w d f = (f * d ≤ w * 18446744073709551616) × (w * 18446744073709551616 ≤ f * d + d)

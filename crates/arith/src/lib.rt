@@ -1,6 +1,7 @@
 // A product divided and rounded down, within 64 bits. For the crates above, which have shown that the figures fit.
 ghost use mathlib.Core.Path.{_≡_};
-ghost use Prim.Native.Nat.{_+_, _*_, _<_, _≤_, _/_, _^_};
+ghost use Prim.Native.Nat.{_+_, _*_, _<_, _≤_, _/_, _%_, _^_};
+ghost use Rattle.arith.specs.Fractions.{Fraction};
 
 // x times y over d, rounded down. With x = q d + r it is q y + r y / d, whose products fit where the whole product may not.
 pub fn mul_div(x: u64, y: u64, d: u64) -> u64
@@ -35,10 +36,36 @@ pub fn share(x: u64, y: u64) -> u64
     mul_div(x, y, 1_000_000_000)
 }
 
-// The part of x that a fraction of 2^63 tells.
-pub fn part(x: u64, fraction: u64) -> u64
-    requires { ⌜ x < 9223372036854775808 ⌝ }
-    ensures { λ r. ⌜ r ≡ (x * fraction) / 9223372036854775808 ⌝ }
+// The lower half of that product. Beside `mul_high` of the same factors it costs nothing.
+pub fn mul_low(a: u64, b: u64) -> u64
+    ensures { λ r. ⌜ r ≡ (a * b) % 18446744073709551616 ⌝ }
 {
-    mul_high(2 * x, fraction)
+    let al = a % 4_294_967_296;
+    let ah = a / 4_294_967_296;
+    let bl = b % 4_294_967_296;
+    let bh = b / 4_294_967_296;
+    let cross = (al * bh % 4_294_967_296 + ah * bl % 4_294_967_296) % 4_294_967_296;
+    std::num::wrapping_add_u64(cross * 4_294_967_296, al * bl)
+}
+
+// x times w over d, where q is that, rounded down, or one too few. What is left tells: it is below 2 d, so its lower half is all of it.
+fn mended(x: u64, w: u64, d: u64, q: u64) -> u64
+    requires { ⌜ (d < 9223372036854775808) × (q < 18446744073709551615) × (q * d ≤ x * w) × (x * w < q * d + 2 * d) ⌝ }
+    ensures { λ r. ⌜ r ≡ (x * w) / d ⌝ }
+{
+    let left = std::num::wrapping_sub_u64(mul_low(x, w), mul_low(q, d));
+    if left < d { q } else { q + 1 }
+}
+
+// x times w over d, rounded down, by the fraction that w over d is: no division. The upper half of the product is the quotient, unless the
+// lower half ends so near below 2^64 that what the fraction lacks, at most x, may carry: then it is mended.
+pub fn part(x: u64, w: u64, d: u64, fraction: u64, most: u64) -> u64
+    requires { ⌜ (x ≤ most) × (0 < d) × (d < 9223372036854775808) × Fraction w d fraction ⌝ }
+    ensures { λ r. ⌜ r ≡ (x * w) / d ⌝ }
+{
+    let q = mul_high(x, fraction);
+    if mul_low(x, fraction) <= u64::MAX - most {
+        return q;
+    }
+    mended(x, w, d, q)
 }

@@ -28,3 +28,9 @@ module _ (f : ℕ → ℕ) where
       ∙ rw (eu, drop-cons t j 0, add-one j, ex)
       (set-at (firstYears f j) (getD t j 0) (drop (suc j) t) (f j) j (front-length j)
       ∙ sym (append-assoc (firstYears f j) (f j ∷ []) (drop (suc j) t)))
+
+-- numbers of two functions that agree in these years
+pub years-same : (f g : ℕ → ℕ) (j : ℕ) → ((k : ℕ) → k < j → f k ≡ g k) → firstYears f j ≡ firstYears g j
+unfolding firstYears
+years-same f g zero h = refl
+years-same f g (suc j) h = rw (years-same f g j (λ k l. h k (omega arith)), h j (omega arith))

@@ -62,9 +62,11 @@ fn run(book: &[u8], w: Decrements, chain: usize, i: usize, out: &mut [u64])
     ensures { λ _. ⌜ now (out .exit)
         ≡ firstYears (inForce rounded (cellOf (now (book .entry)) w i)) 50 ++ drop 50 (now (out .entry)) ⌝ }
 {
-    let mut cell = Cell::new(book, chain, i);
+    let mut rows = [0u64; 2040];
+    rows::read_rows(book, w, chain, i, &mut rows);
+    let mut cell = Cell::new(0, book::field_of(book, i, book::COUNT_OFFSET));
     for k in 0usize..50 {
-        let next = cell.next_year(book, w, k);
+        let next = cell.next_year(&rows, k);
         out[k] = cell.inforce;
         cell = next;
     }

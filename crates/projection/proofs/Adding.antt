@@ -5,23 +5,23 @@ use Prim.Native.Nat.{ℕ, zero, suc, _+_, _-_, _*_, _≤_, _<_}
 use native.Mathlib.Numerals.{add-one}
 use native.Mathlib.Omega.{arith}
 use mathlib.Core.Bool.{Bool, true, false}
-use borrow.Author.Tests.{eqb-true, eqb-false}
-use lib.Dec.{eqb}
+use borrow.Author.Tests.{lt-ltb, eqb-true, eqb-false}
+use lib.Dec.{ltb, eqb}
 use lib.ListN.{length, getD, replicate, length-replicate, getD-replicate}
 use Rattle.book.specs.Layout.{headOf, classOf, nextOf}
 use Rattle.book.specs.Cells.{holds, heldFrom, heldIn, sumOf}
 use Rattle.book.specs.Reading.{ChainFrom, Standing, ValidBook}
 use Rattle.book.proofs.Cells.{held-none}
 use Rattle.book.proofs.Links.{after-some}
-use Rattle.book.proofs.Valid.{chain-next}
+use Rattle.book.proofs.Valid.{chain-class, chain-next}
 use Rattle.settings.specs.declared.Decrements.{Decrements}
 use Rattle.reckoning.specs.Arithmetic.{rounded}
 use Rattle.reckoning.specs.Steps.{held, sumCells, premiumSum, claimsSum}
-use Rattle.reckoning.specs.Portfolio.{linksFrom, chainLinks, linksOf, cellsOf}
+use Rattle.reckoning.specs.Portfolio.{rowAt, linksFrom, chainLinks, linksOf, cellsOf}
 use Rattle.reckoning.proofs.Rows.{chain-standing}
 use Rattle.reckoning.proofs.Members.{counted, links-counted, held-links}
 use Rattle.projection.specs.Tables.{added, addedAll, AtMost}
-use Rattle.cell.specs.States.{premiumAt, claimsAt}
+use Rattle.cell.specs.States.{premiumBy, claimsBy, premiumAt, claimsAt}
 use Rattle.projection.proofs.Years.{length-added, added-at, added-most}
 
 -- the sum over a list of what f gives
@@ -50,12 +50,12 @@ module _ (f : ℕ → ℕ → ℕ) where
 
 -- the year sums of the reckoning are sums over the records
 pub premium-sum-is : (b : List ℕ) (w : Decrements) (k : ℕ) (l : List ℕ) → sumOver (λ i. premiumAt b w i k) l ≡ premiumSum rounded (cellsOf b w l) k
-unfolding sumOver premiumSum sumCells cellsOf premiumAt
+unfolding sumOver premiumSum sumCells cellsOf premiumAt premiumBy
 premium-sum-is b w k [] = refl
 premium-sum-is b w k (i ∷ l) = rw (premium-sum-is b w k l)
 
 pub claims-sum-is : (b : List ℕ) (w : Decrements) (k : ℕ) (l : List ℕ) → sumOver (λ i. claimsAt b w i k) l ≡ claimsSum rounded (cellsOf b w l) k
-unfolding sumOver claimsSum sumCells cellsOf claimsAt
+unfolding sumOver claimsSum sumCells cellsOf claimsAt claimsBy
 claims-sum-is b w k [] = refl
 claims-sum-is b w k (i ∷ l) = rw (claims-sum-is b w k l)
 
@@ -76,7 +76,7 @@ module _ (f : ℕ → ℕ → ℕ) (b : List ℕ) (left head : ℕ) (t₀ : List
   carry-more above rest i t u s hi c le e =
       let p : above ≡ suc rest = s ∙ add-one rest in (
         rw e (rw p at (c .0)),
-        λ k. omega (arith, ap (λ (l : List ℕ). getD l k 0) e, added-most (f i) 1_000_000_000_000 le 50 (1_000_000_000_000_000 + 1_000_000_000_000 * (left - above)) t (c .1) k),
+        λ k. omega (arith, ap (λ (l : List ℕ). getD l k 0) e, added-most (f i) 1_000_000_000_000 50 (λ j l. le j) (1_000_000_000_000_000 + 1_000_000_000_000 * (left - above)) t (c .1) k),
       )
 
   pub carry-end : (above i : ℕ) (t u : List ℕ) → above ≡ 0 → Carry f b left head t₀ above i t → u ≡ added (f i) 50 t → u ≡ addedAll f (counted b left head) t₀
@@ -93,13 +93,19 @@ pub cells-end : (b : List ℕ) (n above i m : ℕ) → above ≡ 0 → m ≡ hol
 unfolding heldFrom
 cells-end b n above i m z e = rw (z, e) (omega arith)
 
--- a chain's n is that of its records, and at most one for each class
-pub chain-cells : (b : List ℕ) (w : Decrements) (k left : ℕ) → ChainFrom b 120 k left (headOf b k) → left ≤ 120 → heldFrom b (headOf b k) (left + 1) ≡ heldIn b 120 k
-unfolding heldIn
-chain-cells b w k left c h =
-    sym (held-links b w (left + 1) (headOf b k))
-    ∙ ap (λ (l : List ℕ). held (cellsOf b w l)) (links-counted b k left (headOf b k) (left + 1) c (omega arith) ∙ sym (links-counted b k left (headOf b k) 121 c (omega arith)))
-    ∙ held-links b w 121 (headOf b k)
+-- the n of the records from record i on, of which there is at most one for each class
+pub chain-cells : (b : List ℕ) (w : Decrements) (k left i : ℕ) → ChainFrom b 120 k left i → left ≤ 120 → heldFrom b i (left + 1) ≡ heldFrom b i 121
+chain-cells b w k left i c h =
+    sym (held-links b w (left + 1) i)
+    ∙ ap (λ (l : List ℕ). held (cellsOf b w l)) (links-counted b k left i (left + 1) c (omega arith) ∙ sym (links-counted b k left i 121 c (omega arith)))
+    ∙ held-links b w 121 i
+
+-- the record after one below the last class is that of the next row
+pub row-next : (b : List ℕ) (k head own above i : ℕ) → ChainFrom b 120 k above i → 0 < above → i ≡ rowAt b head own → nextOf b i ≡ rowAt b head (own + 1)
+unfolding rowAt
+row-next b k head own above i c more e =
+    let young : classOf b i < 120 = omega (arith, chain-class b 120 k above i c) in
+    rw (add-one own, ← e, lt-ltb (classOf b i) 120 young)
 
 -- the linked records of an empty chain, and of one that is not
 pub links-empty : (b : List ℕ) (k : ℕ) → headOf b k ≡ 0 → chainLinks b k ≡ []
@@ -117,9 +123,6 @@ module _ (b : List ℕ) (v : ValidBook 1 b) (k : ℕ) (few : k < 14) (head class
   pub head-links : chainLinks b k ≡ counted b (120 - class) head
   head-links = rw (← head-is) (links-counted b k (120 - class) head 121 head-chain (omega arith))
 
-  pub head-cells : Decrements → heldFrom b head (120 - class + 1) ≡ heldIn b 120 k
-  head-cells w = rw head-is (chain-cells b w k (120 - class) (rw head-is at head-chain) (omega arith))
-
 -- f is bounded at every linked record
 abbrev pub Small : (ℕ → ℕ → ℕ) → List ℕ → Type 0
 Small f b = (k i : ℕ) → k < 14 → Standing b 120 k i → (j : ℕ) → f i j ≤ 1_000_000_000_000
@@ -129,12 +132,12 @@ module _ (f : ℕ → ℕ → ℕ) (b : List ℕ) (small : Small f b) (k : ℕ) 
       → AtMost (m + 1_000_000_000_000 * (left + 1)) (addedAll f (counted b left i) t)
   unfolding counted addedAll
   counted-most zero i m t h c a j =
-      omega (arith, added-most (f i) 1_000_000_000_000 (small k i few (chain-standing b k 0 i c h)) 50 m t a j)
+      omega (arith, added-most (f i) 1_000_000_000_000 50 (λ n l. small k i few (chain-standing b k 0 i c h) n) m t a j)
   counted-most (suc left) i m t h c a j =
       omega (
         arith,
         counted-most left (nextOf b i) (m + 1_000_000_000_000) (added (f i) 50 t) (omega arith) (chain-next b 120 k (suc left) left i (omega arith) c)
-            (added-most (f i) 1_000_000_000_000 (small k i few (chain-standing b k (suc left) i c h)) 50 m t a) j,
+            (added-most (f i) 1_000_000_000_000 50 (λ n l. small k i few (chain-standing b k (suc left) i c h) n) m t a) j,
       )
 
   pub links-most : ValidBook 1 b → (m : ℕ) (t : List ℕ) → AtMost m t → AtMost (m + 121_000_000_000_000) (addedAll f (chainLinks b k) t)

@@ -10,15 +10,19 @@ use native.Mathlib.Omega.{arith}
 use borrow.Author.Tests.{eq-eqb, ne-eqb, eqb-true, eqb-false}
 use lib.Dec.{eqb}
 use Rattle.field.specs.Verdicts.{pick}
+use Rattle.book.specs.Layout.{classOf, fieldOf, countOffset}
+use Rattle.book.specs.Reading.{Standing}
 use Rattle.settings.specs.declared.Decrements.{Decrements}
 use Rattle.reckoning.specs.Arithmetic.{rounded}
 use Rattle.reckoning.specs.Steps.{Cell, inForce, cellPremium, cellClaims}
-use Rattle.reckoning.specs.Portfolio.{cellOf}
-use Rattle.cell.specs.States.{premiumAt, claimsAt}
-use Rattle.projection.specs.Tables.{added}
-use Rattle.projection.specs.Ends.{firstZero, yearsInForce}
-use Rattle.projection.specs.Added.{Walked}
-use Rattle.projection.proofs.Years.{added-rest}
+use Rattle.reckoning.specs.Portfolio.{rowAt, cellOf}
+use Rattle.rows.specs.Rows.{RowsOf}
+use Rattle.cell.specs.States.{cellIn, Walkable, premiumBy, claimsBy, premiumAt, claimsAt}
+use Rattle.cell.proofs.Agreement.{walkable, inforce-same, premium-same, claims-same}
+use Rattle.projection.specs.Tables.{added, late}
+use Rattle.projection.specs.Ends.{firstZero, yearsInForce, Going}
+use Rattle.projection.specs.Added.{WalkedFrom, WalkedBy, Walked}
+use Rattle.projection.proofs.Years.{added-same, late-rest}
 
 -- n is the first year from k on and before m in which f is 0, or m where there is none
 pub record IsFirst (f : ℕ → ℕ) (k m n : ℕ) : Type 0 where
@@ -76,34 +80,58 @@ module _ (c : Cell) where
   unfolding yearsInForce
   first-year = first-found (inForce rounded c) 50 0
 
+  -- every walk goes on in year 0
+  pub going-first : Going c 0
+  unfolding yearsInForce
+  going-first = refl
+
   -- a cell with no contracts has none
   pub no-contracts : c .count ≡ 0 → yearsInForce c ≡ 0
   unfolding yearsInForce inForce
   no-contracts z = first-here (inForce rounded c) 0 50 (omega arith) (rw (z, zero-mul))
 
-  -- what is 0 where nothing is in force adds in these years what it adds in fifty
-  pub added-whole : (f : ℕ → ℕ) → ((k : ℕ) → inForce rounded c k ≡ 0 → f k ≡ 0)
-      → (t : List ℕ) → added f (yearsInForce c) t ≡ added f 50 t
-  added-whole f none t =
-      let n = yearsInForce c in
-      let r = first-year in
-      let q : (50 - n) + n ≡ 50 = omega (arith, r .most) in
-      sym (rw q at (added-rest f n (50 - n) t (λ j h l. none j (nothing-later n (r .there (omega arith)) j h))))
-
--- premium and claims are such, so a walk that ends there makes of the tables what fifty years make
-module _ (b : List ℕ) (w : Decrements) (i : ℕ) where
-  no-premium : (k : ℕ) → inForce rounded (cellOf b w i) k ≡ 0 → premiumAt b w i k ≡ 0
-  unfolding premiumAt cellPremium
+  -- nothing in force adds nothing
+  no-premium : (k : ℕ) → inForce rounded c k ≡ 0 → premiumBy c k ≡ 0
+  unfolding premiumBy cellPremium
   no-premium k z = rw (z, zero-mul, zero-div)
 
-  no-claims : (k : ℕ) → inForce rounded (cellOf b w i) k ≡ 0 → claimsAt b w i k ≡ 0
-  unfolding claimsAt cellClaims
+  no-claims : (k : ℕ) → inForce rounded c k ≡ 0 → claimsBy c k ≡ 0
+  unfolding claimsBy cellClaims
   no-claims k z = rw (z, zero-mul, zero-div)
 
-  pub walked : (n : ℕ) (p p′ c c′ : List ℕ) → n ≡ yearsInForce (cellOf b w i)
-      → p′ ≡ added (premiumAt b w i) n p → c′ ≡ added (claimsAt b w i) n c → Walked b w i n p p′ c c′
-  walked n p p′ c c′ e ep ec = record {
-    premium = ep ∙ rw e (added-whole (cellOf b w i) (premiumAt b w i) no-premium p);
-    claims = ec ∙ rw e (added-whole (cellOf b w i) (claimsAt b w i) no-claims c);
-    years = e;
-  }
+  -- so a walk from year m on that ends there makes of the tables what fifty years make
+  pub walked-from : (m n : ℕ) (p p′ q q′ : List ℕ) → m ≤ n → n ≡ yearsInForce c
+      → p′ ≡ added (late m (premiumBy c)) n p → q′ ≡ added (late m (claimsBy c)) n q → WalkedFrom c m n p p′ q q′
+  walked-from m n p p′ q q′ h e ep eq =
+      let r : IsFirst (inForce rounded c) 0 50 n = rw e first-year in
+      let none : (j : ℕ) → n ≤ j → j < 50 → inForce rounded c j ≡ 0 = λ j g l. nothing-later n (r .there (omega arith)) j g in
+      record {
+        premium = ep ∙ late-rest m n (premiumBy c) p h (r .most) (λ j g l. no-premium j (none j g l));
+        claims = eq ∙ late-rest m n (claimsBy c) q h (r .most) (λ j g l. no-claims j (none j g l));
+        years = e;
+      }
+
+-- a search of two functions that agree
+pub first-same : (f g : ℕ → ℕ) (left k : ℕ) → ((j : ℕ) → j < k + left → f j ≡ g j) → firstZero f k left ≡ firstZero g k left
+unfolding firstZero
+first-same f g zero k h = refl
+first-same f g (suc left) k h = rw (h k (omega arith), first-same f g left (k + 1) (λ j l. h j (omega arith)))
+
+-- a walk over the rows of a chain is the walk of the cell of its record
+module _ (b : List ℕ) (w : Decrements) (chain i : ℕ) (s : Standing b 120 chain i) (t : List ℕ) (rows : RowsOf b w chain i t) (own j n : ℕ)
+    (fits : own ≤ 120 - classOf b i) (record-is : j ≡ rowAt b i own) (count-is : n ≡ fieldOf b j countOffset) where
+  pub walkable-here : Walkable t own n
+  walkable-here = rw (count-is, record-is) (walkable b w chain i s t rows own fits)
+
+  pub premium-added : (p : List ℕ) → added (premiumBy (cellIn t own n)) 50 p ≡ added (premiumAt b w j) 50 p
+  premium-added p = rw (count-is, record-is) (added-same _ _ 50 p (premium-same b w chain i s t rows own fits))
+
+  pub claims-added : (q : List ℕ) → added (claimsBy (cellIn t own n)) 50 q ≡ added (claimsAt b w j) 50 q
+  claims-added q = rw (count-is, record-is) (added-same _ _ 50 q (claims-same b w chain i s t rows own fits))
+
+  years-same : yearsInForce (cellIn t own n) ≡ yearsInForce (cellOf b w j)
+  unfolding yearsInForce
+  years-same = rw (count-is, record-is) (first-same _ _ 50 0 (λ k l. inforce-same b w chain i s t rows own fits k (omega arith)))
+
+  pub walked : (m : ℕ) (p p′ q q′ : List ℕ) → WalkedBy (cellIn t own n) m p p′ q q′ → Walked b w j m p p′ q q′
+  walked m p p′ q q′ e = record { premium = e .premium ∙ premium-added p; claims = e .claims ∙ claims-added q; years = e .years ∙ years-same }

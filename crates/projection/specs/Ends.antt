@@ -1,5 +1,6 @@
 -- Where a cell's walk ends (W-203).
-use Prim.Native.Nat.{ℕ, zero, suc, _+_}
+use mathlib.Core.Path.{_≡_}
+use Prim.Native.Nat.{ℕ, zero, suc, _+_, _-_}
 use lib.Dec.{eqb}
 use Rattle.field.specs.Verdicts.{pick}
 use Rattle.reckoning.specs.Arithmetic.{rounded}
@@ -13,3 +14,7 @@ firstZero f k (suc left) = pick (eqb (f k) 0) k (firstZero f (k + 1) left)
 -- how many years a walk of the cell reckons: the first k below 50 with nothing in force, or 50 where there is none
 unfoldable pub yearsInForce : Cell → ℕ
 yearsInForce c = firstZero (inForce rounded c) 0 50
+
+-- the walk of the cell goes on in year m: its end is none of the years before
+abbrev pub Going : Cell → ℕ → Type 0
+Going c m = firstZero (inForce rounded c) m (50 - m) ≡ yearsInForce c

@@ -1,7 +1,9 @@
 -- Tables of fifty numbers, one a year: what a run over the years adds to one.
 use mathlib.Core.List.{List, [], _∷_}
 use Prim.Native.Nat.{ℕ, zero, suc, _+_, _≤_}
+use lib.Dec.{ltb}
 use lib.ListN.{getD, set}
+use Rattle.field.specs.Verdicts.{pick}
 
 -- the table t with f j added to its number j, for each j below n
 unfoldable pub added : (ℕ → ℕ) → ℕ → List ℕ → List ℕ
@@ -16,3 +18,7 @@ addedAll f (i ∷ links) t = addedAll f links (added (f i) 50 t)
 -- no number of the table is above m
 abbrev pub AtMost : ℕ → List ℕ → Type 0
 AtMost m t = (j : ℕ) → getD t j 0 ≤ m
+
+-- f from year m on, and nothing before
+unfoldable pub late : ℕ → (ℕ → ℕ) → ℕ → ℕ
+late m f k = pick (ltb k m) 0 (f k)

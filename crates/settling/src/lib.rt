@@ -4,15 +4,18 @@ ghost use mathlib.Core.Path.{_≡_};
 ghost use mathlib.Core.List.{_++_};
 ghost use Prim.Native.Nat.{_+_, _*_, _/_, _<_, _≤_};
 ghost use lib.IntN.{pos, _-ℤ_};
-ghost use lib.ListN.{length, take, drop};
+ghost use lib.ListN.{length, getD, set, take, drop};
 ghost use Rattle.book.specs.Reading.{ValidBook};
 ghost use Rattle.settings.specs.Settings.{OutgoWeighed};
 ghost use Rattle.reckoning.specs.Arithmetic.{rounded};
 ghost use Rattle.reckoning.specs.Steps.{capped};
 ghost use Rattle.reckoning.specs.Portfolio.{costRateOf, divisorOf};
 ghost use Rattle.arith.specs.Fractions.{Fraction};
-ghost use Rattle.settling.specs.Settling.{Discounted, outgoOf, yearFrom, fourOf};
+ghost use Rattle.settling.specs.Settling.{Divisor, Divisors, AtMost, Stepped, DiscountedIn, outgoOf, fourOf};
 use settings::Outgoings;
+
+// No doubled amount is above 2^55.
+const MOST_DOUBLED: u64 = 36_028_797_018_963_968;
 
 // The cost rate of a product group, in millionths of premium.
 pub fn cost_rate_of(book: &[u8], group: usize) -> u64
@@ -33,51 +36,72 @@ pub fn divisor_of(book: &[u8], k: usize) -> u64
     (field::read_u32(book, book::CURVE_PLACE + 4 * (k - 1)) + 1_000_000) % 4_294_967_296
 }
 
-// 1,000,000 over d as a fraction of 2^63, rounded up.
+// 1,000,000 over 2 d in parts of 2^64, rounded down: 1,000,000 times 2^63 over d.
 pub fn fraction_of(d: u64) -> u64
     requires { ⌜ (990000 ≤ d) × (d ≤ 1200000) ⌝ }
-    ensures { λ r. ⌜ Fraction 1000000 d 9223372036854775808 r ⌝ }
+    ensures { λ r. ⌜ Fraction 1000000 (2 * d) r ⌝ }
 {
     let whole = 9_223_372_036_854_775_808 / d;
     let rest = 9_223_372_036_854_775_808 % d;
-    1_000_000 * whole + (1_000_000 * rest + (d - 1)) / d
+    1_000_000 * whole + 1_000_000 * rest / d
 }
 
-// An amount a year back at divisor d: by its fraction, with no division, where the amount is small beside that.
+// An amount a year back at divisor d, by its fraction. Amount and divisor are doubled, so that the fraction of every divisor is below one.
 fn step_back(x: u64, d: u64, fraction: u64) -> u64
-    requires { ⌜ (x ≤ 10000000000000000) × (990000 ≤ d) × (d ≤ 1200000) × Fraction 1000000 d 9223372036854775808 fraction ⌝ }
+    requires { ⌜ (x ≤ 10000000000000000) × Divisor d fraction ⌝ }
     ensures { λ r. ⌜ r ≡ x * 1000000 / d ⌝ }
 {
-    if x < 7_600_000_000_000 {
-        return arith::part(x, fraction);
-    }
-    arith::mul_div(x, 1_000_000, d)
+    arith::part(2 * x, 1_000_000, 2 * d, fraction, MOST_DOUBLED)
 }
 
-// An amount discounted for j years with the divisor d: one step on the amount discounted for one year less.
-fn discount(d: u64, fraction: u64, j: usize, x: u64) -> u64
-    requires { ⌜ (990000 ≤ d) × (d ≤ 1200000) × (j ≤ 49) × (x ≤ 4000000000000000) × Fraction 1000000 d 9223372036854775808 fraction ⌝ }
-    ensures { λ r. ⌜ Discounted d j x r ⌝ }
+// One step on the amount of year k, at the divisor of that year.
+fn step_year(divisors: &[u64; 50], fractions: &[u64; 50], k: usize, amounts: &mut [u64; 50])
+    requires { ⌜ (k < 50) × (getD (now amounts) k 0 ≤ 10000000000000000) × Divisors (now divisors) (now fractions) ⌝ }
+    ensures { λ _. ⌜ now (amounts .exit) ≡ set (now (amounts .entry)) k (getD (now (amounts .entry)) k 0 * 1000000 / getD (now (divisors .entry)) k 0) ⌝ }
+{
+    amounts[k] = step_back(amounts[k], divisors[k], fractions[k]);
+}
+
+// One step on the amounts of the years from `from` to before `to`. No step waits for another.
+fn step_years(
+    divisors: &[u64; 50],
+    fractions: &[u64; 50],
+    from: usize,
+    to: usize,
+    premium: &mut [u64; 50],
+    outgo: &mut [u64; 50],
+)
+    requires { ⌜ (from ≤ to) × (to ≤ 50) × Divisors (now divisors) (now fractions) × AtMost 10000000000000000 to (now premium) × AtMost 10000000000000000 to (now outgo) ⌝ }
+    ensures { λ _. ⌜ Stepped (now (divisors .entry)) from to (now (premium .entry)) (now (premium .exit)) × Stepped (now (divisors .entry)) from to (now (outgo .entry)) (now (outgo .exit)) ⌝ }
+{
+    for k in from..to {
+        step_year(divisors, fractions, k, premium);
+        step_year(divisors, fractions, k, outgo);
+    }
+}
+
+// The amounts of the years before `to`, each discounted for j years with the divisor of its year, or for its own number of years where that is
+// less: one step on the amounts discounted for one year less.
+pub fn discount(
+    divisors: &[u64; 50],
+    fractions: &[u64; 50],
+    j: usize,
+    to: usize,
+    premium: &mut [u64; 50],
+    outgo: &mut [u64; 50],
+)
+    requires { ⌜ (j < to) × (to ≤ 50) × Divisors (now divisors) (now fractions) × AtMost 4000000000000000 to (now premium) × AtMost 4000000000000000 to (now outgo) ⌝ }
+    ensures { λ _. ⌜ DiscountedIn (now (divisors .entry)) j to (now (premium .entry)) (now (premium .exit)) × DiscountedIn (now (divisors .entry)) j to (now (outgo .entry)) (now (outgo .exit)) ⌝ }
 {
     if j == 0 {
-        return x;
+        return;
     }
-    step_back(discount(d, fraction, j - 1, x), d, fraction)
-}
-
-// The same, with no step where there is nothing to discount: many a later year of an old product.
-fn discount_any(d: u64, fraction: u64, j: usize, x: u64) -> u64
-    requires { ⌜ (990000 ≤ d) × (d ≤ 1200000) × (j ≤ 49) × (x ≤ 4000000000000000) × Fraction 1000000 d 9223372036854775808 fraction ⌝ }
-    ensures { λ r. ⌜ Discounted d j x r ⌝ }
-{
-    if x == 0 {
-        return x;
-    }
-    discount(d, fraction, j, x)
+    discount(divisors, fractions, j - 1, to, premium, outgo);
+    step_years(divisors, fractions, j, to, premium, outgo);
 }
 
 // The outgo of year k: weighted claims, and the cost of the premium before the cap.
-fn outgo(w: Outgoings, k: usize, rate: u64, premium: u64, claims: u64) -> u64
+pub fn outgo(w: Outgoings, k: usize, rate: u64, premium: u64, claims: u64) -> u64
     requires { ⌜ OutgoWeighed w × (rate ≤ 1000000) × (premium ≤ 726000000000000) × (claims ≤ 726000000000000) ⌝ }
     ensures { λ r. ⌜ (r ≡ outgoOf w k rate premium claims) × (r ≤ 2000000000000000) ⌝ }
 {
@@ -85,7 +109,7 @@ fn outgo(w: Outgoings, k: usize, rate: u64, premium: u64, claims: u64) -> u64
 }
 
 // The premium that counts in year k: from the sixth year on at most ten ninths of the outgo.
-fn counted(k: usize, premium: u64, outgo: u64) -> u64
+pub fn counted(k: usize, premium: u64, outgo: u64) -> u64
     requires { ⌜ outgo ≤ 2000000000000000 ⌝ }
     ensures { λ r. ⌜ (r ≡ capped rounded k premium outgo) × (r ≤ premium) ⌝ }
 {
@@ -102,30 +126,6 @@ pub struct Year {
     pub outgo: u64,
     pub dpremium: u64,
     pub doutgo: u64,
-}
-
-// A year from its sums.
-pub fn settle_year(
-    w: Outgoings,
-    k: usize,
-    rate: u64,
-    d: u64,
-    fraction: u64,
-    premium: u64,
-    claims: u64,
-) -> Year
-    requires { ⌜ OutgoWeighed w × (k ≤ 49) × (rate ≤ 1000000) × (990000 ≤ d) × (d ≤ 1200000) × (premium ≤ 726000000000000) × (claims ≤ 726000000000000) ⌝ }
-    requires { ⌜ Fraction 1000000 d 9223372036854775808 fraction ⌝ }
-    ensures { λ r. ⌜ (r ≡ yearFrom w k rate d premium claims) × (r .dpremium ≤ 9000000000000000) × (r .doutgo ≤ 9000000000000000) ⌝ }
-{
-    let spent = outgo(w, k, rate, premium, claims);
-    let due = counted(k, premium, spent);
-    Year {
-        premium: due,
-        outgo: spent,
-        dpremium: discount_any(d, fraction, k, due),
-        doutgo: discount_any(d, fraction, k, spent),
-    }
 }
 
 // Writes a year's numbers to its place in the table.

@@ -26,10 +26,12 @@ fn first_walk(book: &[u8], setting: usize, chain: usize) -> Years {
     if head == 0 {
         return Years::NoCell;
     }
-    let w = Decrements::new(book, setting);
+    let mut rows = [0u64; 2040];
     let mut premium = [0u64; 50];
     let mut claims = [0u64; 50];
-    Years::Reckoned(projection::walk(book, w, chain, head, &mut premium, &mut claims))
+    rows::read_rows(book, Decrements::new(book, setting), chain, head, &mut rows);
+    let count = book::field_of(book, head, book::COUNT_OFFSET);
+    Years::Reckoned(projection::walk(&rows, 0, count, &mut premium, &mut claims))
 }
 
 fn write_years(years: Years) {

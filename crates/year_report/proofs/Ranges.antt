@@ -18,7 +18,7 @@ use Rattle.reckoning.specs.Bounds.{GoodTerms}
 use Rattle.reckoning.specs.Portfolio.{chainLinks, linksOf, groupLinks, groupCells, termsOf}
 use Rattle.reckoning.proofs.Accepted.{chains-few, divisor-low, good-terms}
 use Rattle.cell.specs.States.{premiumAt, claimsAt}
-use Rattle.cell.proofs.Cells.{premium-at-le, claims-at-le}
+use Rattle.cell.proofs.Agreement.{premium-at-le, claims-at-le}
 use Rattle.projection.specs.Tables.{addedAll, AtMost}
 use Rattle.projection.proofs.Adding.{Small, sumOver, added-append, sum-from-zero, links-most, zero-most}
 use Rattle.projection.proofs.Adding.{premium-sum-is, claims-sum-is}
@@ -52,12 +52,12 @@ module _ (b : List ℕ) (v : ValidBook 1 b) where
     premium-most : premiumSum rounded (groupCells b w g) k ≤ mostSum
     premium-most =
         rw (← premium-sum-is b w k (groupLinks b g))
-        (group-most (premiumAt b w) (λ c i h s j. premium-at-le b w c i h s j) g k hi year)
+        (group-most (premiumAt b w) (λ c i h s. premium-at-le b w c i s) g k hi year)
 
     claims-most : claimsSum rounded (groupCells b w g) k ≤ mostSum
     claims-most =
         rw (← claims-sum-is b w k (groupLinks b g))
-        (group-most (claimsAt b w) (λ c i h s j. claims-at-le b w c i h s j) g k hi year)
+        (group-most (claimsAt b w) (λ c i h s. claims-at-le b w c i s) g k hi year)
 
 module _ (t : Terms) (cs : List Cell) (k : ℕ) where
   -- the cap never raises a premium

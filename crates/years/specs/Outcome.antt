@@ -5,12 +5,12 @@ use Prim.Native.Nat.{ℕ, _+_, _*_, _<_, _≤_}
 use lib.IntN.{ℤ}
 use lib.Signed.{mag}
 use lib.ListN.{getD, drop}
-use Rattle.arith.specs.Fractions.{Fraction}
 use Rattle.settings.specs.Settings.{decrementsOf}
 use Rattle.reckoning.specs.Arithmetic.{rounded}
-use Rattle.reckoning.specs.Steps.{discountedOutgo, discountedPremium, sumYears}
+use Rattle.reckoning.specs.Steps.{outgo, countedPremium, discountedOutgo, discountedPremium, sumYears}
 use Rattle.reckoning.specs.Portfolio.{divisorOf, termsOf, groupCells}
 use Rattle.reckoning.specs.Replies.{groupLiability, yearTable}
+use Rattle.settling.specs.Settling.{Divisor}
 use Rattle.years.specs.declared.Amounts.{Amounts}
 
 -- what settling a product group gives: its liability, and the lent table with the fifty years in front
@@ -20,12 +20,26 @@ pub record Settled (b : List ℕ) (setting g : ℕ) (before after : List ℕ) (r
   -- so that five of them can be added
   pub size : mag r ≤ 450_000_000_000_000_000
 
--- the fraction of the divisor of year k, and a table of them
-abbrev pub FractionAt : List ℕ → ℕ → ℕ → Type 0
-FractionAt b k f = Fraction 1_000_000 (divisorOf b k) 9_223_372_036_854_775_808 f
+-- the divisors of the fifty years, and their fractions
+pub record CurveOf (b divisors fractions : List ℕ) : Type 0 where
+  pub divisors-are : (k : ℕ) → k < 50 → getD divisors k 0 ≡ divisorOf b k
+  pub fractions-are : (k : ℕ) → k < 50 → Divisor (divisorOf b k) (getD fractions k 0)
 
-abbrev pub Curve : List ℕ → List ℕ → Type 0
-Curve b curve = (k : ℕ) → k < 50 → FractionAt b k (getD curve k 0)
+-- the amounts of the years from `from` to before `to` are f's, and no year's before `to` is above m
+pub record InYears (f : ℕ → ℕ) (m from to : ℕ) (amounts : List ℕ) : Type 0 where
+  pub are : (k : ℕ) → k < to → from ≤ k → getD amounts k 0 ≡ f k
+  pub most : (k : ℕ) → k < to → getD amounts k 0 ≤ m
+
+-- premium after the cap and outgo of product group g by year
+abbrev pub premiumBefore : List ℕ → ℕ → ℕ → ℕ → ℕ
+premiumBefore b setting g = countedPremium rounded (termsOf b setting g) (groupCells b (decrementsOf b setting) g)
+
+abbrev pub outgoBefore : List ℕ → ℕ → ℕ → ℕ → ℕ
+outgoBefore b setting g = outgo rounded (termsOf b setting g) (groupCells b (decrementsOf b setting) g)
+
+pub record Undiscounted (b : List ℕ) (setting g from to : ℕ) (premium outgo : List ℕ) : Type 0 where
+  pub premium-in : InYears (premiumBefore b setting g) 4_000_000_000_000_000 from to premium
+  pub outgo-in : InYears (outgoBefore b setting g) 4_000_000_000_000_000 from to outgo
 
 -- discounted outgo and premium of product group g by year
 abbrev pub outgoIn : List ℕ → ℕ → ℕ → ℕ → ℕ

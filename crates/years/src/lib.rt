@@ -5,49 +5,95 @@ ghost use lib.ListN.{length};
 ghost use Rattle.book.specs.Reading.{ValidBook};
 ghost use Rattle.settings.specs.Settings.{decrementsOf};
 ghost use Rattle.projection.specs.Added.{YearSums};
-ghost use Rattle.years.specs.Outcome.{Settled, Curve, SettledIn};
+ghost use Rattle.years.specs.Outcome.{CurveOf, Undiscounted, Settled, SettledIn};
 use projection::Sums;
 use settings::Outgoings;
+use settling::Year;
+
+// The divisor of each year, and the fraction by which an amount goes a year back: the divisions, made once for all groups and settings.
+pub struct Curve {
+    pub divisors: [u64; 50],
+    pub fractions: [u64; 50],
+}
+
+// The curve of a book.
+pub fn curve_of(book: &[u8]) -> Curve
+    requires { ⌜ ValidBook 1 (now book) ⌝ }
+    ensures { λ r. ⌜ CurveOf (now (book .entry)) (r .divisors) (r .fractions) ⌝ }
+{
+    let mut divisors = [0u64; 50];
+    let mut fractions = [0u64; 50];
+    for k in 0usize..50 {
+        let d = settling::divisor_of(book, k);
+        divisors[k] = d;
+        fractions[k] = settling::fraction_of(d);
+    }
+    Curve {
+        divisors,
+        fractions,
+    }
+}
+
+// Premium after the cap and outgo, year by year.
+struct Years {
+    premium: [u64; 50],
+    outgo: [u64; 50],
+}
+
+// The years from `from` to before `to`, before discounting.
+fn undiscounted(
+    book: &[u8],
+    setting: usize,
+    group: usize,
+    sums: Sums,
+    from: usize,
+    to: usize,
+) -> Years
+    requires { ⌜ (setting < 8) × (1 ≤ group) × (group ≤ 5) × (from ≤ to) × (to ≤ 50) × ValidBook 1 (now book) × YearSums (now book) (decrementsOf (now book) setting) group sums ⌝ }
+    ensures { λ r. ⌜ Undiscounted (now (book .entry)) setting group from to (r .premium) (r .outgo) ⌝ }
+{
+    let w = Outgoings::new(setting);
+    let rate = settling::cost_rate_of(book, group);
+    let due = sums.premium;
+    let claims = sums.claims;
+    let mut premium = [0u64; 50];
+    let mut outgo = [0u64; 50];
+    for k in from..to {
+        let spent = settling::outgo(w, k, rate, due[k], claims[k]);
+        outgo[k] = spent;
+        premium[k] = settling::counted(k, due[k], spent);
+    }
+    Years { premium, outgo }
+}
 
 // The liability of a product group from its year sums; the first 200 numbers of the table become the fifty years'.
 pub fn settle(book: &[u8], setting: usize, group: usize, sums: Sums, table: &mut [u64]) -> i64
     requires { ⌜ (setting < 8) × (1 ≤ group) × (group ≤ 5) × (200 ≤ length (now table)) × ValidBook 1 (now book) × YearSums (now book) (decrementsOf (now book) setting) group sums ⌝ }
     ensures { λ r. ⌜ Settled (now (book .entry)) setting group (now (table .entry)) (now (table .exit)) r ⌝ }
 {
-    let w = Outgoings::new(setting);
-    let premium = sums.premium;
-    let claims = sums.claims;
-    let rate = settling::cost_rate_of(book, group);
+    let curve = curve_of(book);
+    let divisors = curve.divisors;
+    let fractions = curve.fractions;
+    let years = undiscounted(book, setting, group, sums, 0, 50);
+    let due = years.premium;
+    let spent = years.outgo;
+    let mut premium = due;
+    let mut outgo = spent;
+    settling::discount(&divisors, &fractions, 49, 50, &mut premium, &mut outgo);
     let mut paid: u64 = 0;
     let mut earned: u64 = 0;
     for k in 0usize..50 {
-        let d = settling::divisor_of(book, k);
-        let y = settling::settle_year(
-            w,
-            k,
-            rate,
-            d,
-            settling::fraction_of(d),
-            premium[k],
-            claims[k],
-        );
+        let y = Year {
+            premium: due[k],
+            outgo: spent[k],
+            dpremium: premium[k],
+            doutgo: outgo[k],
+        };
         settling::put_year(table, k, y);
-        paid = paid + y.doutgo;
-        earned = earned + y.dpremium;
+        paid = paid + outgo[k];
+        earned = earned + premium[k];
     }
     settling::less(paid, earned)
-}
-
-// For each year k the fraction by which an amount goes a year back: the divisions, made once for all groups and settings.
-pub fn curve_of(book: &[u8]) -> [u64; 50]
-    requires { ⌜ ValidBook 1 (now book) ⌝ }
-    ensures { λ r. ⌜ Curve (now (book .entry)) r ⌝ }
-{
-    let mut curve = [0u64; 50];
-    for k in 0usize..50 {
-        curve[k] = settling::fraction_of(settling::divisor_of(book, k));
-    }
-    curve
 }
 
 // Discounted premium and outgo of some years, added.
@@ -59,7 +105,8 @@ pub struct Amounts {
 // What the years from `from` to before `to` give.
 pub fn settle_in(
     book: &[u8],
-    curve: &[u64; 50],
+    divisors: &[u64; 50],
+    fractions: &[u64; 50],
     setting: usize,
     group: usize,
     sums: Sums,
@@ -67,20 +114,18 @@ pub fn settle_in(
     to: usize,
 ) -> Amounts
     requires { ⌜ (setting < 8) × (1 ≤ group) × (group ≤ 5) × (from ≤ to) × (to ≤ 50) × ValidBook 1 (now book) × YearSums (now book) (decrementsOf (now book) setting) group sums ⌝ }
-    requires { ⌜ Curve (now book) (now curve) ⌝ }
+    requires { ⌜ (0 < to) × CurveOf (now book) (now divisors) (now fractions) ⌝ }
     ensures { λ r. ⌜ SettledIn (now (book .entry)) setting group from to r ⌝ }
 {
-    let w = Outgoings::new(setting);
-    let premium = sums.premium;
-    let claims = sums.claims;
-    let rate = settling::cost_rate_of(book, group);
+    let years = undiscounted(book, setting, group, sums, from, to);
+    let mut premium = years.premium;
+    let mut outgo = years.outgo;
+    settling::discount(divisors, fractions, to - 1, to, &mut premium, &mut outgo);
     let mut paid: u64 = 0;
     let mut earned: u64 = 0;
     for k in from..to {
-        let divisor = settling::divisor_of(book, k);
-        let y = settling::settle_year(w, k, rate, divisor, curve[k], premium[k], claims[k]);
-        paid = paid + y.doutgo;
-        earned = earned + y.dpremium;
+        paid = paid + outgo[k];
+        earned = earned + premium[k];
     }
     Amounts {
         premium: earned,

@@ -5,6 +5,9 @@
 mod books;
 mod instructions;
 mod python;
+mod reading;
+mod rival;
+mod share;
 mod timing;
 mod tuned;
 

@@ -6,6 +6,7 @@ use std::time::Instant;
 use plain::reckoning::Totals;
 use plain::Refusal;
 
+use crate::rival;
 use crate::tuned::{self, Projections, Tuning, Walk};
 
 pub const RUNS: usize = 21;
@@ -15,8 +16,9 @@ pub struct Contender {
     pub totals: fn(&[u8]) -> Result<Totals, Refusal>,
 }
 
-/// The archive comes first, then the tuned Rust: with eight projections, the baseline, and with five.
-pub const CONTENDERS: [Contender; 5] = [
+/// The archive comes first, then the tuned Rust: with eight projections, the baseline, and with five; then
+/// that with all ideas of the archive.
+pub const CONTENDERS: [Contender; 6] = [
     Contender {
         name: "the archive",
         totals: archive_totals,
@@ -32,6 +34,10 @@ pub const CONTENDERS: [Contender; 5] = [
     Contender {
         name: "the same, five, all cells year by year",
         totals: |book| tuned_totals(book, Projections::Five, Walk::YearByYear),
+    },
+    Contender {
+        name: "its ideas in Rust, five side by side",
+        totals: rival::totals,
     },
     Contender {
         name: "plain Rust, 128 bits",

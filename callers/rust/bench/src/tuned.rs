@@ -8,13 +8,13 @@
 use std::ops::Range;
 
 use plain::check::check;
-use plain::layout::*;
+use plain::layout::{sex_of_chain, CLASSES, PRODUCT_GROUPS};
 use plain::reckoning::{chains_of, differences, Totals, YEARS};
-use plain::settings::{later, percentage, Weights, SETTINGS, SHIFTED_YEARS, WEIGHTS};
+use plain::settings::{later, Weights, SETTINGS, SHIFTED_YEARS, WEIGHTS};
 use plain::Refusal;
 
-const MILLION: u64 = 1_000_000;
-const BILLION: u64 = 1_000_000_000;
+use crate::reading::{one_less, read, Book, Record, BILLION, MILLION};
+
 const FIRST_CAPPED_YEAR: usize = 5;
 
 #[derive(Clone, Copy)]
@@ -40,23 +40,6 @@ pub enum Walk {
     /// one year of all cells, but for the oldest that have ended, then the next year; cells do not
     /// wait for each other
     YearByYear,
-}
-
-/// A record of a chain, with the mortality of its class and sex.
-struct Record {
-    count: u64,
-    mortality: u64,
-    lapse: u64,
-    premium: u64,
-    claims: u64,
-}
-
-struct Book {
-    percentages: [u64; 2],
-    cost_rates: [u64; PRODUCT_GROUPS],
-    /// 1,000,000 and the rate of year k
-    divisors: [u64; YEARS],
-    chains: [Vec<Record>; CHAINS],
 }
 
 /// A record under the weights of a setting; what lives on and what stays are in billionths.
@@ -97,41 +80,6 @@ pub fn totals(bytes: &[u8], tuning: Tuning) -> Result<Totals, Refusal> {
     })
 }
 
-fn read(bytes: &[u8]) -> Book {
-    Book {
-        percentages: std::array::from_fn(|sex| percentage(bytes, sex)),
-        cost_rates: std::array::from_fn(|group| four_bytes(bytes, COST_RATES + 4 * group) as u64),
-        divisors: std::array::from_fn(|k| divisor(bytes, k)),
-        chains: std::array::from_fn(|chain| read_chain(bytes, chain)),
-    }
-}
-
-fn divisor(bytes: &[u8], k: usize) -> u64 {
-    match k {
-        0 => MILLION,
-        _ => (MILLION as i64 + signed_four_bytes(bytes, CURVE + 4 * (k - 1)) as i64) as u64,
-    }
-}
-
-fn read_chain(bytes: &[u8], chain: usize) -> Vec<Record> {
-    let mut records = Vec::with_capacity(CLASSES);
-    let mut number = two_bytes(bytes, HEADS + 2 * chain) as usize;
-    while number != 0 {
-        let start = record_start(number);
-        let field = |at| four_bytes(bytes, at) as u64;
-        let class = bytes[start + CLASS] as usize;
-        records.push(Record {
-            count: field(start + COUNT),
-            mortality: field(mortality_place(sex_of_chain(chain), class)),
-            lapse: field(start + LAPSE),
-            premium: field(start + PREMIUM),
-            claims: field(start + CLAIMS),
-        });
-        number = two_bytes(bytes, start + NEXT) as usize;
-    }
-    records
-}
-
 /// Steps 1 and 2 for every product group.
 fn project(book: &Book, weights: &Weights, walk: Walk) -> [Sums; PRODUCT_GROUPS] {
     let mut rows = Vec::with_capacity(CLASSES + YEARS);
@@ -169,10 +117,6 @@ fn weigh(records: &[Record], percentage: u64, weights: &Weights, rows: &mut Vec<
         let again = Row { count: 0, ..*last };
         rows.resize(records.len() + YEARS - 1, again);
     }
-}
-
-fn one_less(rate: u64, weight: u64) -> u64 {
-    BILLION - (rate * weight).min(BILLION)
 }
 
 fn add_cell_by_cell(rows: &[Row], sums: &mut Sums) {
@@ -282,20 +226,32 @@ fn settle(book: &Book, weights: &Weights, sums: &[Sums; PRODUCT_GROUPS]) -> i64 
     let mut total = 0;
     for (sums, cost_rate) in sums.iter().zip(book.cost_rates) {
         for k in 0..YEARS {
-            let later = later(k);
-            let premium = sums.premium[k];
-            let cost = Split::new(premium).times(cost_rate * weights.costs[later]);
-            let outgo = sums.claims[k] * weights.claims[later] / 1_000 + cost;
-            let counted = if k < FIRST_CAPPED_YEAR {
-                premium
-            } else {
-                premium.min(10 * outgo / 9)
-            };
-            let [outgo, premium] = discounted([outgo, counted], book.divisors[k], k);
+            let due = outgo_and_premium(sums.premium[k], sums.claims[k], cost_rate, weights, k);
+            let [outgo, premium] = discounted(due, book.divisors[k], k);
             total += outgo as i64 - premium as i64;
         }
     }
     total
+}
+
+/// Steps 3 and 4: the outgo of a year, and the premium that counts.
+#[inline]
+pub fn outgo_and_premium(
+    premium: u64,
+    claims: u64,
+    cost_rate: u64,
+    weights: &Weights,
+    k: usize,
+) -> [u64; 2] {
+    let later = later(k);
+    let cost = Split::new(premium).times(cost_rate * weights.costs[later]);
+    let outgo = claims * weights.claims[later] / 1_000 + cost;
+    let counted = if k < FIRST_CAPPED_YEAR {
+        premium
+    } else {
+        premium.min(10 * outgo / 9)
+    };
+    [outgo, counted]
 }
 
 /// Step 5 for both amounts of a year at once, since their divisions do not wait for each other.

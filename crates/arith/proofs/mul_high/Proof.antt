@@ -1,26 +1,8 @@
 -- `arith::mul_high` meets its contract: the halves' products, with what each carries, and each fits. Assumes nothing.
-use Prim.Native.Nat.{ℕ, _*_, _/_, _%_, _≤_}
 use native.Mathlib.Omega.{arith}
-use Rattle.arith.proofs.Division.{product-le, mul-high}
+use Rattle.arith.proofs.Division.{high-low, low-low, low-high, high-high, mul-high}
 use Rattle.arith.proofs.mul_high.Statement.{statement}
 use Rattle.arith.proofs.mul_high.Tie as tie
-
--- a product of two halves
-halves : (a b : ℕ) → a ≤ 4294967295 → b ≤ 4294967295 → a * b ≤ 18446744065119617025
-halves a b p q = omega (arith, product-le {a = a} {b = b} 4294967295 4294967295 p q)
-
--- the upper half of a and the lower of b, and so on
-high-low : (a b : ℕ) → a ≤ 18446744073709551615 → (a / 4294967296) * (b % 4294967296) ≤ 18446744065119617025
-high-low a b h = halves (a / 4294967296) (b % 4294967296) (omega arith) (omega arith)
-
-low-low : (a b : ℕ) → (a % 4294967296) * (b % 4294967296) ≤ 18446744065119617025
-low-low a b = halves (a % 4294967296) (b % 4294967296) (omega arith) (omega arith)
-
-low-high : (a b : ℕ) → b ≤ 18446744073709551615 → (a % 4294967296) * (b / 4294967296) ≤ 18446744065119617025
-low-high a b h = halves (a % 4294967296) (b / 4294967296) (omega arith) (omega arith)
-
-high-high : (a b : ℕ) → a ≤ 18446744073709551615 → b ≤ 18446744073709551615 → (a / 4294967296) * (b / 4294967296) ≤ 18446744065119617025
-high-high a b h k = halves (a / 4294967296) (b / 4294967296) (omega arith) (omega arith)
 
 mul-u : tie.Need-mul-u
 mul-u c = omega (arith, high-low (c .args .a) (c .args .b) (omega arith))

@@ -9,7 +9,7 @@ use lib.ListN.{replicate}
 use Rattle.book.specs.Cells.{heldIn, sumOf, chainsOf, heldOfGroup}
 use Rattle.reckoning.specs.Portfolio.{groupLinks}
 use Rattle.cell.specs.States.{premiumAt, claimsAt}
-use Rattle.cell.proofs.Cells.{premium-at-le, claims-at-le}
+use Rattle.cell.proofs.Agreement.{premium-at-le, claims-at-le}
 use Rattle.projection.proofs.Adding.{Gather, gather-more, gather-end, group-cells-more, group-cells-end, zero-most, sum-from-zero, premium-sum-is, claims-sum-is}
 use Rattle.projection.proofs.group_sums.Statement.{statement}
 use Rattle.projection.proofs.group_sums.Tie as tie
@@ -18,14 +18,14 @@ zeros : List ℕ
 zeros = replicate 50 0
 
 abbrev Inv-loop : tie.InvT-loop
-Inv-loop book w group premium₀ claims₀ n₀ from to k₀ premium claims n k =
+Inv-loop book w group rows₀ premium₀ claims₀ n₀ from to k₀ rows premium claims n k =
     (from ≤ k) × (k ≤ to) × (n ≤ 121 * (k - from))
     × Gather (premiumAt book w) book from to zeros k premium
     × Gather (claimsAt book w) book from to zeros k claims
     × (n + sumOf (heldIn book 120) k (to - k) ≡ sumOf (heldIn book 120) from (to - from))
 
 abbrev μ-loop : tie.MeasureT-loop
-μ-loop book w group premium₀ claims₀ n₀ from to k₀ premium claims n k = to - k
+μ-loop book w group rows₀ premium₀ claims₀ n₀ from to k₀ rows premium claims n k = to - k
 
 first-chain-requires : tie.Need-first-chain-requires Inv-loop μ-loop
 first-chain-requires c κs = (c .before .pre .2, c .before .pre .3)
@@ -43,7 +43,7 @@ loop-holds c = (
 
 add-chain-requires : tie.Need-add-chain-requires Inv-loop μ-loop
 add-chain-requires c κs =
-    let m = c .before .before .before in
+    let m = c .before .before .before .before in
     let a = m .before .before .before in
     let l = m .loop in (
       (a .pre .0, a .pre .1, omega arith),
@@ -52,7 +52,7 @@ add-chain-requires c κs =
 
 loop-again : tie.Need-loop-again Inv-loop μ-loop
 loop-again c =
-    let m = c .before .before .before .before in
+    let m = c .before .before .before .before .before in
     let a = m .before .before .before in
     let l = m .loop in
     let b = a .args .book .now in
@@ -61,8 +61,8 @@ loop-again c =
       omega arith,
       omega arith,
       omega (arith, e .few),
-      gather-more (premiumAt b w) b (λ k i f s j. premium-at-le b w k i f s j) (a .pre .1) _ _ zeros (l .k) (l .premium) _ (l .inv .3) (omega arith) (omega arith) (omega arith) (e .premium),
-      gather-more (claimsAt b w) b (λ k i f s j. claims-at-le b w k i f s j) (a .pre .1) _ _ zeros (l .k) (l .claims) _ (l .inv .4) (omega arith) (omega arith) (omega arith) (e .claims),
+      gather-more (premiumAt b w) b (λ k i f s. premium-at-le b w k i s) (a .pre .1) _ _ zeros (l .k) (l .premium) _ (l .inv .3) (omega arith) (omega arith) (omega arith) (e .premium),
+      gather-more (claimsAt b w) b (λ k i f s. claims-at-le b w k i s) (a .pre .1) _ _ zeros (l .k) (l .claims) _ (l .inv .4) (omega arith) (omega arith) (omega arith) (e .claims),
       sym (group-cells-more b (l .n) (l .k) _ (c .add-chain .result) (omega arith) (e .n-is)) ∙ l .inv .5,
     )
 
@@ -79,8 +79,8 @@ returns c =
     let to : ℕ = 4 + 2 * g in
     let e : l .k ≡ to = omega arith in
     let some : to - f .result ≡ chainsOf g = omega (arith, f .ensures .1) in
-    let p = rw (some, f .ensures .0) at (gather-end (premiumAt b w) b (λ k i h s j. premium-at-le b w k i h s j) (a .pre .1) (f .result) to zeros (l .k) (l .premium) e (l .inv .3)) in
-    let q = rw (some, f .ensures .0) at (gather-end (claimsAt b w) b (λ k i h s j. claims-at-le b w k i h s j) (a .pre .1) (f .result) to zeros (l .k) (l .claims) e (l .inv .4)) in
+    let p = rw (some, f .ensures .0) at (gather-end (premiumAt b w) b (λ k i h s. premium-at-le b w k i s) (a .pre .1) (f .result) to zeros (l .k) (l .premium) e (l .inv .3)) in
+    let q = rw (some, f .ensures .0) at (gather-end (claimsAt b w) b (λ k i h s. claims-at-le b w k i s) (a .pre .1) (f .result) to zeros (l .k) (l .claims) e (l .inv .4)) in
     record {
       premium-is = λ k h. sum-from-zero (premiumAt b w) (groupLinks b g) (l .premium) p k h ∙ premium-sum-is b w k (groupLinks b g);
       claims-is = λ k h. sum-from-zero (claimsAt b w) (groupLinks b g) (l .claims) q k h ∙ claims-sum-is b w k (groupLinks b g);

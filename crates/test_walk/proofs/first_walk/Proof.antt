@@ -1,13 +1,31 @@
--- `test_walk::first_walk` is safe: the walk has what it asks for, from the check. Assumes nothing.
-use mathlib.Core.Path.{refl, sym, _∙_}
+-- `test_walk::first_walk` is safe: the reading of the rows and the walk have what they ask for, from the check. Assumes nothing.
+use mathlib.Core.Path.{_≡_, refl, sym, _∙_}
 use Prim.Native.Nat.{_<_}
 use native.Mathlib.Omega.{arith}
 use borrow.Author.Needs.{needs}
+use Rattle.book.specs.Reading.{Standing, ValidBook}
 use Rattle.book.proofs.Valid.{valid}
+use Rattle.reckoning.specs.Portfolio.{rowAt}
 use Rattle.reckoning.proofs.Rows.{chain-standing}
 use Rattle.projection.proofs.Adding.{head-chain, zero-most}
+use Rattle.projection.proofs.Ends.{walkable-here}
 use Rattle.test_walk.proofs.first_walk.Statement.{statement}
 use Rattle.test_walk.proofs.first_walk.Tie as tie
+
+-- the book is accepted, and the head's record stands in its chain
+accepted : (m : tie.Else3) → ValidBook 1 (m .before .before .before .before .before .before .before .before .args .book .now)
+accepted m =
+    let e = m .before .before in
+    valid 1 _ _ (sym (e .before .before .check .ensures) ∙ e .enum-told .given .1)
+
+few : (m : tie.Else3) → m .before .before .before .before .before .before .before .before .args .chain < 14
+few m = omega arith
+
+stands : (m : tie.Else3) → Standing (m .before .before .before .before .before .before .before .before .args .book .now) 120 (m .before .before .before .before .before .before .before .before .args .chain) (m .before .head-of .result)
+stands m =
+    let a = m .before .before .before .before .before .before .before .before .args in
+    let h = m .before .head-of in
+    chain-standing (a .book .now) (a .chain) _ (h .result) (head-chain (a .book .now) (accepted m) (a .chain) (few m) (h .result) _ (h .ensures .0) (m .if3 .left) refl) (omega arith)
 
 head-of-requires : tie.Need-head-of-requires
 head-of-requires c κs =
@@ -15,24 +33,30 @@ head-of-requires c κs =
     (omega arith, omega (arith, v .header .size))
 
 new-requires : tie.Need-new-requires
-new-requires c κs =
+new-requires c κs = (omega arith, accepted c)
+
+read-rows-requires : tie.Need-read-rows-requires
+read-rows-requires c κs =
     let m = c .before .before in
-    (omega arith, valid 1 _ _ (sym (m .before .before .check .ensures) ∙ m .enum-told .given .1))
+    (c .before .new .ensures .1, accepted m, few m, stands m)
+
+field-of-requires : tie.Need-field-of-requires
+field-of-requires c κs =
+    let m = c .before .before .before in
+    ((stands m .0 .first, omega (arith, stands m .0 .inside, accepted m .header .size)), omega arith)
 
 walk-requires : tie.Need-walk-requires
+unfolding rowAt
 walk-requires c κs =
-    let h = c .before .before .before .before in
-    let m = h .before in
-    let v = valid 1 _ _ (sym (m .before .before .check .ensures) ∙ m .enum-told .given .1) in
-    let a = m .before .before .before .before .before .before .args in
-    let few : a .chain < 14 = omega arith in
-    let links = head-chain (a .book .now) v (a .chain) few (h .head-of .result) _ (h .head-of .ensures .0) (c .before .before .before .if3 .left) refl in (
-      (c .before .before .new .ensures .1, v, few, chain-standing (a .book .now) (a .chain) _ (h .head-of .result) links (omega arith)),
-      (λ j. omega (arith, zero-most j), λ j. omega (arith, zero-most j)),
+    let m = c .before .before .before .before .before .before .before in
+    let read = c .before .before .before .before .read-rows .ensures in (
+      walkable-here _ _ _ _ (stands m) _ read 0 _ _ (omega arith) refl (c .before .before .before .field-of .ensures .0),
+      λ j. omega (arith, zero-most j),
+      λ j. omega (arith, zero-most j),
     )
 
 pub first-walk-spec : {M : Type 1} → statement M
 first-walk-spec =
     tie.close
     (tie.spec (search needs) (search needs) (search needs) (search needs) (search needs) (search needs) head-of-requires (search needs)
-    new-requires walk-requires (search needs))
+    new-requires read-rows-requires field-of-requires walk-requires (search needs))

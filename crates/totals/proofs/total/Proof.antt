@@ -14,11 +14,11 @@ use Rattle.totals.proofs.total.Statement.{statement}
 use Rattle.totals.proofs.total.Tie as tie
 
 abbrev Inv-loop : tie.InvT-loop
-Inv-loop book curve setting sums later sum₀ j₀ sum j =
+Inv-loop book divisors fractions setting sums later sum₀ j₀ sum j =
     (j ≤ 5) × (toZ w64 sum ≡ sumGroups (groupLiability book setting) j) × (mag (toZ w64 sum) ≤ 495000000000000001 * j)
 
 abbrev μ-loop : tie.MeasureT-loop
-μ-loop book curve setting sums later sum₀ j₀ sum j = 5 - j
+μ-loop book divisors fractions setting sums later sum₀ j₀ sum j = 5 - j
 
 loop-holds : tie.Need-loop-holds Inv-loop μ-loop
 unfolding sumGroups
@@ -28,7 +28,7 @@ settle-in-requires : tie.Need-settle-in-requires Inv-loop μ-loop
 settle-in-requires c κs =
     let m = c .before .before .before in
     let a = m .before .before in
-    ((a .pre .0, omega arith, omega arith, omega arith, omega arith, a .pre .1, a .pre .2 (m .loop .j) (omega arith)), a .pre .4)
+    ((a .pre .0, omega arith, omega arith, omega arith, omega arith, a .pre .1, a .pre .2 (m .loop .j) (omega arith)), (omega arith, a .pre .4))
 
 add-less : tie.Need-add-less Inv-loop μ-loop
 add-less c =

@@ -1,21 +1,21 @@
 -- `years::settle` meets its contract. The invariant: the table has the numbers of the years before k, and the two sums are those of the reckoning.
 -- The measure is the number of years left. Assumes nothing.
-use mathlib.Core.Path.{_≡_, refl, ap, _∙_}
+use mathlib.Core.Path.{_≡_, refl, _∙_}
 use mathlib.Core.List.{List, _++_}
 use Prim.Native.Nat.{ℕ, _-_, _*_, _≤_, _<_}
 use native.Mathlib.Omega.{arith}
 use borrow.Author.Needs.{needs}
-use lib.ListN.{length, getD, drop}
+use lib.ListN.{length, drop}
 use mir.Syntax.{w64}
 use mir.ValLaws.{toZ-ofZ}
 use Rattle.settings.specs.Settings.{decrementsOf}
 use Rattle.reckoning.specs.Arithmetic.{rounded}
-use Rattle.reckoning.specs.Steps.{Cell, Terms, discountedOutgo, discountedPremium, sumYears}
+use Rattle.reckoning.specs.Steps.{Cell, Terms, sumYears}
 use Rattle.reckoning.specs.Portfolio.{termsOf, groupCells}
 use Rattle.reckoning.specs.Replies.{yearTable}
-use Rattle.settling.specs.declared.Year.{Year}
-use Rattle.settling.specs.Settling.{yearOf}
-use Rattle.settling.proofs.Settling.{years-more, years-length, sum-more, outgo-is, premium-is, year-is, liability-is, less-mag}
+use Rattle.settling.proofs.Settling.{years-more, years-length, year-is, sum-more, outgo-discounted, premium-discounted, liability-is, less-mag}
+use Rattle.years.specs.Outcome.{InYears, outgoBefore, premiumBefore, outgoIn, premiumIn}
+use Rattle.years.proofs.Tables.{curve-divisors, in-discounted}
 use Rattle.years.proofs.settle.Statement.{statement}
 use Rattle.years.proofs.settle.Tie as tie
 
@@ -27,87 +27,118 @@ abbrev cells : List ℕ → ℕ → ℕ → List Cell
 cells b s g = groupCells b (decrementsOf b s) g
 
 abbrev Inv-loop : tie.InvT-loop
-Inv-loop book setting group table₀ w premium claims rate paid₀ earned₀ k₀ table paid earned k =
+Inv-loop book setting group table₀ due spent premium outgo paid₀ earned₀ k₀ table paid earned k =
     (k ≤ 50) × (table ≡ yearTable (terms book setting group) (cells book setting group) k ++ drop (4 * k) table₀)
-    × (paid ≡ sumYears rounded k (discountedOutgo rounded (terms book setting group) (cells book setting group)))
-    × (earned ≡ sumYears rounded k (discountedPremium rounded (terms book setting group) (cells book setting group)))
+    × (paid ≡ sumYears rounded k (outgoIn book setting group)) × (earned ≡ sumYears rounded k (premiumIn book setting group))
     × (paid ≤ 9000000000000000 * k) × (earned ≤ 9000000000000000 * k)
+    × InYears (premiumBefore book setting group) 4000000000000000 0 50 due × InYears (outgoBefore book setting group) 4000000000000000 0 50 spent
+    × InYears (premiumIn book setting group) 9000000000000000 0 50 premium × InYears (outgoIn book setting group) 9000000000000000 0 50 outgo
 
 abbrev μ-loop : tie.MeasureT-loop
-μ-loop book setting group table₀ w premium claims rate paid₀ earned₀ k₀ table paid earned k = 50 - k
+μ-loop book setting group table₀ due spent premium outgo paid₀ earned₀ k₀ table paid earned k = 50 - k
 
-cost-rate-of-requires : tie.Need-cost-rate-of-requires Inv-loop μ-loop
-cost-rate-of-requires c κs = let a = c .before .before .before .before .before in (a .pre .1, a .pre .2, a .pre .4)
+curve-of-requires : tie.Need-curve-of-requires Inv-loop μ-loop
+curve-of-requires c κs = c .before .before .pre .4
+
+undiscounted-requires : tie.Need-undiscounted-requires Inv-loop μ-loop
+undiscounted-requires c κs =
+    let a = c .before .before .before .before .before in
+    (a .pre .0, a .pre .1, a .pre .2, omega arith, omega arith, a .pre .4, a .pre .5)
+
+discount-requires : tie.Need-discount-requires Inv-loop μ-loop
+discount-requires c κs =
+    let u = c .before .before .before .before .before .before in
+    let y = u .undiscounted .ensures in
+    (omega arith, omega arith, curve-divisors _ _ _ (u .before .before .before .curve-of .ensures), y .premium-in .most, y .outgo-in .most)
 
 loop-holds : tie.Need-loop-holds Inv-loop μ-loop
 unfolding yearTable sumYears
-loop-holds c = (omega arith, refl, refl, refl, omega arith, omega arith)
-
-divisor-of-requires : tie.Need-divisor-of-requires Inv-loop μ-loop
-divisor-of-requires c κs = (omega arith, c .before .before .before .before .before .before .before .before .pre .4)
-
-settle-year-requires : tie.Need-settle-year-requires Inv-loop μ-loop
-settle-year-requires c κs =
-    let d = c .before .divisor-of in
-    let m = c .before .before .before in
-    let n = m .before .before .before .before in
-    let a = n .before .before .before in (
-      (n .new .ensures .1, omega arith, m .before .cost-rate-of .ensures .1, d .ensures .1, d .ensures .2, a .pre .5 .premium-most _, a .pre .5 .claims-most _),
-      c .fraction-of .ensures,
-    )
-
-put-year-requires : tie.Need-put-year-requires Inv-loop μ-loop
-put-year-requires c κs =
-    let m = c .before .before .before .before .before in
-    let l = m .loop in
-    let a = m .before .before .before .before .before .before .before in
-    let lt : l .k < 50 = c .before .before .before .before .loop-test .taken in
-    let long : 200 ≤ length (a .args .table .now) = a .pre .3 in
-    omega (arith, years-length (terms (a .args .book .now) (a .args .setting) (a .args .group)) (cells (a .args .book .now) (a .args .setting) (a .args .group)) (l .k) (a .args .table .now) (l .table) (omega arith) (l .inv .1))
-
-loop-again : tie.Need-loop-again Inv-loop μ-loop
-loop-again c =
-    let r = c .before .before .before .before .before .before in
-    let d = r .before .before in
-    let m = d .before .before in
-    let l = m .loop in
-    let n = m .before .before .before .before in
-    let a = n .before .before .before in
+loop-holds c =
+    let u = c .before .before .before .before .before .before .before in
+    let v = u .before .before .before in
+    let a = v .before .before .before in
     let b = a .args .book .now in
     let s = a .args .setting in
     let g = a .args .group in
-    let t = terms b s g in
-    let cs = cells b s g in
-    let y = r .settle-year in
-    let lt : l .k < 50 = d .before .loop-test .taken in
-    let long : 200 ≤ length (a .args .table .now) = a .pre .3 in
-    let e : y .result ≡ yearOf t cs (l .k) =
-    year-is b s g (l .k) (m .before .cost-rate-of .result) (d .divisor-of .result) (getD (a .args .sums .premium) (l .k) 0) (getD (a .args .sums .claims) (l .k) 0) (y .result)
-    (rw (n .new .ensures .0) at (y .ensures .0)) (m .before .cost-rate-of .ensures .0) (d .divisor-of .ensures .0) (a .pre .5 .premium-is (l .k) lt) (a .pre .5 .claims-is (l .k) lt) in (
+    let y = u .undiscounted .ensures in
+    let d = c .discount .ensures in (
       omega arith,
-      years-more t cs (l .k) (a .args .table .now) (l .table) (c .before .before .before .before .put-year .last .0) (omega arith) (l .inv .1) (rw e at (c .before .before .before .before .put-year .ensures)),
-      sum-more (discountedOutgo rounded t cs) (l .k) (l .paid) (y .result .doutgo) (l .inv .2) (ap (λ (x : Year). x .doutgo) e ∙ outgo-is t cs (l .k)),
-      sum-more (discountedPremium rounded t cs) (l .k) (l .earned) (y .result .dpremium) (l .inv .3) (ap (λ (x : Year). x .dpremium) e ∙ premium-is t cs (l .k)),
+      refl,
+      refl,
+      refl,
       omega arith,
       omega arith,
+      y .premium-in,
+      y .outgo-in,
+      in-discounted b _ _ _ _ _ _ _ _ _ (v .curve-of .ensures) (premium-discounted b s g) refl (omega arith) (y .premium-in) (d .0),
+      in-discounted b _ _ _ _ _ _ _ _ _ (v .curve-of .ensures) (outgo-discounted b s g) refl (omega arith) (y .outgo-in) (d .1),
+    )
+
+abbrev start : tie.At-loop Inv-loop μ-loop → tie.Start Inv-loop μ-loop
+start m = m .before .before .before .before .before .before .before .before .before .before .before .before .before .before
+
+-- the table keeps its length
+long : (m : tie.At-loop Inv-loop μ-loop) → length (m .loop .table) ≡ length (start m .args .table .now)
+long m =
+    let l = m .loop in
+    let a = start m .args in
+    let s : 200 ≤ length (a .table .now) = start m .pre .3 in
+    years-length (terms (a .book .now) (a .setting) (a .group)) (cells (a .book .now) (a .setting) (a .group)) (l .k) (a .table .now) (l .table) (omega arith) (l .inv .1)
+
+put-year-requires : tie.Need-put-year-requires Inv-loop μ-loop
+put-year-requires c κs =
+    let m = c .before .before in
+    let lt : m .loop .k < 50 = c .before .loop-test .taken in
+    omega (arith, long m, start m .pre .3)
+
+add-paid : tie.Need-add-paid Inv-loop μ-loop
+add-paid c =
+    let m = c .before .before .before .before in
+    let l = m .before .loop in
+    omega (arith, l .inv .9 .most (l .k) (m .loop-test .taken))
+
+add-earned : tie.Need-add-earned Inv-loop μ-loop
+add-earned c =
+    let m = c .before .before .before .before in
+    let l = m .before .loop in
+    omega (arith, l .inv .8 .most (l .k) (m .loop-test .taken))
+
+loop-again : tie.Need-loop-again Inv-loop μ-loop
+loop-again c =
+    let m = c .before .before .before .before .before in
+    let l = m .loop in
+    let a = start m .args in
+    let t = terms (a .book .now) (a .setting) (a .group) in
+    let cs = cells (a .book .now) (a .setting) (a .group) in
+    let w = c .before .before .put-year in
+    let lt : l .k < 50 = c .before .before .before .before .loop-test .taken in
+    let size : 200 ≤ length (a .table .now) = start m .pre .3 in
+    let p = l .inv .8 in
+    let o = l .inv .9 in
+    let e = year-is t cs (l .k) _ _ _ _ (l .inv .6 .are (l .k) lt (omega arith)) (l .inv .7 .are (l .k) lt (omega arith)) (p .are (l .k) lt (omega arith)) (o .are (l .k) lt (omega arith)) in (
+      omega arith,
+      years-more t cs (l .k) _ (a .table .now) (l .table) (w .last .0) e (omega arith) (l .inv .1) (w .ensures),
+      sum-more _ (l .k) _ _ (l .inv .2) (o .are (l .k) lt (omega arith)),
+      sum-more _ (l .k) _ _ (l .inv .3) (p .are (l .k) lt (omega arith)),
+      omega (arith, o .most (l .k) lt),
+      omega (arith, p .most (l .k) lt),
+      l .inv .6,
+      l .inv .7,
+      p,
+      o,
     )
 
 same-length : tie.Need-same-length Inv-loop μ-loop
-same-length c =
-    let m = c .before .before in
-    let l = m .loop in
-    let a = m .before .before .before .before .before .before .before in
-    years-length (terms (a .args .book .now) (a .args .setting) (a .args .group)) (cells (a .args .book .now) (a .args .setting) (a .args .group)) (l .k) (a .args .table .now) (l .table) (omega arith) (l .inv .1)
+same-length c = long (c .before .before)
 
 returns : tie.Need-returns Inv-loop μ-loop
 returns c =
-    let m = c .before .before in
-    let l = m .loop in
-    let a = m .before .before .before .before .before .before .before in
+    let l = c .before .before .loop in
+    let a = start (c .before .before) .args in
     let e : l .k ≡ 50 = omega arith in
     let r = toZ-ofZ w64 (c .less .result) (record { sfits = c .less .ok }) ∙ c .less .ensures in
     record {
-      liability-is = r ∙ liability-is (a .args .book .now) (a .args .setting) (a .args .group) (l .k) (l .paid) (l .earned) e (l .inv .2) (l .inv .3);
+      liability-is = r ∙ liability-is (a .book .now) (a .setting) (a .group) (l .k) (l .paid) (l .earned) e (l .inv .2) (l .inv .3);
       table-is = rw e at (l .inv .1);
       size = rw r (less-mag (l .paid) (l .earned) 450_000_000_000_000_000 (omega arith) (omega arith));
     }
@@ -115,6 +146,6 @@ returns c =
 pub settle-spec : {M : Type 1} → statement M
 settle-spec =
     tie.close
-    (tie.spec Inv-loop μ-loop (search needs) cost-rate-of-requires loop-holds divisor-of-requires (search needs) (search needs)
-    (search needs) (search needs) (search needs) settle-year-requires put-year-requires (search needs) (search needs) (search needs) (search needs)
-    loop-again (search needs) same-length returns)
+    (tie.spec Inv-loop μ-loop curve-of-requires undiscounted-requires discount-requires loop-holds (λ c. omega arith) (λ c. omega arith) (λ c. omega arith)
+    (λ c. omega arith) (λ c. omega arith) (λ c. omega arith) (λ c. omega arith) (λ c. omega arith) put-year-requires (λ c. omega arith) (λ c. omega arith) add-paid
+    (λ c. omega arith) (λ c. omega arith) add-earned (λ c. omega arith) (λ c. omega arith) loop-again (search needs) same-length returns)

@@ -1,85 +1,87 @@
 -- `years::settle_in` meets its contract. The invariant: with the years before `from` the two sums are those of the years before k.
 -- The measure is the number of years left. Assumes nothing.
-use mathlib.Core.Path.{_≡_, refl, ap, _∙_}
-use Prim.Native.Nat.{ℕ, _+_, _-_, _*_, _≤_, _<_}
+use mathlib.Core.Path.{_≡_}
+use Prim.Native.Nat.{_+_, _-_, _*_, _≤_}
 use native.Mathlib.Omega.{arith}
-use borrow.Author.Needs.{needs}
-use lib.ListN.{getD}
-use Rattle.settings.specs.Settings.{decrementsOf}
 use Rattle.reckoning.specs.Arithmetic.{rounded}
 use Rattle.reckoning.specs.Steps.{sumYears}
-use Rattle.reckoning.specs.Portfolio.{termsOf, groupCells}
-use Rattle.settling.specs.declared.Year.{Year}
-use Rattle.settling.specs.Settling.{yearOf}
-use Rattle.settling.proofs.Settling.{sum-more, outgo-is, premium-is, year-is}
-use Rattle.years.specs.Outcome.{outgoIn, premiumIn}
+use Rattle.settling.proofs.Settling.{sum-more, outgo-discounted, premium-discounted}
+use Rattle.years.specs.Outcome.{InYears, outgoIn, premiumIn}
+use Rattle.years.proofs.Tables.{curve-divisors, in-discounted}
 use Rattle.years.proofs.settle_in.Statement.{statement}
 use Rattle.years.proofs.settle_in.Tie as tie
 
 abbrev Inv-loop : tie.InvT-loop
-Inv-loop book curve setting group from to w premium claims rate paid₀ earned₀ k₀ paid earned k =
+Inv-loop book divisors fractions setting group from to premium outgo paid₀ earned₀ k₀ paid earned k =
     (from ≤ k) × (k ≤ to)
     × (sumYears rounded from (outgoIn book setting group) + paid ≡ sumYears rounded k (outgoIn book setting group))
     × (sumYears rounded from (premiumIn book setting group) + earned ≡ sumYears rounded k (premiumIn book setting group))
     × (paid ≤ 9000000000000000 * k) × (earned ≤ 9000000000000000 * k)
+    × InYears (outgoIn book setting group) 9000000000000000 from to outgo × InYears (premiumIn book setting group) 9000000000000000 from to premium
 
 abbrev μ-loop : tie.MeasureT-loop
-μ-loop book curve setting group from to w premium claims rate paid₀ earned₀ k₀ paid earned k = to - k
+μ-loop book divisors fractions setting group from to premium outgo paid₀ earned₀ k₀ paid earned k = to - k
 
-cost-rate-of-requires : tie.Need-cost-rate-of-requires Inv-loop μ-loop
-cost-rate-of-requires c κs = let a = c .before .before .before .before in (a .pre .0 .1, a .pre .0 .2, a .pre .0 .5)
+undiscounted-requires : tie.Need-undiscounted-requires Inv-loop μ-loop
+undiscounted-requires c κs = c .before .pre .0
 
-divisor-of-requires : tie.Need-divisor-of-requires Inv-loop μ-loop
-divisor-of-requires c κs = (omega arith, c .before .before .before .before .before .before .before .pre .0 .5)
+discount-requires : tie.Need-discount-requires Inv-loop μ-loop
+discount-requires c κs =
+    let u = c .before .before .before .before in
+    let a = u .before .before in
+    let y = u .undiscounted .ensures in
+    (omega arith, a .pre .0 .4, curve-divisors _ _ _ (a .pre .1 .1), y .premium-in .most, y .outgo-in .most)
 
-settle-year-requires : tie.Need-settle-year-requires Inv-loop μ-loop
-settle-year-requires c κs =
-    let d = c .before .divisor-of in
-    let m = c .before .before .before in
-    let l = m .loop in
-    let n = m .before .before .before .before in
-    let a = n .before .before in
-    let lt : l .k < 50 = omega (arith, c .before .before .loop-test .taken) in (
-      (n .new .ensures .1, omega arith, m .before .cost-rate-of .ensures .1, d .ensures .1, d .ensures .2, a .pre .0 .6 .premium-most (l .k), a .pre .0 .6 .claims-most (l .k)),
-      rw (d .ensures .0) (a .pre .1 (l .k) lt),
-    )
-
-loop-again : tie.Need-loop-again Inv-loop μ-loop
-loop-again c =
-    let r = c .before .before in
-    let d = r .before .before in
-    let m = d .before .before in
-    let l = m .loop in
-    let n = m .before .before .before .before in
-    let a = n .before .before in
+loop-holds : tie.Need-loop-holds Inv-loop μ-loop
+loop-holds c =
+    let u = c .before .before .before .before .before in
+    let a = u .before .before in
     let b = a .args .book .now in
     let s = a .args .setting in
     let g = a .args .group in
-    let t = termsOf b s g in
-    let cs = groupCells b (decrementsOf b s) g in
-    let y = r .settle-year in
-    let lt : l .k < 50 = omega (arith, d .before .loop-test .taken) in
-    let e : y .result ≡ yearOf t cs (l .k) =
-    year-is b s g (l .k) (m .before .cost-rate-of .result) (d .divisor-of .result) (getD (a .args .sums .premium) (l .k) 0) (getD (a .args .sums .claims) (l .k) 0) (y .result)
-    (rw (n .new .ensures .0) at (y .ensures .0)) (m .before .cost-rate-of .ensures .0) (d .divisor-of .ensures .0) (a .pre .0 .6 .premium-is (l .k) lt) (a .pre .0 .6 .claims-is (l .k) lt) in (
+    let last : a .args .to - 1 + 1 ≡ a .args .to = omega (arith, a .pre .1 .0) in
+    let y = u .undiscounted .ensures in
+    let d = c .discount .ensures in (
       omega arith,
-      omega (arith, d .before .loop-test .taken),
-      omega (arith, sum-more (outgoIn b s g) (l .k) _ (y .result .doutgo) (l .inv .2) (ap (λ (x : Year). x .doutgo) e ∙ outgo-is t cs (l .k))),
-      omega (arith, sum-more (premiumIn b s g) (l .k) _ (y .result .dpremium) (l .inv .3) (ap (λ (x : Year). x .dpremium) e ∙ premium-is t cs (l .k))),
+      a .pre .0 .3,
       omega arith,
       omega arith,
+      omega arith,
+      omega arith,
+      in-discounted b _ _ _ _ _ _ _ _ _ (a .pre .1 .1) (outgo-discounted b s g) last (a .pre .0 .4) (y .outgo-in) (d .1),
+      in-discounted b _ _ _ _ _ _ _ _ _ (a .pre .1 .1) (premium-discounted b s g) last (a .pre .0 .4) (y .premium-in) (d .0),
+    )
+
+add-paid : tie.Need-add-paid Inv-loop μ-loop
+add-paid c = let l = c .before .loop in omega (arith, l .inv .6 .most (l .k) (c .loop-test .taken))
+
+add-earned : tie.Need-add-earned Inv-loop μ-loop
+add-earned c = let l = c .before .loop in omega (arith, l .inv .7 .most (l .k) (c .loop-test .taken))
+
+loop-again : tie.Need-loop-again Inv-loop μ-loop
+loop-again c =
+    let l = c .before .loop in
+    let lt = c .loop-test .taken in
+    let o = l .inv .6 in
+    let p = l .inv .7 in (
+      omega arith,
+      omega arith,
+      omega (arith, sum-more _ (l .k) _ _ (l .inv .2) (o .are (l .k) lt (l .inv .0))),
+      omega (arith, sum-more _ (l .k) _ _ (l .inv .3) (p .are (l .k) lt (l .inv .0))),
+      omega (arith, o .most (l .k) lt),
+      omega (arith, p .most (l .k) lt),
+      o,
+      p,
     )
 
 returns : tie.Need-returns Inv-loop μ-loop
 returns c =
     let l = c .before .loop in
-    let a = c .before .before .before .before .before .before .before in
-    let e : l .k ≡ a .args .to = omega arith in
+    let e : l .k ≡ c .before .before .before .before .before .before .before .before .before .args .to = omega arith in
     record { outgo-is = rw e at (l .inv .2); premium-is = rw e at (l .inv .3); outgo-most = omega arith; premium-most = omega arith }
 
 pub settle-in-spec : {M : Type 1} → statement M
 settle-in-spec =
     tie.close
-    (tie.spec Inv-loop μ-loop (search needs) cost-rate-of-requires (search needs) divisor-of-requires (search needs) (search needs)
-    (search needs) (search needs) (search needs) (search needs) settle-year-requires (search needs) (search needs) (search needs) (search needs)
-    loop-again returns)
+    (tie.spec Inv-loop μ-loop undiscounted-requires (λ c. omega arith) discount-requires loop-holds (λ c. omega arith) (λ c. omega arith) add-paid
+    (λ c. omega arith) (λ c. omega arith) add-earned (λ c. omega arith) (λ c. omega arith) loop-again returns)

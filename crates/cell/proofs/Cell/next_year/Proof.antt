@@ -1,33 +1,39 @@
--- `Cell::next_year` meets its contract, by the class. Assumes nothing.
-use mathlib.Core.Path.{ap}
-use Prim.Native.Nat.{ℕ}
+-- `cell::Cell::next_year` meets its contract: two shares, the second of what lives on. Assumes nothing.
+use mathlib.Core.Path.{_≡_}
+use Prim.Native.Nat.{ℕ, _+_, _*_, _/_}
 use native.Mathlib.Omega.{arith}
-use borrow.Author.Tests.{lt-ltb, le-ltb}
 use borrow.Author.Needs.{needs}
-use Rattle.cell.specs.declared.Cell.{Cell}
 use Rattle.cell.specs.States.{nextYear}
+use Rattle.cell.proofs.Cells.{share-bound}
 use Rattle.cell.proofs.Cell.next_year.Statement.{statement}
 use Rattle.cell.proofs.Cell.next_year.Tie as tie
 
--- a cell that stays at its class, with so much in force
-abbrev staying : Cell → ℕ → Cell
-staying c inforce = record { chain = c .chain; row = c .row; class = c .class; inforce = inforce }
+share-requires : tie.Need-share-requires
+share-requires c κs =
+    let r = c .before .before .pre in
+    let column = c .later-in in
+    (omega (arith, r .fits, column .ensures .1), r .bound, r .row .fractions (column .result) (omega (arith, column .ensures .1)))
+
+share-requires-2 : tie.Need-share-requires-2
+share-requires-2 c κs =
+    let m = c .before .before in
+    let r = m .before .before .pre in
+    let column = m .later-in in (
+      omega (arith, r .fits, column .ensures .1),
+      omega (arith, r .bound, share-bound _ _ _ _ (r .row .shares (column .result) (omega (arith, column .ensures .1))) (r .bound) (c .before .share .ensures)),
+      r .row .fractions (2 + column .result) (omega (arith, column .ensures .1)),
+    )
+
+-- a share of a share
+of-that : {l m r : ℕ} (z : ℕ) → l ≡ m → r ≡ l * z / 1000000000 → r ≡ m * z / 1000000000
+of-that z e h = rw (h, e)
 
 returns : tie.Need-returns
 unfolding nextYear
 returns c =
-    let i = c .before in
-    rw (lt-ltb (i .before .before .before .args .self .class) 120 (omega (arith, i .if1 .taken))) (cc)
-
-returns-2 : tie.Need-returns-2
-unfolding nextYear
-returns-2 c =
-    let self = c .before .before .before .args .self in
-    rw (le-ltb (self .class) 120 (omega (arith, c .if1 .left))) (ap (staying self) (c .before .survivors .ensures))
-
-survivors-requires : tie.Need-survivors-requires
-survivors-requires c κs = c .before .pre
+    let m = c .before .before .before in
+    rw (of-that _ (c .before .before .share .ensures) (c .share2 .ensures), m .later-in .ensures .0)
 
 pub next-year-spec : {M : Type 1} → statement M
 next-year-spec = tie.close
-    (tie.spec survivors-requires (search needs) (search needs) returns returns-2)
+    (tie.spec (search needs) (search needs) (search needs) share-requires (search needs) (search needs) (search needs) share-requires-2 returns)

@@ -1,0 +1,93 @@
+-- A cell that is walked over the rows of its chain is the reckoning's cell of its record, for the fifty years; and what such a cell adds is
+-- bounded in every year. Assumes nothing.
+use mathlib.Core.Path.{_≡_, refl, sym, ap, _∙_}
+use mathlib.Core.List.{List}
+use mathlib.Core.Bool.{Bool, true, false}
+use Prim.Native.Nat.{ℕ, zero, suc, _+_, _-_, _*_, _/_, _≤_, _<_}
+use native.Mathlib.Nat.{add-zero, add-suc, le-trans, mul-le-mul, div-le-of-le-mul}
+use native.Mathlib.Omega.{arith}
+use lib.Dec.{ltb}
+use Rattle.book.specs.Layout.{chainSex, sexOf, classOf, fieldOf, countOffset, lapseOffset, premiumOffset, claimsOffset}
+use Rattle.book.specs.Reading.{Standing}
+use Rattle.settings.specs.Settings.{mortalityIn, lapseIn}
+use Rattle.settings.specs.declared.Decrements.{Decrements}
+use Rattle.reckoning.specs.Arithmetic.{rounded}
+use Rattle.reckoning.specs.Steps.{inForce, cellPremium, cellClaims}
+use Rattle.reckoning.specs.Portfolio.{mortalityOf, oneLess, onward, rowAt, cellOf}
+use Rattle.reckoning.proofs.Rows.{row-standing}
+use Rattle.rows.specs.Rows.{rate, RowReady, RowOf, RowsOf}
+use Rattle.cell.specs.States.{laterIn, cellIn, Walkable, premiumBy, claimsBy, premiumAt, claimsAt}
+use Rattle.cell.proofs.Cells.{share-le}
+
+-- the record of a later year, from that of a year between
+pub row-sum : (b : List ℕ) (i j k : ℕ) → rowAt b i (j + k) ≡ rowAt b (rowAt b i j) k
+unfolding rowAt
+row-sum b i j zero = ap (rowAt b i) (add-zero j)
+row-sum b i j (suc k) = rw (add-suc j k) (ap (onward b) (row-sum b i j k))
+
+module _ (b : List ℕ) (w : Decrements) (chain i : ℕ) (s : Standing b 120 chain i) (t : List ℕ) (rows : RowsOf b w chain i t) (own : ℕ)
+    (fits : own ≤ 120 - classOf b i) where
+  -- the cell's own record, and its contracts
+  abbrev record-of : ℕ
+  record-of = rowAt b i own
+
+  abbrev contracts : ℕ
+  contracts = fieldOf b record-of countOffset
+
+  here : (k : ℕ) → k < 50 → RowOf b w (chainSex chain) (rowAt b record-of k) t (own + k)
+  here k h = rw (row-sum b i own k) at (rows (own + k) (omega (arith, s .0 .class-high)))
+
+  pub walkable : Walkable t own contracts
+  walkable = record { rows = λ k h. here k h .ready; fits = omega arith; few = row-standing b chain i s own .0 .count }
+
+  sex-is : sexOf b record-of ≡ chainSex chain
+  sex-is = row-standing b chain i s own .0 .sex
+
+  -- what lives on and what stays, in the first five years and later
+  living-is : (k : ℕ) → k < 50 → rate t (own + k) (laterIn k) ≡ oneLess (mortalityOf b (sexOf b record-of) (classOf b (rowAt b record-of k))) (mortalityIn w (sexOf b record-of) k)
+  unfolding laterIn
+  living-is k h = by (ltb k 5) refl
+    where
+      by : (early : Bool) → ltb k 5 ≡ early → rate t (own + k) (laterIn k) ≡ oneLess (mortalityOf b (sexOf b record-of) (classOf b (rowAt b record-of k))) (mortalityIn w (sexOf b record-of) k)
+      by true e = rw (e, sex-is) (here k h .first-living)
+      by false e = rw (e, sex-is) (here k h .later-living)
+
+  staying-is : (k : ℕ) → k < 50 → rate t (own + k) (2 + laterIn k) ≡ oneLess (fieldOf b (rowAt b record-of k) lapseOffset) (lapseIn w k)
+  unfolding laterIn
+  staying-is k h = by (ltb k 5) refl
+    where
+      by : (early : Bool) → ltb k 5 ≡ early → rate t (own + k) (2 + laterIn k) ≡ oneLess (fieldOf b (rowAt b record-of k) lapseOffset) (lapseIn w k)
+      by true e = rw e (here k h .first-staying)
+      by false e = rw e (here k h .later-staying)
+
+  pub inforce-same : (k : ℕ) → k ≤ 50 → inForce rounded (cellIn t own contracts) k ≡ inForce rounded (cellOf b w record-of) k
+  unfolding inForce cellIn cellOf
+  inforce-same zero h = refl
+  inforce-same (suc k) h = rw (inforce-same k (omega arith), living-is k (omega arith), staying-is k (omega arith))
+
+  pub premium-same : (k : ℕ) → k < 50 → premiumBy (cellIn t own contracts) k ≡ premiumAt b w record-of k
+  unfolding premiumAt premiumBy cellPremium cellIn cellOf
+  premium-same k h = rw (inforce-same k (omega arith), here k h .premium-is)
+
+  pub claims-same : (k : ℕ) → k < 50 → claimsBy (cellIn t own contracts) k ≡ claimsAt b w record-of k
+  unfolding claimsAt claimsBy cellClaims cellIn cellOf
+  claims-same k h = rw (inforce-same k (omega arith), here k h .claims-is)
+
+one-less-le : (rate weight : ℕ) → oneLess rate weight ≤ 1_000_000_000
+unfolding oneLess
+one-less-le rate weight = omega arith
+
+-- what the cell of a linked record adds in any year
+module _ (b : List ℕ) (w : Decrements) (chain i : ℕ) (s : Standing b 120 chain i) where
+  inforce-le : (k : ℕ) → inForce rounded (cellOf b w i) k ≤ 100_000_000_000_000
+  unfolding inForce cellOf
+  inforce-le zero = omega (arith, s .0 .count)
+  inforce-le (suc k) = le-trans (share-le _ _ (one-less-le _ (lapseIn w k))) (le-trans (share-le _ _ (one-less-le _ (mortalityIn w (sexOf b i) k))) (inforce-le k))
+
+  pub premium-at-le : (k : ℕ) → premiumAt b w i k ≤ 1_000_000_000_000
+  unfolding premiumAt premiumBy cellPremium cellOf
+  premium-at-le k = div-le-of-le-mul 1_000_000_000 (le-trans (mul-le-mul (inforce-le k) (row-standing b chain i s k .0 .premium)) (omega arith))
+
+  pub claims-at-le : (k : ℕ) → claimsAt b w i k ≤ 1_000_000_000_000
+  unfolding claimsAt claimsBy cellClaims cellOf
+  claims-at-le k = div-le-of-le-mul 1_000_000_000 (le-trans (mul-le-mul (inforce-le k) (row-standing b chain i s k .0 .claims)) (omega arith))

@@ -1,0 +1,55 @@
+-- `settling::step_years` meets its contract. The invariant: the years from `from` to before k have gone a year back.
+-- The measure is the number of years left. Assumes nothing.
+use mathlib.Core.Path.{_≡_}
+use Prim.Native.Nat.{_-_, _≤_}
+use native.Mathlib.Omega.{arith}
+use borrow.Author.Needs.{needs}
+use Rattle.settling.specs.Settling.{Stepped}
+use Rattle.settling.proofs.Discounting.{stepped-none, stepped-more}
+use Rattle.settling.proofs.step_years.Statement.{statement}
+use Rattle.settling.proofs.step_years.Tie as tie
+
+abbrev Inv-loop : tie.InvT-loop
+Inv-loop divisors fractions from to premium₀ outgo₀ k₀ premium outgo k =
+    (from ≤ k) × (k ≤ to) × Stepped divisors from k premium₀ premium × Stepped divisors from k outgo₀ outgo
+
+abbrev μ-loop : tie.MeasureT-loop
+μ-loop divisors fractions from to premium₀ outgo₀ k₀ premium outgo k = to - k
+
+loop-holds : tie.Need-loop-holds Inv-loop μ-loop
+loop-holds c = (omega arith, omega arith, stepped-none _ _ _, stepped-none _ _ _)
+
+step-year-requires : tie.Need-step-year-requires Inv-loop μ-loop
+step-year-requires c κs =
+    let m = c .before .before in
+    let l = m .loop in
+    let a = m .before in
+    (omega arith, rw (l .inv .2 .later (l .k) (omega arith)) (a .pre .3 (l .k) (omega arith)), a .pre .2)
+
+step-year-requires-2 : tie.Need-step-year-requires-2 Inv-loop μ-loop
+step-year-requires-2 c κs =
+    let m = c .before .before .before .before in
+    let l = m .loop in
+    let a = m .before in
+    (omega arith, rw (l .inv .3 .later (l .k) (omega arith)) (a .pre .4 (l .k) (omega arith)), a .pre .2)
+
+loop-again : tie.Need-loop-again Inv-loop μ-loop
+loop-again c =
+    let p = c .before .before .step-year in
+    let o = c .step-year2 in
+    let l = c .before .before .before .before .before .loop in (
+      omega arith,
+      omega arith,
+      stepped-more _ _ _ (l .k) (l .premium) _ (omega arith) (l .inv .2) (p .ensures),
+      stepped-more _ _ _ (l .k) (l .outgo) _ (omega arith) (l .inv .3) (o .ensures),
+    )
+
+returns : tie.Need-returns Inv-loop μ-loop
+returns c =
+    let l = c .before .loop in
+    let e : l .k ≡ c .before .before .args .to = omega arith in
+    (rw e at (l .inv .2), rw e at (l .inv .3))
+
+pub step-years-spec : {M : Type 1} → statement M
+step-years-spec = tie.close
+    (tie.spec Inv-loop μ-loop loop-holds step-year-requires step-year-requires-2 (search needs) (search needs) loop-again returns)

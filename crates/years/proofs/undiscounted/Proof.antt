@@ -1,0 +1,72 @@
+-- `years::undiscounted` meets its contract. The invariant: the tables have premium and outgo of the years from `from` to before k.
+-- The measure is the number of years left. Assumes nothing.
+use mathlib.Core.Path.{_≡_, refl, _∙_}
+use Prim.Native.Nat.{_-_, _≤_, _<_}
+use native.Mathlib.Omega.{arith}
+use borrow.Author.Needs.{needs}
+use lib.ListN.{length, getD, length-set}
+use Rattle.settling.proofs.Settling.{outgo-of, premium-of}
+use Rattle.years.specs.Outcome.{InYears, premiumBefore, outgoBefore}
+use Rattle.years.proofs.Tables.{in-none, in-more}
+use Rattle.years.proofs.undiscounted.Statement.{statement}
+use Rattle.years.proofs.undiscounted.Tie as tie
+
+abbrev Inv-loop : tie.InvT-loop
+Inv-loop book setting group from to w rate due claims premium₀ outgo₀ k₀ premium outgo k =
+    (from ≤ k) × (k ≤ to) × (length premium ≡ 50) × (length outgo ≡ 50)
+    × InYears (premiumBefore book setting group) 4000000000000000 from k premium × InYears (outgoBefore book setting group) 4000000000000000 from k outgo
+
+abbrev μ-loop : tie.MeasureT-loop
+μ-loop book setting group from to w rate due claims premium₀ outgo₀ k₀ premium outgo k = to - k
+
+cost-rate-of-requires : tie.Need-cost-rate-of-requires Inv-loop μ-loop
+cost-rate-of-requires c κs = let a = c .before .before in (a .pre .1, a .pre .2, a .pre .5)
+
+loop-holds : tie.Need-loop-holds Inv-loop μ-loop
+loop-holds c = (omega arith, omega arith, refl, refl, in-none _ _ _, in-none _ _ _)
+
+outgo-requires : tie.Need-outgo-requires Inv-loop μ-loop
+outgo-requires c κs =
+    let m = c .before in
+    let n = m .before .before .before .before in
+    let a = n .before .before in
+    (n .new .ensures .1, m .before .before .before .cost-rate-of .ensures .1, a .pre .6 .premium-most _, a .pre .6 .claims-most _)
+
+loop-again : tie.Need-loop-again Inv-loop μ-loop
+loop-again c =
+    let o = c .before .outgo in
+    let m = c .before .before .before in
+    let l = m .loop in
+    let r = m .before .before .before in
+    let n = r .before in
+    let a = n .before .before in
+    let b = a .args .book .now in
+    let s = a .args .setting in
+    let g = a .args .group in
+    let lt : l .k < 50 = omega (arith, c .before .before .loop-test .taken) in
+    let due = getD (a .args .sums .premium) (l .k) 0 in
+    let eo : o .result ≡ outgoBefore b s g (l .k) =
+    outgo-of b s g (l .k) (r .cost-rate-of .result) due (getD (a .args .sums .claims) (l .k) 0) (o .result) (rw (n .new .ensures .0) at (o .ensures .0))
+    (r .cost-rate-of .ensures .0) (a .pre .6 .premium-is (l .k) lt) (a .pre .6 .claims-is (l .k) lt) in (
+      omega arith,
+      omega (arith, c .before .before .loop-test .taken),
+      length-set (l .premium) (l .k) _ ∙ l .inv .2,
+      length-set (l .outgo) (l .k) _ ∙ l .inv .3,
+      in-more _ _ _ (l .k) _ (l .premium) (omega (arith, l .inv .2)) (l .inv .4)
+          (premium-of b s g (l .k) due (o .result) (c .counted .result) (c .counted .ensures .0) (a .pre .6 .premium-is (l .k) lt) eo)
+          (omega (arith, c .counted .ensures .1, a .pre .6 .premium-most (l .k))),
+      in-more _ _ _ (l .k) _ (l .outgo) (omega (arith, l .inv .3)) (l .inv .5) eo (omega (arith, o .ensures .1)),
+    )
+
+returns : tie.Need-returns Inv-loop μ-loop
+returns c =
+    let l = c .before .loop in
+    let e : l .k ≡ c .before .before .before .before .before .before .before .args .to = omega arith in
+    record { premium-in = rw e at (l .inv .4); outgo-in = rw e at (l .inv .5) }
+
+pub undiscounted-spec : {M : Type 1} → statement M
+undiscounted-spec =
+    tie.close
+    (tie.spec Inv-loop μ-loop (search needs) cost-rate-of-requires loop-holds (λ c. omega arith) (λ c. omega arith) (λ c. omega arith)
+    (λ c. omega arith) outgo-requires (λ c. omega arith) (λ c. omega arith) (λ c. omega arith) (λ c. omega arith) (search needs)
+    (λ c. omega arith) (λ c. omega arith) (λ c. omega arith) (λ c. omega arith) loop-again returns)
