@@ -20,9 +20,9 @@ use Rattle.reckoning.specs.Steps.{held, sumCells, premiumSum, claimsSum}
 use Rattle.reckoning.specs.Portfolio.{rowAt, linksFrom, chainLinks, linksOf, cellsOf}
 use Rattle.reckoning.proofs.Rows.{chain-standing}
 use Rattle.reckoning.proofs.Members.{counted, links-counted, held-links}
-use Rattle.projection.specs.Tables.{added, addedAll, AtMost}
+use Rattle.walks.specs.Tables.{added, addedAll, AtMost}
 use Rattle.cell.specs.States.{premiumBy, claimsBy, premiumAt, claimsAt}
-use Rattle.projection.proofs.Years.{length-added, added-at, added-most}
+use Rattle.walks.proofs.Years.{length-added, added-at, added-most}
 
 -- the sum over a list of what f gives
 unfoldable pub sumOver : (ℕ → ℕ) → List ℕ → ℕ

@@ -1,3 +1,1 @@
-pub mod Years
-pub mod Ends
 pub mod Adding

@@ -1,3 +1,1 @@
-pub mod Tables
-pub mod Ends
 pub mod Added

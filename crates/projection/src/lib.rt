@@ -1,107 +1,14 @@
-// The year sums of a product group: each cell of its chains walked through the fifty years.
+// The year sums of a product group: the walks of the cells of its chains, added up.
 // Internal: the functions ask for an accepted book's rules, which the calls above have from the check.
 ghost use mathlib.Core.Path.{_≡_};
-ghost use Prim.Native.Nat.{_+_, _*_, _<_, _≤_, _^_};
-ghost use lib.ListN.{getD, set};
+ghost use Prim.Native.Nat.{_+_, _*_, _<_, _≤_};
 ghost use Rattle.book.specs.Cells.{firstChain, chainsOf};
 ghost use Rattle.book.specs.Reading.{Standing, ValidBook};
 ghost use Rattle.settings.specs.Settings.{Weighed};
 ghost use Rattle.rows.specs.Rows.{RowsOf};
-ghost use Rattle.cell.specs.States.{cellIn, stateIn, Walkable};
-ghost use Rattle.projection.specs.Tables.{AtMost};
-ghost use Rattle.projection.specs.Ends.{Going};
-ghost use Rattle.projection.specs.Added.{WalkedFrom, WalkedBy, WalkedTwo, CellsAdded, ChainAdded, YearSums};
-use cell::Cell;
+ghost use Rattle.walks.specs.Tables.{AtMost};
+ghost use Rattle.projection.specs.Added.{CellsAdded, ChainAdded, YearSums};
 use settings::Decrements;
-
-// Adds x to number k of a year table.
-fn add_at(table: &mut [u64; 50], k: usize, x: u64)
-    requires { ⌜ (k < 50) × (getD (now table) k 0 + x < 2 ^ 64) ⌝ }
-    ensures { λ _. ⌜ now (table .exit) ≡ set (now (table .entry)) k (getD (now (table .entry)) k 0 + x) ⌝ }
-{
-    table[k] = table[k] + x;
-}
-
-// Goes on with the walk of a cell from its state in year m: adds premium and claims, year by year, to the sums up to the first year with nothing
-// in force, and hands back how many years the walk has then reckoned, from k = 0 on. The next year's state comes first: the years after wait for
-// it alone. The cell starts at the row `own` with `count` contracts.
-fn walk_from(
-    rows: &[u64; 2040],
-    own: usize,
-    count: u64,
-    m: usize,
-    start: Cell,
-    premium: &mut [u64; 50],
-    claims: &mut [u64; 50],
-) -> usize
-    requires { ⌜ Walkable (now rows) own count × (m ≤ 50) × (start ≡ stateIn (now rows) own count m) × Going (cellIn (now rows) own count) m ⌝ }
-    requires { ⌜ (AtMost 3000000000000000 (now premium)) × (AtMost 3000000000000000 (now claims)) ⌝ }
-    ensures { λ n. ⌜ WalkedFrom (cellIn (now (rows .entry)) own count) m n (now (premium .entry)) (now (premium .exit)) (now (claims .entry)) (now (claims .exit)) ⌝ }
-{
-    let mut cell = start;
-    for k in m..50 {
-        if cell.inforce == 0 {
-            return k;
-        }
-        let next = cell.next_year(rows, k);
-        add_at(premium, k, cell.premium(rows));
-        add_at(claims, k, cell.claims(rows));
-        cell = next;
-    }
-    50
-}
-
-// The walk of a cell from k = 0 on.
-pub fn walk(
-    rows: &[u64; 2040],
-    own: usize,
-    count: u64,
-    premium: &mut [u64; 50],
-    claims: &mut [u64; 50],
-) -> usize
-    requires { ⌜ Walkable (now rows) own count × (AtMost 2000000000000000 (now premium)) × (AtMost 2000000000000000 (now claims)) ⌝ }
-    ensures { λ n. ⌜ WalkedBy (cellIn (now (rows .entry)) own count) n (now (premium .entry)) (now (premium .exit)) (now (claims .entry)) (now (claims .exit)) ⌝ }
-{
-    let start = Cell::new(own, count);
-    walk_from(rows, own, count, 0, start, premium, claims)
-}
-
-// How many years the walks of two cells reckoned.
-pub struct Counts {
-    pub first: usize,
-    pub second: usize,
-}
-
-// The walks of two neighbouring cells, side by side while both have something in force, so that neither waits for the other; then each alone
-// to its own end. They start at the rows `own` and the next, with so many contracts each.
-fn walk_two(
-    rows: &[u64; 2040],
-    own: usize,
-    count: u64,
-    other: u64,
-    premium: &mut [u64; 50],
-    claims: &mut [u64; 50],
-) -> Counts
-    requires { ⌜ Walkable (now rows) own count × Walkable (now rows) (own + 1) other ⌝ }
-    requires { ⌜ (AtMost 2000000000000000 (now premium)) × (AtMost 2000000000000000 (now claims)) ⌝ }
-    ensures { λ n. ⌜ WalkedTwo (cellIn (now (rows .entry)) own count) (cellIn (now (rows .entry)) (own + 1) other) n (now (premium .entry)) (now (premium .exit)) (now (claims .entry)) (now (claims .exit)) ⌝ }
-{
-    let mut a = Cell::new(own, count);
-    let mut b = Cell::new(own + 1, other);
-    let mut k = 0usize;
-    while k < 50 && 0 < a.inforce && 0 < b.inforce {
-        let c = a.next_year(rows, k);
-        let d = b.next_year(rows, k);
-        add_at(premium, k, a.premium(rows) + b.premium(rows));
-        add_at(claims, k, a.claims(rows) + b.claims(rows));
-        a = c;
-        b = d;
-        k += 1;
-    }
-    let first = walk_from(rows, own, count, k, a, premium, claims);
-    let second = walk_from(rows, own + 1, other, k, b, premium, claims);
-    Counts { first, second }
-}
 
 // The sums of the years k = 0 to 49 of a product group, before weights, costs and the cap; and its n.
 pub struct Sums {
@@ -118,7 +25,7 @@ fn first_chain(group: usize) -> usize
     if group == 1 { 0 } else { 2 * group + 2 }
 }
 
-// Adds the cells of a chain, whose rows are read from its head on, to the sums, two at a time, and hands back how many of them hold contracts.
+// Adds the cells of a chain, whose rows are read from its head on, to the sums, three at a time, and hands back how many of them hold contracts.
 fn add_cells(
     book: &[u8],
     w: Decrements,
@@ -136,23 +43,33 @@ fn add_cells(
     let mut own = 0usize;
     let mut above = book::LAST_CLASS - book::class_of(book, head);
     let mut n: u64 = 0;
-    while 0 < above {
+    while 1 < above {
         let j = book::next_of(book, i);
+        let l = book::next_of(book, j);
         let count = book::field_of(book, i, book::COUNT_OFFSET);
         let other = book::field_of(book, j, book::COUNT_OFFSET);
-        walk_two(rows, own, count, other, premium, claims);
+        let last = book::field_of(book, l, book::COUNT_OFFSET);
+        walks::walk_three(rows, own, count, other, last, premium, claims);
         n += book::holds(book, i);
         n += book::holds(book, j);
-        if above == 1 {
+        n += book::holds(book, l);
+        if above == 2 {
             return n;
         }
-        i = book::next_of(book, j);
-        own += 2;
-        above -= 2;
+        i = book::next_of(book, l);
+        own += 3;
+        above -= 3;
     }
     let count = book::field_of(book, i, book::COUNT_OFFSET);
-    walk(rows, own, count, premium, claims);
-    n + book::holds(book, i)
+    walks::walk(rows, own, count, premium, claims);
+    n += book::holds(book, i);
+    if above == 0 {
+        return n;
+    }
+    let j = book::next_of(book, i);
+    let other = book::field_of(book, j, book::COUNT_OFFSET);
+    walks::walk(rows, own + 1, other, premium, claims);
+    n + book::holds(book, j)
 }
 
 // Adds the cells of chain k to the sums, and hands back how many of them hold contracts. The rows are room to work in.

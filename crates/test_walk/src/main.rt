@@ -31,7 +31,7 @@ fn first_walk(book: &[u8], setting: usize, chain: usize) -> Years {
     let mut claims = [0u64; 50];
     rows::read_rows(book, Decrements::new(book, setting), chain, head, &mut rows);
     let count = book::field_of(book, head, book::COUNT_OFFSET);
-    Years::Reckoned(projection::walk(&rows, 0, count, &mut premium, &mut claims))
+    Years::Reckoned(walks::walk(&rows, 0, count, &mut premium, &mut claims))
 }
 
 fn write_years(years: Years) {

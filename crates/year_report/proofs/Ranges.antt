@@ -19,7 +19,7 @@ use Rattle.reckoning.specs.Portfolio.{chainLinks, linksOf, groupLinks, groupCel
 use Rattle.reckoning.proofs.Accepted.{chains-few, divisor-low, good-terms}
 use Rattle.cell.specs.States.{premiumAt, claimsAt}
 use Rattle.cell.proofs.Agreement.{premium-at-le, claims-at-le}
-use Rattle.projection.specs.Tables.{addedAll, AtMost}
+use Rattle.walks.specs.Tables.{addedAll, AtMost}
 use Rattle.projection.proofs.Adding.{Small, sumOver, added-append, sum-from-zero, links-most, zero-most}
 use Rattle.projection.proofs.Adding.{premium-sum-is, claims-sum-is}
 

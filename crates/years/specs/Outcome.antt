@@ -41,6 +41,13 @@ pub record Undiscounted (b : List ℕ) (setting g from to : ℕ) (premium outgo 
   pub premium-in : InYears (premiumBefore b setting g) 4_000_000_000_000_000 from to premium
   pub outgo-in : InYears (outgoBefore b setting g) 4_000_000_000_000_000 from to outgo
 
+-- of the years from `from` to before `to`, those from `end` on have neither premium nor outgo
+pub record NoneFrom (premium outgo : List ℕ) (from to end : ℕ) : Type 0 where
+  pub least : from ≤ end
+  pub most : end ≤ to
+  pub no-premium : (k : ℕ) → end ≤ k → k < to → getD premium k 0 ≡ 0
+  pub no-outgo : (k : ℕ) → end ≤ k → k < to → getD outgo k 0 ≡ 0
+
 -- discounted outgo and premium of product group g by year
 abbrev pub outgoIn : List ℕ → ℕ → ℕ → ℕ → ℕ
 outgoIn b setting g = discountedOutgo rounded (termsOf b setting g) (groupCells b (decrementsOf b setting) g)

@@ -5,7 +5,7 @@ ghost use lib.ListN.{length};
 ghost use Rattle.book.specs.Reading.{ValidBook};
 ghost use Rattle.settings.specs.Settings.{decrementsOf};
 ghost use Rattle.projection.specs.Added.{YearSums};
-ghost use Rattle.years.specs.Outcome.{CurveOf, Undiscounted, Settled, SettledIn};
+ghost use Rattle.years.specs.Outcome.{CurveOf, Undiscounted, NoneFrom, Settled, SettledIn};
 use projection::Sums;
 use settings::Outgoings;
 use settling::Year;
@@ -102,6 +102,18 @@ pub struct Amounts {
     pub outgo: u64,
 }
 
+// The end of the years that have an amount, among those from `from` to before `to`: later ones have none, which no year's discounting changes.
+fn end_of(premium: &[u64; 50], outgo: &[u64; 50], from: usize, to: usize) -> usize
+    requires { ⌜ (from ≤ to) × (to ≤ 50) ⌝ }
+    ensures { λ r. ⌜ NoneFrom (now (premium .entry)) (now (outgo .entry)) from to r ⌝ }
+{
+    let mut end = to;
+    while from < end && premium[end - 1] == 0 && outgo[end - 1] == 0 {
+        end -= 1;
+    }
+    end
+}
+
 // What the years from `from` to before `to` give.
 pub fn settle_in(
     book: &[u8],
@@ -114,16 +126,23 @@ pub fn settle_in(
     to: usize,
 ) -> Amounts
     requires { ⌜ (setting < 8) × (1 ≤ group) × (group ≤ 5) × (from ≤ to) × (to ≤ 50) × ValidBook 1 (now book) × YearSums (now book) (decrementsOf (now book) setting) group sums ⌝ }
-    requires { ⌜ (0 < to) × CurveOf (now book) (now divisors) (now fractions) ⌝ }
+    requires { ⌜ CurveOf (now book) (now divisors) (now fractions) ⌝ }
     ensures { λ r. ⌜ SettledIn (now (book .entry)) setting group from to r ⌝ }
 {
     let years = undiscounted(book, setting, group, sums, from, to);
     let mut premium = years.premium;
     let mut outgo = years.outgo;
-    settling::discount(divisors, fractions, to - 1, to, &mut premium, &mut outgo);
+    let end = end_of(&premium, &outgo, from, to);
+    if end == 0 {
+        return Amounts {
+            premium: 0,
+            outgo: 0,
+        };
+    }
+    settling::discount(divisors, fractions, end - 1, end, &mut premium, &mut outgo);
     let mut paid: u64 = 0;
     let mut earned: u64 = 0;
-    for k in from..to {
+    for k in from..end {
         paid = paid + outgo[k];
         earned = earned + premium[k];
     }

@@ -9,7 +9,7 @@ use Rattle.book.specs.Reading.{Standing}
 use Rattle.reckoning.specs.Portfolio.{linksFrom}
 use Rattle.reckoning.proofs.Rows.{chain-standing}
 use Rattle.cell.specs.States.{premiumAt, claimsAt}
-use Rattle.projection.specs.Tables.{addedAll}
+use Rattle.walks.specs.Tables.{addedAll}
 use Rattle.projection.proofs.Adding.{links-empty, cells-empty, head-chain}
 use Rattle.projection.proofs.add_chain.Statement.{statement}
 use Rattle.projection.proofs.add_chain.Tie as tie

@@ -8,7 +8,7 @@ use Rattle.book.proofs.Valid.{valid}
 use Rattle.reckoning.specs.Portfolio.{rowAt}
 use Rattle.reckoning.proofs.Rows.{chain-standing}
 use Rattle.projection.proofs.Adding.{head-chain, zero-most}
-use Rattle.projection.proofs.Ends.{walkable-here}
+use Rattle.walks.proofs.Ends.{walkable-here}
 use Rattle.test_walk.proofs.first_walk.Statement.{statement}
 use Rattle.test_walk.proofs.first_walk.Tie as tie
 

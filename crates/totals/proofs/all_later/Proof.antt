@@ -6,19 +6,19 @@ use Rattle.totals.proofs.all_later.Statement.{statement}
 use Rattle.totals.proofs.all_later.Tie as tie
 
 settle-in-requires : tie.Need-settle-in-requires
-settle-in-requires c κs = let a = c .before .before .before .before .before .before in ((a .pre .0, omega arith, omega arith, omega arith, omega arith, a .pre .1, a .pre .2 0 (omega arith)), (omega arith, a .pre .3))
+settle-in-requires c κs = let a = c .before .before .before .before .before .before in ((a .pre .0, omega arith, omega arith, omega arith, omega arith, a .pre .1, a .pre .2 0 (omega arith)), a .pre .3)
 
 settle-in-requires-2 : tie.Need-settle-in-requires-2
-settle-in-requires-2 c κs = let a = c .before .before .before .before .before .before .before in ((a .pre .0, omega arith, omega arith, omega arith, omega arith, a .pre .1, a .pre .2 1 (omega arith)), (omega arith, a .pre .3))
+settle-in-requires-2 c κs = let a = c .before .before .before .before .before .before .before in ((a .pre .0, omega arith, omega arith, omega arith, omega arith, a .pre .1, a .pre .2 1 (omega arith)), a .pre .3)
 
 settle-in-requires-3 : tie.Need-settle-in-requires-3
-settle-in-requires-3 c κs = let a = c .before .before .before .before .before .before .before .before in ((a .pre .0, omega arith, omega arith, omega arith, omega arith, a .pre .1, a .pre .2 2 (omega arith)), (omega arith, a .pre .3))
+settle-in-requires-3 c κs = let a = c .before .before .before .before .before .before .before .before in ((a .pre .0, omega arith, omega arith, omega arith, omega arith, a .pre .1, a .pre .2 2 (omega arith)), a .pre .3)
 
 settle-in-requires-4 : tie.Need-settle-in-requires-4
-settle-in-requires-4 c κs = let a = c .before .before .before .before .before .before .before .before .before in ((a .pre .0, omega arith, omega arith, omega arith, omega arith, a .pre .1, a .pre .2 3 (omega arith)), (omega arith, a .pre .3))
+settle-in-requires-4 c κs = let a = c .before .before .before .before .before .before .before .before .before in ((a .pre .0, omega arith, omega arith, omega arith, omega arith, a .pre .1, a .pre .2 3 (omega arith)), a .pre .3)
 
 settle-in-requires-5 : tie.Need-settle-in-requires-5
-settle-in-requires-5 c κs = let a = c .before .before .before .before .before .before .before .before .before .before in ((a .pre .0, omega arith, omega arith, omega arith, omega arith, a .pre .1, a .pre .2 4 (omega arith)), (omega arith, a .pre .3))
+settle-in-requires-5 c κs = let a = c .before .before .before .before .before .before .before .before .before .before in ((a .pre .0, omega arith, omega arith, omega arith, omega arith, a .pre .1, a .pre .2 4 (omega arith)), a .pre .3)
 
 returns : tie.Need-returns
 returns c =

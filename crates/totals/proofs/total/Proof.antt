@@ -28,7 +28,7 @@ settle-in-requires : tie.Need-settle-in-requires Inv-loop μ-loop
 settle-in-requires c κs =
     let m = c .before .before .before in
     let a = m .before .before in
-    ((a .pre .0, omega arith, omega arith, omega arith, omega arith, a .pre .1, a .pre .2 (m .loop .j) (omega arith)), (omega arith, a .pre .4))
+    ((a .pre .0, omega arith, omega arith, omega arith, omega arith, a .pre .1, a .pre .2 (m .loop .j) (omega arith)), a .pre .4)
 
 add-less : tie.Need-add-less Inv-loop μ-loop
 add-less c =

@@ -1,6 +1,6 @@
 -- Where a cell's walk ends: at the first year with nothing in force, after which nothing is added. Assumes nothing.
 use mathlib.Core.Path.{_≡_, refl, sym, _∙_}
-use mathlib.Core.Logic.{⊎-elim}
+use mathlib.Core.Logic.{_⊎_, inl, inr, ⊎-elim}
 use mathlib.Core.Bool.{Bool, true, false}
 use mathlib.Core.List.{List}
 use Prim.Native.Nat.{ℕ, zero, suc, _+_, _-_, _<_, _≤_}
@@ -19,10 +19,11 @@ use Rattle.reckoning.specs.Portfolio.{rowAt, cellOf}
 use Rattle.rows.specs.Rows.{RowsOf}
 use Rattle.cell.specs.States.{cellIn, Walkable, premiumBy, claimsBy, premiumAt, claimsAt}
 use Rattle.cell.proofs.Agreement.{walkable, inforce-same, premium-same, claims-same}
-use Rattle.projection.specs.Tables.{added, late}
-use Rattle.projection.specs.Ends.{firstZero, yearsInForce, Going}
-use Rattle.projection.specs.Added.{WalkedFrom, WalkedBy, Walked}
-use Rattle.projection.proofs.Years.{added-same, late-rest}
+use Rattle.walks.specs.Tables.{added, late}
+use Rattle.walks.specs.Ends.{firstZero, yearsInForce, Going}
+use Rattle.walks.specs.Walked.{WalkedTo, WalkedFrom, WalkedBy, Walked}
+use Rattle.walks.specs.declared.Stop.{Stop}
+use Rattle.walks.proofs.Years.{added-same, late-rest}
 
 -- n is the first year from k on and before m in which f is 0, or m where there is none
 pub record IsFirst (f : ℕ → ℕ) (k m n : ℕ) : Type 0 where
@@ -110,6 +111,15 @@ module _ (c : Cell) where
         claims = eq ∙ late-rest m n (claimsBy c) q h (r .most) (λ j g l. no-claims j (none j g l));
         years = e;
       }
+
+-- a walk up to year 50 stops where its years end
+pub walked-out : (t : List ℕ) (r n m : ℕ) (s : Stop) (p p′ q q′ : List ℕ) → WalkedTo t r n m 50 s p p′ q q′ → WalkedFrom (cellIn t r n) m (s .k) p p′ q q′
+unfolding firstZero
+walked-out t r n m s p p′ q q′ e = walked-from (cellIn t r n) m (s .k) p p′ q q′ (e .since) (all (eq-or-lt-of-le (e .most))) (e .premium) (e .claims)
+  where
+    all : (s .k ≡ 50) ⊎ (s .k < 50) → s .k ≡ yearsInForce (cellIn t r n)
+    all (inl z) = z ∙ (rw z at (e .going))
+    all (inr h) = sym (first-here _ (s .k) (50 - s .k) (omega arith) (e .ended h)) ∙ e .going
 
 -- a search of two functions that agree
 pub first-same : (f g : ℕ → ℕ) (left k : ℕ) → ((j : ℕ) → j < k + left → f j ≡ g j) → firstZero f k left ≡ firstZero g k left

@@ -22,3 +22,7 @@ AtMost m t = (j : ℕ) → getD t j 0 ≤ m
 -- f from year m on, and nothing before
 unfoldable pub late : ℕ → (ℕ → ℕ) → ℕ → ℕ
 late m f k = pick (ltb k m) 0 (f k)
+
+-- what three cells add together
+unfoldable pub three : (ℕ → ℕ) → (ℕ → ℕ) → (ℕ → ℕ) → ℕ → ℕ
+three f g h k = f k + g k + h k

@@ -1,12 +1,11 @@
--- `projection::walk` meets its contract: a walk from year 0 on. Assumes nothing.
+-- `walks::walk` meets its contract: a walk from year 0 on. Assumes nothing.
 use mathlib.Core.Path.{sym, _∙_}
 use native.Mathlib.Omega.{arith}
-use borrow.Author.Needs.{needs}
 use Rattle.cell.proofs.Cells.{state-start}
-use Rattle.projection.proofs.Years.{late-zero}
-use Rattle.projection.proofs.Ends.{going-first}
-use Rattle.projection.proofs.walk.Statement.{statement}
-use Rattle.projection.proofs.walk.Tie as tie
+use Rattle.walks.proofs.Years.{late-zero}
+use Rattle.walks.proofs.Ends.{going-first}
+use Rattle.walks.proofs.walk.Statement.{statement}
+use Rattle.walks.proofs.walk.Tie as tie
 
 new-requires : tie.Need-new-requires
 new-requires c κs = c .pre .0 .few
