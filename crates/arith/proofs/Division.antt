@@ -1,7 +1,7 @@
 -- The division fact, for all divisors together, bounds of products, and quotients by a product's upper part. Assumes nothing.
 use mathlib.Core.Path.{_≡_, sym, ap, _∙_}
 use Prim.Native.Nat.{ℕ, zero, suc, _+_, _-_, _*_, _/_, _%_, _≤_, _<_}
-use native.Mathlib.Nat.{div-add-mod', div-mul-le-self, lt-div-mul-add, le-of-mul-le-mul-right, lt-of-mul-lt-mul-right, div-eq-of-lt, add-mul, mul-assoc, mul-comm, mul-add-div-right, mul-le-mul, mul-le-mul-left, mul-le-mul-right, mod-lt, le-of-lt, mul-lt-mul-of-pos-right, lt-of-lt-of-le, zero-mul}
+use native.Mathlib.Nat.{one-mul, div-add-mod', div-mul-le-self, lt-div-mul-add, le-of-mul-le-mul-right, lt-of-mul-lt-mul-right, div-eq-of-lt, add-mul, mul-assoc, mul-comm, mul-add-div-right, mul-le-mul, mul-le-mul-left, mul-le-mul-right, mod-lt, le-of-lt, mul-lt-mul-of-pos-right, lt-of-lt-of-le, zero-mul}
 use native.Mathlib.Omega.{arith}
 use Rattle.arith.specs.Fractions.{Fraction}
 
@@ -154,3 +154,20 @@ no-carry low x most h fits k = omega arith
 
 pub one-carry : (p x : ℕ) → x < 18446744073709551616 → p % 18446744073709551616 + x < 2 * 18446744073709551616
 one-carry p x h = omega arith
+
+-- so the upper half is the quotient where the lower half leaves room for the largest x; and anywhere it can be mended
+module _ (x w d f q most : ℕ) (some : 0 < d) (e : Fraction w d f) (upper-half : q ≡ x * f / 18446744073709551616) (h : x ≤ most)
+    (fits : most ≤ 18446744073709551615) where
+  pub part-sure : (low : ℕ) → low ≡ x * f % 18446744073709551616 → low ≤ 18446744073709551615 - most → q ≡ x * w / d
+  part-sure low lower-half room =
+      quotient-is (x * w) d q some (part-below x w d f q some e upper-half)
+      (rw (one-mul d) at (part-above x w d f q some e upper-half 1 (no-carry _ x most h (omega (arith, fits)) (rw lower-half at room))))
+
+  pub part-short : d < 9223372036854775808 → f ≤ 18446744073709551615
+      → (d < 9223372036854775808) × (q < 18446744073709551615) × (q * d ≤ x * w) × (x * w < q * d + 2 * d)
+  part-short small g = (
+    small,
+    high-small x f q (omega (arith, h, fits)) g upper-half,
+    part-below x w d f q some e upper-half,
+    part-above x w d f q some e upper-half 2 (one-carry _ x (omega (arith, h, fits))),
+  )

@@ -57,15 +57,58 @@ fn mended(x: u64, w: u64, d: u64, q: u64) -> u64
     if left < d { q } else { q + 1 }
 }
 
-// x times w over d, rounded down, by the fraction that w over d is: no division. The upper half of the product is the quotient, unless the
-// lower half ends so near below 2^64 that what the fraction lacks, at most x, may carry: then it is mended.
-pub fn part(x: u64, w: u64, d: u64, fraction: u64, most: u64) -> u64
-    requires { ⌜ (x ≤ most) × (0 < d) × (d < 9223372036854775808) × Fraction w d fraction ⌝ }
-    ensures { λ r. ⌜ r ≡ (x * w) / d ⌝ }
+// Two parts of amounts over one divisor.
+pub struct Two {
+    pub first: u64,
+    pub second: u64,
+}
+
+// x times w and y times v over d, rounded down, by the fractions that w over d and v over d are: no division. The upper half of a product is the
+// quotient, unless the lower half ends so near below 2^64 that what the fraction lacks, at most x, may carry. One branch serves both: where either
+// may be one too few, both are mended.
+pub fn two_parts(
+    x: u64,
+    w: u64,
+    fraction: u64,
+    y: u64,
+    v: u64,
+    other: u64,
+    d: u64,
+    most: u64,
+) -> Two
+    requires { ⌜ (x ≤ most) × (y ≤ most) × (0 < d) × (d < 9223372036854775808) × Fraction w d fraction × Fraction v d other ⌝ }
+    ensures { λ r. ⌜ (r .first ≡ (x * w) / d) × (r .second ≡ (y * v) / d) ⌝ }
 {
-    let q = mul_high(x, fraction);
-    if mul_low(x, fraction) <= u64::MAX - most {
-        return q;
+    let first = mul_high(x, fraction);
+    let second = mul_high(y, other);
+    let first_near = u64::MAX - most < mul_low(x, fraction);
+    let second_near = u64::MAX - most < mul_low(y, other);
+    if first_near || second_near {
+        return Two {
+            first: mended(x, w, d, first),
+            second: mended(y, v, d, second),
+        };
     }
-    mended(x, w, d, q)
+    Two { first, second }
+}
+
+// The part of a part: x times w over d, rounded down, and of that v over d. One branch serves both.
+pub fn part_of_part(x: u64, w: u64, fraction: u64, v: u64, other: u64, d: u64, most: u64) -> u64
+    requires { ⌜ (x ≤ most) × (w ≤ d) × (0 < d) × (d < 9223372036854775808) × Fraction w d fraction × Fraction v d other ⌝ }
+    ensures { λ r. ⌜ r ≡ ((x * w) / d * v) / d ⌝ }
+{
+    let first = mul_high(x, fraction);
+    let second = mul_high(first, other);
+    let first_near = u64::MAX - most < mul_low(x, fraction);
+    let second_near = u64::MAX - most < mul_low(first, other);
+    if first_near || second_near {
+        let whole = mended(x, w, d, first);
+        let upper = if whole == first {
+            second
+        } else {
+            mul_high(whole, other)
+        };
+        return mended(whole, v, d, upper);
+    }
+    second
 }

@@ -9,15 +9,15 @@ use native.Mathlib.Omega.{arith}
 use lib.Dec.{ltb}
 use Rattle.book.specs.Layout.{chainSex, sexOf, classOf, fieldOf, countOffset, lapseOffset, premiumOffset, claimsOffset}
 use Rattle.book.specs.Reading.{Standing}
-use Rattle.settings.specs.Settings.{mortalityIn, lapseIn}
+use Rattle.settings.specs.Settings.{weightOf, mortalityWeight, decrementsOf, mortalityIn, lapseIn}
 use Rattle.settings.specs.declared.Decrements.{Decrements}
 use Rattle.reckoning.specs.Arithmetic.{rounded}
 use Rattle.reckoning.specs.Steps.{inForce, cellPremium, cellClaims}
 use Rattle.reckoning.specs.Portfolio.{mortalityOf, oneLess, onward, rowAt, cellOf}
 use Rattle.reckoning.proofs.Rows.{row-standing}
-use Rattle.rows.specs.Rows.{rate, RowReady, RowOf, RowsOf}
-use Rattle.cell.specs.States.{laterIn, cellIn, Walkable, premiumBy, claimsBy, premiumAt, claimsAt}
-use Rattle.cell.proofs.Cells.{share-le}
+use Rattle.rows.specs.Rows.{rate, rateOf, RowReady, RowOf, RowsOf}
+use Rattle.cell.specs.States.{livingColumn, stayingColumn, cellIn, Walkable, premiumBy, claimsBy, premiumAt, claimsAt}
+use Rattle.cell.proofs.Cells.{share-le, living-low, staying-low}
 
 -- the record of a later year, from that of a year between
 pub row-sum : (b : List ℕ) (i j k : ℕ) → rowAt b i (j + k) ≡ rowAt b (rowAt b i j) k
@@ -25,7 +25,43 @@ unfolding rowAt
 row-sum b i j zero = ap (rowAt b i) (add-zero j)
 row-sum b i j (suc k) = rw (add-suc j k) (ap (onward b) (row-sum b i j k))
 
-module _ (b : List ℕ) (w : Decrements) (chain i : ℕ) (s : Standing b 120 chain i) (t : List ℕ) (rows : RowsOf b w chain i t) (own : ℕ)
+-- what holds of each of the eight settings
+pub each-setting : (P : ℕ → Type 0) → P 0 → P 1 → P 2 → P 3 → P 4 → P 5 → P 6 → P 7 → (setting : ℕ) → setting < 8 → P setting
+each-setting P a b c d e f g h zero l = a
+each-setting P a b c d e f g h (suc zero) l = b
+each-setting P a b c d e f g h (suc (suc zero)) l = c
+each-setting P a b c d e f g h (suc (suc (suc zero))) l = d
+each-setting P a b c d e f g h (suc (suc (suc (suc zero)))) l = e
+each-setting P a b c d e f g h (suc (suc (suc (suc (suc zero))))) l = f
+each-setting P a b c d e f g h (suc (suc (suc (suc (suc (suc zero)))))) l = g
+each-setting P a b c d e f g h (suc (suc (suc (suc (suc (suc (suc zero))))))) l = h
+each-setting P a b c d e f g h (suc (suc (suc (suc (suc (suc (suc (suc n)))))))) l = absurd (omega arith)
+
+-- the column that holds in a year of a setting has the rate at the setting's weight of that year
+module _ (b : List ℕ) (sex i k : ℕ) where
+  Lives : ℕ → Type 0
+  Lives setting = rateOf b sex i (livingColumn setting k) ≡ oneLess (mortalityOf b sex (classOf b i)) (mortalityIn (decrementsOf b setting) sex k)
+
+  column-living : (setting : ℕ) → setting < 8 → Lives setting
+  unfolding Lives rateOf livingColumn decrementsOf mortalityWeight weightOf
+  column-living = by (ltb k 5) refl
+    where
+      by : (early : Bool) → ltb k 5 ≡ early → (setting : ℕ) → setting < 8 → Lives setting
+      by true e = each-setting Lives (rw e) (rw e) (rw e) (rw e) (rw e) (rw e) (rw e) (rw e)
+      by false e = each-setting Lives (rw e) (rw e) (rw e) (rw e) (rw e) (rw e) (rw e) (rw e)
+
+  Stays : ℕ → Type 0
+  Stays setting = rateOf b sex i (stayingColumn setting) ≡ oneLess (fieldOf b i lapseOffset) (lapseIn (decrementsOf b setting) k)
+
+  column-staying : (setting : ℕ) → setting < 8 → Stays setting
+  unfolding Stays rateOf stayingColumn decrementsOf weightOf
+  column-staying = by (ltb k 5) refl
+    where
+      by : (early : Bool) → ltb k 5 ≡ early → (setting : ℕ) → setting < 8 → Stays setting
+      by true e = each-setting Stays (rw e) (rw e) (rw e) (rw e) (rw e) (rw e) (rw e) (rw e)
+      by false e = each-setting Stays (rw e) (rw e) (rw e) (rw e) (rw e) (rw e) (rw e) (rw e)
+
+module _ (b : List ℕ) (chain i : ℕ) (s : Standing b 120 chain i) (t : List ℕ) (rows : RowsOf b chain i t) (own : ℕ)
     (fits : own ≤ 120 - classOf b i) where
   -- the cell's own record, and its contracts
   abbrev record-of : ℕ
@@ -34,7 +70,7 @@ module _ (b : List ℕ) (w : Decrements) (chain i : ℕ) (s : Standing b 120 cha
   abbrev contracts : ℕ
   contracts = fieldOf b record-of countOffset
 
-  here : (k : ℕ) → k < 50 → RowOf b w (chainSex chain) (rowAt b record-of k) t (own + k)
+  here : (k : ℕ) → k < 50 → RowOf b (chainSex chain) (rowAt b record-of k) t (own + k)
   here k h = rw (row-sum b i own k) at (rows (own + k) (omega (arith, s .0 .class-high)))
 
   pub walkable : Walkable t own contracts
@@ -43,35 +79,27 @@ module _ (b : List ℕ) (w : Decrements) (chain i : ℕ) (s : Standing b 120 cha
   sex-is : sexOf b record-of ≡ chainSex chain
   sex-is = row-standing b chain i s own .0 .sex
 
-  -- what lives on and what stays, in the first five years and later
-  living-is : (k : ℕ) → k < 50 → rate t (own + k) (laterIn k) ≡ oneLess (mortalityOf b (sexOf b record-of) (classOf b (rowAt b record-of k))) (mortalityIn w (sexOf b record-of) k)
-  unfolding laterIn
-  living-is k h = by (ltb k 5) refl
-    where
-      by : (early : Bool) → ltb k 5 ≡ early → rate t (own + k) (laterIn k) ≡ oneLess (mortalityOf b (sexOf b record-of) (classOf b (rowAt b record-of k))) (mortalityIn w (sexOf b record-of) k)
-      by true e = rw (e, sex-is) (here k h .first-living)
-      by false e = rw (e, sex-is) (here k h .later-living)
+  module _ (setting : ℕ) (known : setting < 8) where
+    living-is : (k : ℕ) → k < 50 → rate t (own + k) (livingColumn setting k) ≡ oneLess (mortalityOf b (sexOf b record-of) (classOf b (rowAt b record-of k))) (mortalityIn (decrementsOf b setting) (sexOf b record-of) k)
+    unfolding Lives
+    living-is k h = rw sex-is (here k h .rates _ (omega (arith, living-low setting k)) ∙ column-living b (chainSex chain) (rowAt b record-of k) k setting known)
 
-  staying-is : (k : ℕ) → k < 50 → rate t (own + k) (2 + laterIn k) ≡ oneLess (fieldOf b (rowAt b record-of k) lapseOffset) (lapseIn w k)
-  unfolding laterIn
-  staying-is k h = by (ltb k 5) refl
-    where
-      by : (early : Bool) → ltb k 5 ≡ early → rate t (own + k) (2 + laterIn k) ≡ oneLess (fieldOf b (rowAt b record-of k) lapseOffset) (lapseIn w k)
-      by true e = rw e (here k h .first-staying)
-      by false e = rw e (here k h .later-staying)
+    staying-is : (k : ℕ) → k < 50 → rate t (own + k) (stayingColumn setting) ≡ oneLess (fieldOf b (rowAt b record-of k) lapseOffset) (lapseIn (decrementsOf b setting) k)
+    unfolding Stays
+    staying-is k h = here k h .rates _ (omega (arith, staying-low setting)) ∙ column-staying b (chainSex chain) (rowAt b record-of k) k setting known
 
-  pub inforce-same : (k : ℕ) → k ≤ 50 → inForce rounded (cellIn t own contracts) k ≡ inForce rounded (cellOf b w record-of) k
-  unfolding inForce cellIn cellOf
-  inforce-same zero h = refl
-  inforce-same (suc k) h = rw (inforce-same k (omega arith), living-is k (omega arith), staying-is k (omega arith))
+    pub inforce-same : (k : ℕ) → k ≤ 50 → inForce rounded (cellIn t own contracts setting) k ≡ inForce rounded (cellOf b (decrementsOf b setting) record-of) k
+    unfolding inForce cellIn cellOf
+    inforce-same zero h = refl
+    inforce-same (suc k) h = rw (inforce-same k (omega arith), living-is k (omega arith), staying-is k (omega arith))
 
-  pub premium-same : (k : ℕ) → k < 50 → premiumBy (cellIn t own contracts) k ≡ premiumAt b w record-of k
-  unfolding premiumAt premiumBy cellPremium cellIn cellOf
-  premium-same k h = rw (inforce-same k (omega arith), here k h .premium-is)
+    pub premium-same : (k : ℕ) → k < 50 → premiumBy (cellIn t own contracts setting) k ≡ premiumAt b (decrementsOf b setting) record-of k
+    unfolding premiumAt premiumBy cellPremium cellIn cellOf rateOf
+    premium-same k h = rw (inforce-same k (omega arith), here k h .rates 6 (omega arith))
 
-  pub claims-same : (k : ℕ) → k < 50 → claimsBy (cellIn t own contracts) k ≡ claimsAt b w record-of k
-  unfolding claimsAt claimsBy cellClaims cellIn cellOf
-  claims-same k h = rw (inforce-same k (omega arith), here k h .claims-is)
+    pub claims-same : (k : ℕ) → k < 50 → claimsBy (cellIn t own contracts setting) k ≡ claimsAt b (decrementsOf b setting) record-of k
+    unfolding claimsAt claimsBy cellClaims cellIn cellOf rateOf
+    claims-same k h = rw (inforce-same k (omega arith), here k h .rates 7 (omega arith))
 
 one-less-le : (rate weight : ℕ) → oneLess rate weight ≤ 1_000_000_000
 unfolding oneLess

@@ -2,18 +2,17 @@
 -- Assumes nothing.
 use mathlib.Core.Path.{_≡_, refl, sym, ap, _∙_}
 use mathlib.Core.List.{List}
-use mathlib.Core.Bool.{Bool, true, false}
 use Prim.Native.Nat.{ℕ, zero, suc, _+_, _*_, _/_, _≤_, _<_}
 use native.Mathlib.Nat.{add-zero, le-trans, mul-le-mul, mul-le-mul-left, div-le-of-le-mul}
 use native.Mathlib.Numerals.{add-one}
 use native.Mathlib.Omega.{arith}
-use lib.Dec.{ltb}
-use Rattle.field.specs.Verdicts.{pick}
+use lib.Dec.{ltb, eqb}
+use Rattle.settings.proofs.Laws.{pick-le}
 use Rattle.reckoning.specs.Arithmetic.{rounded}
 use Rattle.reckoning.specs.Steps.{inForce, cellPremium, cellClaims}
 use Rattle.rows.specs.Rows.{rate, RowReady}
 use Rattle.cell.specs.declared.Cell.{Cell}
-use Rattle.cell.specs.States.{laterIn, cellIn, Walkable, Ready, nextYear, stateIn, premiumIn, claimsIn, premiumBy, claimsBy}
+use Rattle.cell.specs.States.{livingColumn, stayingColumn, cellIn, Walkable, Ready, nextYear, stateIn, premiumIn, claimsIn, premiumBy, claimsBy}
 
 -- a share of at most the whole is at most the amount
 pub share-le : (x y : ℕ) → y ≤ 1_000_000_000 → x * y / 1_000_000_000 ≤ x
@@ -31,57 +30,58 @@ module _ (t : List ℕ) (c : Cell) (r : Ready t c) where
   pub claims-in-le : claimsIn t c ≤ 1_000_000_000_000
   claims-in-le = div-le-of-le-mul 1_000_000_000 (le-trans (mul-le-mul (r .bound) (r .row .claims)) (omega arith))
 
-pub later-le : (k : ℕ) → laterIn k ≤ 1
-unfolding laterIn
-later-le k = by (ltb k 5)
-  where
-    by : (early : Bool) → pick early 0 1 ≤ 1
-    by true = omega arith
-    by false = omega arith
+-- columns of shares
+pub living-low : (setting k : ℕ) → livingColumn setting k ≤ 2
+unfolding livingColumn
+living-low setting k = pick-le (ltb k 5) 2 (pick-le (eqb setting 1) 2 (omega arith) (pick-le (eqb setting 2) 2 (omega arith) (omega arith))) (omega arith)
 
-module _ (t : List ℕ) (r n : ℕ) where
-  pub state-start : stateIn t r n 0 ≡ record { row = r; inforce = n * 1_000_000_000 }
+pub staying-low : (setting : ℕ) → stayingColumn setting ≤ 5
+unfolding stayingColumn
+staying-low setting = pick-le (eqb setting 3) 5 (omega arith) (pick-le (eqb setting 4) 5 (omega arith) (omega arith))
+
+module _ (t : List ℕ) (r n setting : ℕ) where
+  pub state-start : stateIn t r n setting 0 ≡ record { row = r; inforce = n * 1_000_000_000 }
   unfolding stateIn inForce cellIn
   state-start = ap (λ (x : ℕ). record { row = x; inforce = n * 1_000_000_000 }) (add-zero r)
 
   -- a year more
-  pub state-next : (k : ℕ) → nextYear t k (stateIn t r n k) ≡ stateIn t r n (k + 1)
+  pub state-next : (k : ℕ) → nextYear t setting k (stateIn t r n setting k) ≡ stateIn t r n setting (k + 1)
   unfolding nextYear stateIn inForce cellIn
   state-next k =
       let e : (r + k) + 1 ≡ r + suc k = omega arith in
-      rw (add-one k) (ap (λ (x : ℕ). record { row = x; inforce = inForce rounded (cellIn t r n) (suc k) }) e)
+      rw (add-one k) (ap (λ (x : ℕ). record { row = x; inforce = inForce rounded (cellIn t r n setting) (suc k) }) e)
 
   -- what a state has in force and adds is what the reckoning's cell has and adds
-  pub inforce-is : (k : ℕ) → stateIn t r n k .inforce ≡ inForce rounded (cellIn t r n) k
+  pub inforce-is : (k : ℕ) → stateIn t r n setting k .inforce ≡ inForce rounded (cellIn t r n setting) k
   unfolding stateIn
   inforce-is k = refl
 
-  pub premium-is : (k : ℕ) → premiumIn t (stateIn t r n k) ≡ premiumBy (cellIn t r n) k
+  pub premium-is : (k : ℕ) → premiumIn t (stateIn t r n setting k) ≡ premiumBy (cellIn t r n setting) k
   unfolding premiumBy stateIn cellPremium cellIn
   premium-is k = refl
 
-  pub claims-is : (k : ℕ) → claimsIn t (stateIn t r n k) ≡ claimsBy (cellIn t r n) k
+  pub claims-is : (k : ℕ) → claimsIn t (stateIn t r n setting k) ≡ claimsBy (cellIn t r n setting) k
   unfolding claimsBy stateIn cellClaims cellIn
   claims-is k = refl
 
   module _ (s : Walkable t r n) where
     -- what the reckoning has in force is no more than the contracts
-    inforce-le : (k : ℕ) → k ≤ 50 → inForce rounded (cellIn t r n) k ≤ 100_000_000_000_000
+    inforce-le : (k : ℕ) → k ≤ 50 → inForce rounded (cellIn t r n setting) k ≤ 100_000_000_000_000
     unfolding inForce cellIn
     inforce-le zero h = omega (arith, s .few)
     inforce-le (suc k) h =
         let row = s .rows k (omega arith) in
-        le-trans (share-le _ _ (row .shares (2 + laterIn k) (omega (arith, later-le k))))
-        (le-trans (share-le _ _ (row .shares (laterIn k) (omega (arith, later-le k)))) (inforce-le k (omega arith)))
+        le-trans (share-le _ _ (row .shares (stayingColumn setting) (omega (arith, staying-low setting))))
+        (le-trans (share-le _ _ (row .shares (livingColumn setting k) (omega (arith, living-low setting k)))) (inforce-le k (omega arith)))
 
     -- every state of the reckoning can go on
-    pub state-ready : (k : ℕ) → k < 50 → Ready t (stateIn t r n k)
+    pub state-ready : (k : ℕ) → k < 50 → Ready t (stateIn t r n setting k)
     unfolding stateIn
     state-ready k h = record { row = s .rows k h; fits = omega (arith, s .fits); bound = inforce-le k (omega arith) }
 
     -- what the cell adds in each of the fifty years
-    pub premium-by-le : (k : ℕ) → k < 50 → premiumBy (cellIn t r n) k ≤ 1_000_000_000_000
-    premium-by-le k h = rw (← premium-is k) (premium-in-le t (stateIn t r n k) (state-ready k h))
+    pub premium-by-le : (k : ℕ) → k < 50 → premiumBy (cellIn t r n setting) k ≤ 1_000_000_000_000
+    premium-by-le k h = rw (← premium-is k) (premium-in-le t (stateIn t r n setting k) (state-ready k h))
 
-    pub claims-by-le : (k : ℕ) → k < 50 → claimsBy (cellIn t r n) k ≤ 1_000_000_000_000
-    claims-by-le k h = rw (← claims-is k) (claims-in-le t (stateIn t r n k) (state-ready k h))
+    pub claims-by-le : (k : ℕ) → k < 50 → claimsBy (cellIn t r n setting) k ≤ 1_000_000_000_000
+    claims-by-le k h = rw (← claims-is k) (claims-in-le t (stateIn t r n setting k) (state-ready k h))

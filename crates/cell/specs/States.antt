@@ -1,7 +1,7 @@
--- The state of a cell from year to year, as the code carries it over the rows of its chain.
+-- The state of a cell from year to year in a setting, as the code carries it over the rows of its chain.
 use mathlib.Core.List.{List}
 use Prim.Native.Nat.{ℕ, _+_, _*_, _/_, _<_, _≤_}
-use lib.Dec.{ltb}
+use lib.Dec.{ltb, eqb}
 use Rattle.field.specs.Verdicts.{pick}
 use Rattle.settings.specs.declared.Decrements.{Decrements}
 use Rattle.reckoning.specs.Arithmetic.{rounded}
@@ -11,18 +11,22 @@ use Rattle.reckoning.specs.Portfolio.{cellOf}
 use Rattle.rows.specs.Rows.{rate, RowReady}
 use Rattle.cell.specs.declared.Cell.{Cell}
 
--- 0 in the first five years, 1 in the later ones: of two columns, the one that holds in year k
-unfoldable pub laterIn : ℕ → ℕ
-laterIn k = pick (ltb k 5) 0 1
+-- the column of what lives on in year k of a setting: settings 1 and 2 shift mortality in the first five years
+unfoldable pub livingColumn : ℕ → ℕ → ℕ
+livingColumn setting k = pick (ltb k 5) (pick (eqb setting 1) 1 (pick (eqb setting 2) 2 0)) 0
 
--- the cell that starts at row r of the table t with n contracts: in year k it has reached row r + k
-unfoldable pub cellIn : List ℕ → ℕ → ℕ → steps.Cell
-cellIn t r n = record {
+-- the column of what stays: settings 3 and 4 shift the lapse in all years
+unfoldable pub stayingColumn : ℕ → ℕ
+stayingColumn setting = pick (eqb setting 3) 4 (pick (eqb setting 4) 5 3)
+
+-- the cell that starts at row r of the table t with n contracts, in a setting: in year k it has reached row r + k
+unfoldable pub cellIn : List ℕ → ℕ → ℕ → ℕ → steps.Cell
+cellIn t r n setting = record {
   count = n;
-  living = λ k. rate t (r + k) (laterIn k);
-  staying = λ k. rate t (r + k) (2 + laterIn k);
-  premium = λ k. rate t (r + k) 4;
-  claims = λ k. rate t (r + k) 5;
+  living = λ k. rate t (r + k) (livingColumn setting k);
+  staying = λ k. rate t (r + k) (stayingColumn setting);
+  premium = λ k. rate t (r + k) 6;
+  claims = λ k. rate t (r + k) 7;
 }
 
 -- its rows can be walked for fifty years, and its contracts are few enough
@@ -37,23 +41,23 @@ pub record Ready (t : List ℕ) (c : Cell) : Type 0 where
   pub fits : c .row < 170
   pub bound : c .inforce ≤ 100_000_000_000_000
 
--- the state a year after year k: what lives on, rounded down, and of that what stays, rounded down
-unfoldable pub nextYear : List ℕ → ℕ → Cell → Cell
-nextYear t k c = record {
+-- the state a year after year k of a setting: what lives on, rounded down, and of that what stays, rounded down
+unfoldable pub nextYear : List ℕ → ℕ → ℕ → Cell → Cell
+nextYear t setting k c = record {
   row = c .row + 1;
-  inforce = c .inforce * rate t (c .row) (laterIn k) / 1_000_000_000 * rate t (c .row) (2 + laterIn k) / 1_000_000_000;
+  inforce = c .inforce * rate t (c .row) (livingColumn setting k) / 1_000_000_000 * rate t (c .row) (stayingColumn setting) / 1_000_000_000;
 }
 
--- the state in year k, as the reckoning has it
-unfoldable pub stateIn : List ℕ → ℕ → ℕ → ℕ → Cell
-stateIn t r n k = record { row = r + k; inforce = inForce rounded (cellIn t r n) k }
+-- the state in year k of a setting, as the reckoning has it
+unfoldable pub stateIn : List ℕ → ℕ → ℕ → ℕ → ℕ → Cell
+stateIn t r n setting k = record { row = r + k; inforce = inForce rounded (cellIn t r n setting) k }
 
 -- premium and claims of a state's year
 abbrev pub premiumIn : List ℕ → Cell → ℕ
-premiumIn t c = c .inforce * rate t (c .row) 4 / 1_000_000_000
+premiumIn t c = c .inforce * rate t (c .row) 6 / 1_000_000_000
 
 abbrev pub claimsIn : List ℕ → Cell → ℕ
-claimsIn t c = c .inforce * rate t (c .row) 5 / 1_000_000_000
+claimsIn t c = c .inforce * rate t (c .row) 7 / 1_000_000_000
 
 -- premium and claims of a cell in year k, by the reckoning's steps, and those of the cell of record i
 unfoldable pub premiumBy : steps.Cell → ℕ → ℕ

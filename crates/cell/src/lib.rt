@@ -1,27 +1,39 @@
-// A cell of a chain whose rows are read: its state by value, from year to year, and what it adds to a year.
+// A cell of a chain whose rows are read: its state by value, from year to year of a setting, and what it adds to a year.
 // Internal: the functions ask for rows as `rows` reads them from an accepted book.
 ghost use mathlib.Core.Path.{_≡_};
-ghost use Prim.Native.Nat.{_+_, _*_, _/_, _<_, _≤_};
-ghost use lib.ListN.{getD};
-ghost use Rattle.arith.specs.Fractions.{Fraction};
-ghost use Rattle.cell.specs.States.{laterIn, Ready, nextYear, premiumIn, claimsIn};
+ghost use Prim.Native.Nat.{_*_, _≤_};
+ghost use Rattle.cell.specs.States.{livingColumn, stayingColumn, Ready, nextYear, premiumIn, claimsIn};
 
 // What 100,000 contracts have in force, in billionths: no cell has more.
 const MOST_IN_FORCE: u64 = 100_000_000_000_000;
 
-// The share of x that a rate of the rows tells: its fraction stands at the place, the rate six numbers on.
-fn share(rows: &[u64; 2040], at: usize, x: u64) -> u64
-    requires { ⌜ (at < 2034) × (x ≤ 100000000000000) × Fraction (getD (now rows) (at + 6) 0) 1000000000 (getD (now rows) at 0) ⌝ }
-    ensures { λ r. ⌜ r ≡ x * getD (now (rows .entry)) (at + 6) 0 / 1000000000 ⌝ }
+// The column of what lives on in year k of a setting.
+fn living_column(setting: usize, k: usize) -> usize
+    ensures { λ r. ⌜ (r ≡ livingColumn setting k) × (r ≤ 2) ⌝ }
 {
-    arith::part(x, rows[at + 6], 1_000_000_000, rows[at], MOST_IN_FORCE)
+    if 5 <= k {
+        return 0;
+    }
+    if setting == 1 {
+        return 1;
+    }
+    if setting == 2 { 2 } else { 0 }
 }
 
-// Of two columns, the one that holds in year k: 0 in the first five years, 1 in the later ones.
-fn later_in(k: usize) -> usize
-    ensures { λ r. ⌜ (r ≡ laterIn k) × (r ≤ 1) ⌝ }
+// The column of what stays in a setting.
+fn staying_column(setting: usize) -> usize
+    ensures { λ r. ⌜ (r ≡ stayingColumn setting) × (r ≤ 5) ⌝ }
 {
-    if k < 5 { 0 } else { 1 }
+    if setting == 3 {
+        return 4;
+    }
+    if setting == 4 { 5 } else { 3 }
+}
+
+// Premium and claims of a year.
+pub struct Amounts {
+    pub premium: u64,
+    pub claims: u64,
 }
 
 // A cell in one year: the row of its chain that holds for it, and what is in force, in billionths of a contract.
@@ -42,33 +54,47 @@ impl Cell {
         }
     }
 
-    // The state a year after year k: of what is in force, what lives on, and of that what stays.
-    pub fn next_year(self, rows: &[u64; 2040], k: usize) -> Cell
+    // The state a year after year k of a setting: of what is in force, what lives on, and of that what stays.
+    pub fn next_year(self, rows: &[u64; 2720], setting: usize, k: usize) -> Cell
         requires { ⌜ Ready (now rows) self ⌝ }
-        ensures { λ r. ⌜ r ≡ nextYear (now (rows .entry)) k self ⌝ }
+        ensures { λ r. ⌜ r ≡ nextYear (now (rows .entry)) setting k self ⌝ }
     {
-        let at = 12 * self.row;
-        let column = later_in(k);
-        let living = share(rows, at + column, self.inforce);
+        let living = 16 * self.row + living_column(setting, k);
+        let staying = 16 * self.row + staying_column(setting);
+        let inforce = arith::part_of_part(
+            self.inforce,
+            rows[living + 8],
+            rows[living],
+            rows[staying + 8],
+            rows[staying],
+            1_000_000_000,
+            MOST_IN_FORCE,
+        );
         Cell {
             row: self.row + 1,
-            inforce: share(rows, at + (2 + column), living),
+            inforce,
         }
     }
 
-    // The premium of the state's year.
-    pub fn premium(self, rows: &[u64; 2040]) -> u64
+    // Premium and claims of the state's year.
+    pub fn amounts(self, rows: &[u64; 2720]) -> Amounts
         requires { ⌜ Ready (now rows) self ⌝ }
-        ensures { λ r. ⌜ r ≡ premiumIn (now (rows .entry)) self ⌝ }
+        ensures { λ r. ⌜ (r .premium ≡ premiumIn (now (rows .entry)) self) × (r .claims ≡ claimsIn (now (rows .entry)) self) ⌝ }
     {
-        share(rows, 12 * self.row + 4, self.inforce)
-    }
-
-    // The claims of the state's year.
-    pub fn claims(self, rows: &[u64; 2040]) -> u64
-        requires { ⌜ Ready (now rows) self ⌝ }
-        ensures { λ r. ⌜ r ≡ claimsIn (now (rows .entry)) self ⌝ }
-    {
-        share(rows, 12 * self.row + 5, self.inforce)
+        let at = 16 * self.row + 6;
+        let both = arith::two_parts(
+            self.inforce,
+            rows[at + 8],
+            rows[at],
+            self.inforce,
+            rows[at + 9],
+            rows[at + 1],
+            1_000_000_000,
+            MOST_IN_FORCE,
+        );
+        Amounts {
+            premium: both.first,
+            claims: both.second,
+        }
     }
 }

@@ -4,14 +4,14 @@ ghost use mathlib.Core.List.{_++_};
 ghost use Prim.Native.Nat.{_<_, _≤_};
 ghost use lib.ListN.{length, drop};
 ghost use Rattle.book.specs.Reading.{Standing, ValidBook};
-ghost use Rattle.settings.specs.Settings.{Weighed};
+ghost use Rattle.settings.specs.Settings.{decrementsOf};
 ghost use Rattle.reckoning.specs.Arithmetic.{rounded};
 ghost use Rattle.reckoning.specs.Steps.{inForce};
 ghost use Rattle.reckoning.specs.Portfolio.{cellOf, chainLinks};
 ghost use Rattle.inforce.specs.Screen.{chainOf, ofClass, askedCheck, firstYears, InForcePromised};
 use cell::Cell;
 use field::Verdict;
-use settings::Decrements;
+use settings::Shifts;
 
 // The refusals that the caller alone decides, in their order.
 fn check_asked(setting: usize, code: usize, sex: usize, numbers: usize) -> Verdict
@@ -55,18 +55,19 @@ fn record_of(book: &[u8], k: usize, class: usize) -> usize
     }
 }
 
-// Writes what is in force of the cell of record i in the years k = 0 to 49.
-fn run(book: &[u8], w: Decrements, chain: usize, i: usize, out: &mut [u64])
-    requires { ⌜ Weighed w × ValidBook 1 (now book) × (chain < 14) × Standing (now book) 120 chain i
+// Writes what is in force of the cell of record i in a setting, in the years k = 0 to 49.
+fn run(book: &[u8], setting: usize, chain: usize, i: usize, out: &mut [u64])
+    requires { ⌜ (setting < 8) × ValidBook 1 (now book) × (chain < 14) × Standing (now book) 120 chain i
         × (50 ≤ length (now out)) ⌝ }
     ensures { λ _. ⌜ now (out .exit)
-        ≡ firstYears (inForce rounded (cellOf (now (book .entry)) w i)) 50 ++ drop 50 (now (out .entry)) ⌝ }
+        ≡ firstYears (inForce rounded (cellOf (now (book .entry)) (decrementsOf (now (book .entry)) setting) i)) 50
+        ++ drop 50 (now (out .entry)) ⌝ }
 {
-    let mut rows = [0u64; 2040];
-    rows::read_rows(book, w, chain, i, &mut rows);
+    let mut rows = [0u64; 2720];
+    rows::read_rows(book, Shifts::new(book), chain, i, &mut rows);
     let mut cell = Cell::new(0, book::field_of(book, i, book::COUNT_OFFSET));
     for k in 0usize..50 {
-        let next = cell.next_year(&rows, k);
+        let next = cell.next_year(&rows, setting, k);
         out[k] = cell.inforce;
         cell = next;
     }
@@ -98,6 +99,6 @@ pub fn in_force(
     if i == 0 {
         return Verdict::Refused(26, 0);
     }
-    run(book, Decrements::new(book, setting), chain, i, out);
+    run(book, setting, chain, i, out);
     Verdict::Accepted(0)
 }

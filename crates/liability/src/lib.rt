@@ -3,7 +3,7 @@ ghost use mathlib.Core.Path.{_≡_};
 ghost use Rattle.reckoning.specs.Replies.{groupCheck, GroupPromised};
 use field::Verdict;
 use reckoning::GroupReply;
-use settings::Decrements;
+use settings::Shifts;
 
 // The refusals of Group, in their order.
 fn check_group(book: &[u8], setting: usize, group: usize, numbers: usize) -> Verdict
@@ -25,7 +25,8 @@ pub fn group(book: &[u8], setting: usize, group: usize, table: &mut [u64]) -> Gr
     if let Verdict::Refused(number, place) = v {
         return GroupReply::Refused(number, place);
     }
-    let sums = projection::group_sums(book, Decrements::new(book, setting), group);
+    let sums = projection::group_sums(book, Shifts::new(book), group);
     let n = sums.n;
-    GroupReply::Reckoned(years::settle(book, setting, group, sums, table), n)
+    let numbers = sums.numbers;
+    GroupReply::Reckoned(years::settle(book, setting, group, &numbers, table), n)
 }

@@ -33,20 +33,26 @@ module _ (f : ℕ → ℕ → ℕ) where
   pub added-append : (l m t : List ℕ) → addedAll f (l ++ m) t ≡ addedAll f m (addedAll f l t)
   unfolding addedAll
   added-append [] m t = refl
-  added-append (i ∷ l) m t = added-append l m (added (f i) 50 t)
+  added-append (i ∷ l) m t = added-append l m (added (f i) 500 t)
 
   -- each year's number has the year's sum over the records added
-  sum-at : (l t : List ℕ) (k : ℕ) → k < 50 → k < length t → getD (addedAll f l t) k 0 ≡ getD t k 0 + sumOver (λ i. f i k) l
+  sum-at : (l t : List ℕ) (k : ℕ) → k < 500 → k < length t → getD (addedAll f l t) k 0 ≡ getD t k 0 + sumOver (λ i. f i k) l
   unfolding addedAll sumOver
   sum-at [] t k h n = omega arith
   sum-at (i ∷ l) t k h n =
-      omega (arith, sum-at l (added (f i) 50 t) k h (omega (arith, length-added (f i) 50 t)), added-at (f i) 50 t k h n)
+      omega (arith, sum-at l (added (f i) 500 t) k h (omega (arith, length-added (f i) 500 t)), added-at (f i) 500 t k h n)
 
   -- from nothing, each year's number is the year's sum
-  pub sum-from-zero : (l t : List ℕ) → t ≡ addedAll f l (replicate 50 0) → (k : ℕ) → k < 50 → getD t k 0 ≡ sumOver (λ i. f i k) l
+  pub sum-from-zero : (l t : List ℕ) → t ≡ addedAll f l (replicate 500 0) → (k : ℕ) → k < 500 → getD t k 0 ≡ sumOver (λ i. f i k) l
   sum-from-zero l t e k h =
       ap (λ (u : List ℕ). getD u k 0) e
-      ∙ omega (arith, sum-at l (replicate 50 0) k h (omega (arith, length-replicate {A = ℕ} 50 0)), getD-replicate {A = ℕ} 50 k 0 0 h)
+      ∙ omega (arith, sum-at l (replicate 500 0) k h (omega (arith, length-replicate {A = ℕ} 500 0)), getD-replicate {A = ℕ} 500 k 0 0 h)
+
+-- sums of what agrees
+pub sum-same : (f g : ℕ → ℕ) → ((i : ℕ) → f i ≡ g i) → (l : List ℕ) → sumOver f l ≡ sumOver g l
+unfolding sumOver
+sum-same f g h [] = refl
+sum-same f g h (i ∷ l) = rw (h i, sum-same f g h l)
 
 -- the year sums of the reckoning are sums over the records
 pub premium-sum-is : (b : List ℕ) (w : Decrements) (k : ℕ) (l : List ℕ) → sumOver (λ i. premiumAt b w i k) l ≡ premiumSum rounded (cellsOf b w l) k
@@ -71,15 +77,15 @@ module _ (f : ℕ → ℕ → ℕ) (b : List ℕ) (left head : ℕ) (t₀ : List
   carry-start a = (refl, λ j. omega (arith, a j))
 
   pub carry-more : (above rest i : ℕ) (t u : List ℕ) → above ≡ rest + 1 → above ≤ left → Carry f b left head t₀ above i t
-      → ((k : ℕ) → f i k ≤ 1_000_000_000_000) → u ≡ added (f i) 50 t → Carry f b left head t₀ rest (nextOf b i) u
+      → ((k : ℕ) → f i k ≤ 1_000_000_000_000) → u ≡ added (f i) 500 t → Carry f b left head t₀ rest (nextOf b i) u
   unfolding counted addedAll
   carry-more above rest i t u s hi c le e =
       let p : above ≡ suc rest = s ∙ add-one rest in (
         rw e (rw p at (c .0)),
-        λ k. omega (arith, ap (λ (l : List ℕ). getD l k 0) e, added-most (f i) 1_000_000_000_000 50 (λ j l. le j) (1_000_000_000_000_000 + 1_000_000_000_000 * (left - above)) t (c .1) k),
+        λ k. omega (arith, ap (λ (l : List ℕ). getD l k 0) e, added-most (f i) 1_000_000_000_000 500 (λ j l. le j) (1_000_000_000_000_000 + 1_000_000_000_000 * (left - above)) t (c .1) k),
       )
 
-  pub carry-end : (above i : ℕ) (t u : List ℕ) → above ≡ 0 → Carry f b left head t₀ above i t → u ≡ added (f i) 50 t → u ≡ addedAll f (counted b left head) t₀
+  pub carry-end : (above i : ℕ) (t u : List ℕ) → above ≡ 0 → Carry f b left head t₀ above i t → u ≡ added (f i) 500 t → u ≡ addedAll f (counted b left head) t₀
   unfolding counted addedAll
   carry-end above i t u z c e = e ∙ (rw z at (c .0))
 
@@ -132,12 +138,12 @@ module _ (f : ℕ → ℕ → ℕ) (b : List ℕ) (small : Small f b) (k : ℕ) 
       → AtMost (m + 1_000_000_000_000 * (left + 1)) (addedAll f (counted b left i) t)
   unfolding counted addedAll
   counted-most zero i m t h c a j =
-      omega (arith, added-most (f i) 1_000_000_000_000 50 (λ n l. small k i few (chain-standing b k 0 i c h) n) m t a j)
+      omega (arith, added-most (f i) 1_000_000_000_000 500 (λ n l. small k i few (chain-standing b k 0 i c h) n) m t a j)
   counted-most (suc left) i m t h c a j =
       omega (
         arith,
-        counted-most left (nextOf b i) (m + 1_000_000_000_000) (added (f i) 50 t) (omega arith) (chain-next b 120 k (suc left) left i (omega arith) c)
-            (added-most (f i) 1_000_000_000_000 50 (λ n l. small k i few (chain-standing b k (suc left) i c h) n) m t a) j,
+        counted-most left (nextOf b i) (m + 1_000_000_000_000) (added (f i) 500 t) (omega arith) (chain-next b 120 k (suc left) left i (omega arith) c)
+            (added-most (f i) 1_000_000_000_000 500 (λ n l. small k i few (chain-standing b k (suc left) i c h) n) m t a) j,
       )
 
   pub links-most : ValidBook 1 b → (m : ℕ) (t : List ℕ) → AtMost m t → AtMost (m + 121_000_000_000_000) (addedAll f (chainLinks b k) t)
@@ -187,10 +193,7 @@ group-cells-end b n k to e =
     let z : to - k ≡ 0 = omega arith in
     rw z (omega arith)
 
-pub zero-most : AtMost 0 (replicate 50 0)
-zero-most j = most 50 j
-  where
-    most : (n j : ℕ) → getD (replicate n 0) j 0 ≤ 0
-    most zero j = omega arith
-    most (suc n) zero = omega arith
-    most (suc n) (suc j) = most n j
+pub zero-most : (n : ℕ) → AtMost 0 (replicate n 0)
+zero-most zero j = omega arith
+zero-most (suc n) zero = omega arith
+zero-most (suc n) (suc j) = zero-most n j

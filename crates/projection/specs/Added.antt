@@ -1,36 +1,42 @@
--- What the code adds to the year tables: for the cells of a chain and of a product group.
+-- What the code adds to the table: for the cells of a chain and of a product group.
 use mathlib.Core.List.{List}
 use mathlib.Core.Path.{_≡_}
-use Prim.Native.Nat.{ℕ, _+_, _<_, _≤_}
+use Prim.Native.Nat.{ℕ, _+_, _*_, _<_, _≤_}
+use lib.Dec.{ltb}
 use lib.ListN.{getD}
+use Rattle.field.specs.Verdicts.{pick}
 use Rattle.book.specs.Layout.{lastClass}
 use Rattle.book.specs.Cells.{heldFrom, heldIn, heldOfGroup}
-use Rattle.settings.specs.declared.Decrements.{Decrements}
+use Rattle.settings.specs.Settings.{decrementsOf}
 use Rattle.reckoning.specs.Arithmetic.{rounded}
 use Rattle.reckoning.specs.Steps.{premiumSum, claimsSum}
 use Rattle.reckoning.specs.Portfolio.{linksFrom, chainLinks, groupCells}
-use Rattle.cell.specs.States.{premiumAt, claimsAt}
-use Rattle.walks.specs.Tables.{addedAll, AtMost}
+use Rattle.walks.specs.Tables.{amountAt, addedAll, AtMost}
 use Rattle.projection.specs.declared.Sums.{Sums}
 
--- what the cells of the records from record i on make of them, and how many hold contracts
-pub record CellsAdded (b : List ℕ) (w : Decrements) (i n : ℕ) (p p′ c c′ : List ℕ) : Type 0 where
-  pub premium : p′ ≡ addedAll (premiumAt b w) (linksFrom b i (lastClass 1 + 1)) p
-  pub claims : c′ ≡ addedAll (claimsAt b w) (linksFrom b i (lastClass 1 + 1)) c
+-- what the cells of the records from record i on make of the table u, and how many hold contracts
+pub record CellsAdded (b : List ℕ) (i n : ℕ) (u v : List ℕ) : Type 0 where
+  pub sums : v ≡ addedAll (amountAt b) (linksFrom b i (lastClass 1 + 1)) u
   pub n-is : n ≡ heldFrom b i (lastClass 1 + 1)
   pub few : n ≤ 121
 
--- what the cells of chain k make of them, and how many hold contracts
-pub record ChainAdded (b : List ℕ) (w : Decrements) (k n : ℕ) (p p′ c c′ : List ℕ) : Type 0 where
-  pub premium : p′ ≡ addedAll (premiumAt b w) (chainLinks b k) p
-  pub claims : c′ ≡ addedAll (claimsAt b w) (chainLinks b k) c
+-- what the cells of chain k make of it, and how many hold contracts
+pub record ChainAdded (b : List ℕ) (k n : ℕ) (u v : List ℕ) : Type 0 where
+  pub sums : v ≡ addedAll (amountAt b) (chainLinks b k) u
   pub n-is : n ≡ heldIn b (lastClass 1) k
   pub few : n ≤ 121
 
--- the year sums of product group g, and its n
-pub record YearSums (b : List ℕ) (w : Decrements) (g : ℕ) (s : Sums) : Type 0 where
-  pub premium-is : (k : ℕ) → k < 50 → getD (s .premium) k 0 ≡ premiumSum rounded (groupCells b w g) k
-  pub claims-is : (k : ℕ) → k < 50 → getD (s .claims) k 0 ≡ claimsSum rounded (groupCells b w g) k
-  pub premium-most : AtMost 726_000_000_000_000 (s .premium)
-  pub claims-most : AtMost 726_000_000_000_000 (s .claims)
+-- the table of product group g: ten numbers a year, for each of the settings 0 to 4 premium and claims
+pub record TableOf (b : List ℕ) (g : ℕ) (t : List ℕ) : Type 0 where
+  pub premium-is : (s k : ℕ) → s < 5 → k < 50 → getD t (10 * k + 2 * s) 0 ≡ premiumSum rounded (groupCells b (decrementsOf b s) g) k
+  pub claims-is : (s k : ℕ) → s < 5 → k < 50 → getD t (10 * k + 2 * s + 1) 0 ≡ claimsSum rounded (groupCells b (decrementsOf b s) g) k
+  pub most : AtMost 726_000_000_000_000 t
+
+-- and its n
+pub record SumsOf (b : List ℕ) (g : ℕ) (s : Sums) : Type 0 where
+  pub table : TableOf b g (s .numbers)
   pub n-is : s .n ≡ heldOfGroup b (lastClass 1) g
+
+-- of the five projections, the one that serves a setting: settings 5, 6 and 7 shift costs and claims alone
+unfoldable pub projectionOf : ℕ → ℕ
+projectionOf setting = pick (ltb setting 5) setting 0

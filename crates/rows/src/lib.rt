@@ -1,5 +1,5 @@
-// The rows of a chain at the weights of a setting, read once: for each year that a cell can reach, what lives on, what stays, premium and
-// claims, each with the fraction by which shares are taken without a division.
+// The rows of a chain, read once for all settings: for each year that a cell can reach, what lives on and what stays at the weights that occur,
+// premium and claims, each with the fraction by which shares are taken without a division.
 // Internal: the functions ask for an accepted book's rules, which the calls above have from the check.
 ghost use mathlib.Core.Path.{_≡_};
 ghost use Prim.Native.Nat.{_+_, _-_, _*_, _<_, _≤_};
@@ -8,11 +8,11 @@ ghost use Rattle.arith.specs.Fractions.{Fraction};
 ghost use Rattle.book.specs.Layout.{chainSex, classOf};
 ghost use Rattle.book.specs.Reading.{Standing, ValidBook};
 ghost use Rattle.book.specs.Rules.{RecordRules};
-ghost use Rattle.settings.specs.Settings.{Weighed};
+ghost use Rattle.settings.specs.Settings.{ShiftsOf};
 ghost use Rattle.reckoning.specs.Portfolio.{mortalityOf, oneLess};
 ghost use Rattle.rows.specs.Rows.{RowsOf};
-ghost use Rattle.rows.specs.Puts.{Put, RowPut, RowsBelow, Repeated};
-use settings::Decrements;
+ghost use Rattle.rows.specs.Puts.{Put, ThreeMore, RowPut, RowsBelow, Repeated};
+use settings::Shifts;
 
 // The mortality of a sex and class, in millionths.
 fn mortality_of(book: &[u8], sex: usize, class: usize) -> u64
@@ -49,44 +49,71 @@ fn fraction_of(rate: u64) -> u64
     rate * 18_446_744_073 + rate * 709_551_616 / 1_000_000_000
 }
 
-// Stores a rate and, six places before it, its fraction.
+// Stores a rate and, eight places before it, its fraction.
 fn put(rows: &mut [u64], at: usize, rate: u64)
-    requires { ⌜ (at + 6 < length (now rows)) × (rate ≤ 1000000000) ⌝ }
+    requires { ⌜ (at + 8 < length (now rows)) × (rate ≤ 1000000000) ⌝ }
     ensures { λ _. ⌜ Put (now (rows .entry)) (now (rows .exit)) at rate ⌝ }
 {
     rows[at] = fraction_of(rate);
-    rows[at + 6] = rate;
+    rows[at + 8] = rate;
+}
+
+// Stores three columns of row r from column n on: what a rate leaves at three weights.
+fn put_three(rows: &mut [u64; 2720], r: usize, n: usize, rate: u64, x: u64, y: u64, z: u64)
+    requires { ⌜ (r < 170) × (n ≤ 3) × (rate ≤ 1000000) × (x ≤ 1300) × (y ≤ 1300) × (z ≤ 1300) ⌝ }
+    ensures { λ _. ⌜ ThreeMore (now (rows .entry)) (now (rows .exit)) r n rate x y z ⌝ }
+{
+    let at = 16 * r + n;
+    put(rows, at, one_less(rate, x));
+    put(rows, at + 1, one_less(rate, y));
+    put(rows, at + 2, one_less(rate, z));
 }
 
 // Stores row r: what record i of a chain holds, of a class.
 fn put_row(
     book: &[u8],
-    w: Decrements,
+    w: Shifts,
     chain: usize,
     class: usize,
     i: usize,
     r: usize,
-    rows: &mut [u64; 2040],
+    rows: &mut [u64; 2720],
 )
-    requires { ⌜ Weighed w × ValidBook 1 (now book) × RecordRules (now book) 120 chain i × (class ≡ classOf (now book) i) × (r < 170) ⌝ }
-    ensures { λ _. ⌜ RowPut (now (book .entry)) w (chainSex chain) i (now (rows .entry)) (now (rows .exit)) r ⌝ }
+    requires { ⌜ ShiftsOf (now book) w × ValidBook 1 (now book) × RecordRules (now book) 120 chain i × (class ≡ classOf (now book) i) × (r < 170) ⌝ }
+    ensures { λ _. ⌜ RowPut (now (book .entry)) (chainSex chain) i (now (rows .entry)) (now (rows .exit)) r ⌝ }
 {
     let sex = chain % 2;
-    let at = 12 * r;
     let mortality = mortality_of(book, sex, class);
-    put(rows, at, one_less(mortality, w.mortality(sex, 0)));
-    put(rows, at + 1, one_less(mortality, w.mortality(sex, 5)));
+    let deaths = w.base.of_sex(sex);
+    let more = w.moredeaths.of_sex(sex);
+    let fewer = w.fewerdeaths.of_sex(sex);
+    put_three(rows, r, 0, mortality, deaths, more, fewer);
     let lapse = book::field_of(book, i, book::LAPSE_OFFSET);
-    put(rows, at + 2, one_less(lapse, w.lapses(0)));
-    put(rows, at + 3, one_less(lapse, w.lapses(5)));
-    put(rows, at + 4, book::field_of(book, i, book::PREMIUM_OFFSET));
-    put(rows, at + 5, book::field_of(book, i, book::CLAIMS_OFFSET));
+    put_three(
+        rows,
+        r,
+        3,
+        lapse,
+        w.base.lapse,
+        w.morelapses.lapse,
+        w.fewerlapses.lapse,
+    );
+    put(
+        rows,
+        16 * r + 6,
+        book::field_of(book, i, book::PREMIUM_OFFSET),
+    );
+    put(
+        rows,
+        16 * r + 7,
+        book::field_of(book, i, book::CLAIMS_OFFSET),
+    );
 }
 
 // Reads the linked records from record i on, a row for each.
-fn read_links(book: &[u8], w: Decrements, chain: usize, i: usize, rows: &mut [u64; 2040])
-    requires { ⌜ Weighed w × ValidBook 1 (now book) × (chain < 14) × Standing (now book) 120 chain i ⌝ }
-    ensures { λ _. ⌜ RowsBelow (now (book .entry)) w chain i (now (rows .exit)) (121 - classOf (now (book .entry)) i) ⌝ }
+fn read_links(book: &[u8], w: Shifts, chain: usize, i: usize, rows: &mut [u64; 2720])
+    requires { ⌜ ShiftsOf (now book) w × ValidBook 1 (now book) × (chain < 14) × Standing (now book) 120 chain i ⌝ }
+    ensures { λ _. ⌜ RowsBelow (now (book .entry)) chain i (now (rows .exit)) (121 - classOf (now (book .entry)) i) ⌝ }
 {
     let mut row = i;
     let mut class = book::class_of(book, i);
@@ -102,18 +129,18 @@ fn read_links(book: &[u8], w: Decrements, chain: usize, i: usize, rows: &mut [u6
 
 // Copies the row before row `from` to the rows up to before row `to`.
 fn repeat_row(rows: &mut [u64], from: usize, to: usize)
-    requires { ⌜ (1 ≤ from) × (from ≤ to) × (12 * to ≤ length (now rows)) ⌝ }
-    ensures { λ _. ⌜ Repeated (now (rows .entry)) (now (rows .exit)) (12 * from) (12 * to) ⌝ }
+    requires { ⌜ (1 ≤ from) × (from ≤ to) × (16 * to ≤ length (now rows)) ⌝ }
+    ensures { λ _. ⌜ Repeated (now (rows .entry)) (now (rows .exit)) (16 * from) (16 * to) ⌝ }
 {
-    for j in 12 * from..12 * to {
-        rows[j] = rows[j - 12];
+    for j in 16 * from..16 * to {
+        rows[j] = rows[j - 16];
     }
 }
 
 // Reads the chain from record i on into the table, row by row. At the last class the same record holds for all later years.
-pub fn read_rows(book: &[u8], w: Decrements, chain: usize, i: usize, rows: &mut [u64; 2040])
-    requires { ⌜ Weighed w × ValidBook 1 (now book) × (chain < 14) × Standing (now book) 120 chain i ⌝ }
-    ensures { λ _. ⌜ RowsOf (now (book .entry)) w chain i (now (rows .exit)) ⌝ }
+pub fn read_rows(book: &[u8], w: Shifts, chain: usize, i: usize, rows: &mut [u64; 2720])
+    requires { ⌜ ShiftsOf (now book) w × ValidBook 1 (now book) × (chain < 14) × Standing (now book) 120 chain i ⌝ }
+    ensures { λ _. ⌜ RowsOf (now (book .entry)) chain i (now (rows .exit)) ⌝ }
 {
     let class = book::class_of(book, i);
     read_links(book, w, chain, i, rows);

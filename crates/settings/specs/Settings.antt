@@ -2,6 +2,7 @@
 -- Kinds: 0 mortality of men, 1 mortality of women, 2 lapse, 3 costs, 4 claims. A weight of mortality is so much for each percent of it.
 use mathlib.Core.Bool.{Bool}
 use mathlib.Core.List.{List}
+use mathlib.Core.Path.{_≡_}
 use Prim.Native.Nat.{ℕ, _*_, _/_, _≤_}
 use lib.Dec.{ltb, eqb}
 use Rattle.field.specs.Verdicts.{pick}
@@ -10,6 +11,7 @@ use Rattle.settings.specs.declared.DecrementWeights.{DecrementWeights}
 use Rattle.settings.specs.declared.Decrements.{Decrements}
 use Rattle.settings.specs.declared.OutgoWeights.{OutgoWeights}
 use Rattle.settings.specs.declared.Outgoings.{Outgoings}
+use Rattle.settings.specs.declared.Shifts.{Shifts}
 
 -- the base, setting 0: for mortality ten for each percent
 abbrev pub baseWeight : ℕ → ℕ
@@ -81,14 +83,20 @@ costsIn w k = pick (ltb k 5) (w .first .costs) (w .later .costs)
 abbrev pub claimsIn : Outgoings → ℕ → ℕ
 claimsIn w k = pick (ltb k 5) (w .first .claims) (w .later .claims)
 
--- no weight of mortality or lapse is above 1,300 thousandths
-pub record Weighed (w : Decrements) : Type 0 where
-  pub first-men : w .first .men ≤ 1300
-  pub first-women : w .first .women ≤ 1300
-  pub first-lapse : w .first .lapse ≤ 1300
-  pub later-men : w .later .men ≤ 1300
-  pub later-women : w .later .women ≤ 1300
-  pub later-lapse : w .later .lapse ≤ 1300
+-- w are the weights of mortality and lapse of a setting in year 0, none of them above 1,300 thousandths
+pub record WeightsOf (b : List ℕ) (setting : ℕ) (w : DecrementWeights) : Type 0 where
+  pub are : w ≡ decrementsAt b setting 0
+  pub men : w .men ≤ 1300
+  pub women : w .women ≤ 1300
+  pub lapse : w .lapse ≤ 1300
+
+-- those of the base and of the four settings that shift mortality or lapse
+pub record ShiftsOf (b : List ℕ) (w : Shifts) : Type 0 where
+  pub base : WeightsOf b 0 (w .base)
+  pub more-deaths : WeightsOf b 1 (w .moredeaths)
+  pub fewer-deaths : WeightsOf b 2 (w .fewerdeaths)
+  pub more-lapses : WeightsOf b 3 (w .morelapses)
+  pub fewer-lapses : WeightsOf b 4 (w .fewerlapses)
 
 -- no weight of costs is above 1,200 thousandths, none of claims above 1,050
 pub record OutgoWeighed (w : Outgoings) : Type 0 where

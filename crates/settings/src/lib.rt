@@ -3,8 +3,8 @@
 ghost use mathlib.Core.Path.{_≡_};
 ghost use Prim.Native.Nat.{_<_, _≤_};
 ghost use Rattle.book.specs.Reading.{ValidBook};
-ghost use Rattle.settings.specs.Settings.{weightOf, percentOf, mortalityWeight, decrementsAt, decrementsOf, outgoAt, outgoingsOf};
-ghost use Rattle.settings.specs.Settings.{ofSex, mortalityIn, lapseIn, costsIn, claimsIn, Weighed, OutgoWeighed};
+ghost use Rattle.settings.specs.Settings.{weightOf, percentOf, mortalityWeight, decrementsAt, outgoAt, outgoingsOf};
+ghost use Rattle.settings.specs.Settings.{ofSex, costsIn, claimsIn, ShiftsOf, OutgoWeighed};
 
 // The kinds of weight. Mortality has the number of its sex, 0 men, 1 women, and its weight is so much for each percent.
 const LAPSE: usize = 2;
@@ -164,50 +164,45 @@ impl DecrementWeights {
     }
 
     // The mortality of a sex: 0 men, else women.
-    fn of_sex(self, sex: usize) -> u64
+    pub fn of_sex(self, sex: usize) -> u64
         ensures { λ r. ⌜ r ≡ ofSex sex self ⌝ }
     {
         if sex == 0 { self.men } else { self.women }
     }
 }
 
-// The weights of mortality and lapse of a setting: in the years k = 0 to 4, and in the later ones.
+// The weights of mortality and lapse of a setting: in the years k = 0 to 4, and in the later ones. The definitions speak of them.
 pub struct Decrements {
     pub first: DecrementWeights,
     pub later: DecrementWeights,
 }
 
-impl Decrements {
-    pub fn new(book: &[u8], setting: usize) -> Decrements
-        requires { ⌜ (setting < 8) × ValidBook 1 (now book) ⌝ }
-        ensures { λ r. ⌜ (r ≡ decrementsOf (now (book .entry)) setting) × Weighed r ⌝ }
-    {
-        let first = DecrementWeights::new(book, setting, 0);
-        let later = DecrementWeights::new(book, setting, 5);
-        Decrements { first, later }
-    }
+// The weights of mortality and lapse in year 0, of the base and of the four settings that shift them: no other weights hold in any year of any
+// setting.
+pub struct Shifts {
+    pub base: DecrementWeights,
+    pub moredeaths: DecrementWeights,
+    pub fewerdeaths: DecrementWeights,
+    pub morelapses: DecrementWeights,
+    pub fewerlapses: DecrementWeights,
+}
 
-    // The weight of the mortality of a sex in the year k: 0 men, else women.
-    pub fn mortality(self, sex: usize, k: usize) -> u64
-        requires { ⌜ Weighed self ⌝ }
-        ensures { λ r. ⌜ (r ≡ mortalityIn self sex k) × (r ≤ 1300) ⌝ }
+impl Shifts {
+    pub fn new(book: &[u8]) -> Shifts
+        requires { ⌜ ValidBook 1 (now book) ⌝ }
+        ensures { λ r. ⌜ ShiftsOf (now (book .entry)) r ⌝ }
     {
-        if k < 5 {
-            self.first.of_sex(sex)
-        } else {
-            self.later.of_sex(sex)
-        }
-    }
-
-    // The weight of the lapse in the year k.
-    pub fn lapses(self, k: usize) -> u64
-        requires { ⌜ Weighed self ⌝ }
-        ensures { λ r. ⌜ (r ≡ lapseIn self k) × (r ≤ 1300) ⌝ }
-    {
-        if k < 5 {
-            self.first.lapse
-        } else {
-            self.later.lapse
+        let base = DecrementWeights::new(book, 0, 0);
+        let moredeaths = DecrementWeights::new(book, 1, 0);
+        let fewerdeaths = DecrementWeights::new(book, 2, 0);
+        let morelapses = DecrementWeights::new(book, 3, 0);
+        let fewerlapses = DecrementWeights::new(book, 4, 0);
+        Shifts {
+            base,
+            moredeaths,
+            fewerdeaths,
+            morelapses,
+            fewerlapses,
         }
     }
 }

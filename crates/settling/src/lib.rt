@@ -12,6 +12,7 @@ ghost use Rattle.reckoning.specs.Steps.{capped};
 ghost use Rattle.reckoning.specs.Portfolio.{costRateOf, divisorOf};
 ghost use Rattle.arith.specs.Fractions.{Fraction};
 ghost use Rattle.settling.specs.Settling.{Divisor, Divisors, AtMost, Stepped, DiscountedIn, outgoOf, fourOf};
+use arith::Two;
 use settings::Outgoings;
 
 // No doubled amount is above 2^55.
@@ -46,20 +47,38 @@ pub fn fraction_of(d: u64) -> u64
     1_000_000 * whole + 1_000_000 * rest / d
 }
 
-// An amount a year back at divisor d, by its fraction. Amount and divisor are doubled, so that the fraction of every divisor is below one.
-fn step_back(x: u64, d: u64, fraction: u64) -> u64
-    requires { ⌜ (x ≤ 10000000000000000) × Divisor d fraction ⌝ }
-    ensures { λ r. ⌜ r ≡ x * 1000000 / d ⌝ }
+// Two amounts a year back at divisor d, by its fraction. Amounts and divisor are doubled, so that the fraction of every divisor is below one.
+fn step_back(x: u64, y: u64, d: u64, fraction: u64) -> Two
+    requires { ⌜ (x ≤ 10000000000000000) × (y ≤ 10000000000000000) × Divisor d fraction ⌝ }
+    ensures { λ r. ⌜ (r .first ≡ x * 1000000 / d) × (r .second ≡ y * 1000000 / d) ⌝ }
 {
-    arith::part(2 * x, 1_000_000, 2 * d, fraction, MOST_DOUBLED)
+    arith::two_parts(
+        2 * x,
+        1_000_000,
+        fraction,
+        2 * y,
+        1_000_000,
+        fraction,
+        2 * d,
+        MOST_DOUBLED,
+    )
 }
 
-// One step on the amount of year k, at the divisor of that year.
-fn step_year(divisors: &[u64; 50], fractions: &[u64; 50], k: usize, amounts: &mut [u64; 50])
-    requires { ⌜ (k < 50) × (getD (now amounts) k 0 ≤ 10000000000000000) × Divisors (now divisors) (now fractions) ⌝ }
-    ensures { λ _. ⌜ now (amounts .exit) ≡ set (now (amounts .entry)) k (getD (now (amounts .entry)) k 0 * 1000000 / getD (now (divisors .entry)) k 0) ⌝ }
+// One step on premium and outgo of year k, at the divisor of that year.
+fn step_year(
+    divisors: &[u64; 50],
+    fractions: &[u64; 50],
+    k: usize,
+    premium: &mut [u64; 50],
+    outgo: &mut [u64; 50],
+)
+    requires { ⌜ (k < 50) × (getD (now premium) k 0 ≤ 10000000000000000) × (getD (now outgo) k 0 ≤ 10000000000000000) × Divisors (now divisors) (now fractions) ⌝ }
+    ensures { λ _. ⌜ now (premium .exit) ≡ set (now (premium .entry)) k (getD (now (premium .entry)) k 0 * 1000000 / getD (now (divisors .entry)) k 0) ⌝ }
+    ensures { λ _. ⌜ now (outgo .exit) ≡ set (now (outgo .entry)) k (getD (now (outgo .entry)) k 0 * 1000000 / getD (now (divisors .entry)) k 0) ⌝ }
 {
-    amounts[k] = step_back(amounts[k], divisors[k], fractions[k]);
+    let back = step_back(premium[k], outgo[k], divisors[k], fractions[k]);
+    premium[k] = back.first;
+    outgo[k] = back.second;
 }
 
 // One step on the amounts of the years from `from` to before `to`. No step waits for another.
@@ -75,8 +94,7 @@ fn step_years(
     ensures { λ _. ⌜ Stepped (now (divisors .entry)) from to (now (premium .entry)) (now (premium .exit)) × Stepped (now (divisors .entry)) from to (now (outgo .entry)) (now (outgo .exit)) ⌝ }
 {
     for k in from..to {
-        step_year(divisors, fractions, k, premium);
-        step_year(divisors, fractions, k, outgo);
+        step_year(divisors, fractions, k, premium, outgo);
     }
 }
 

@@ -3,11 +3,30 @@
 use field::Verdict;
 use libc::STDIN_FILENO;
 use libc::STDOUT_FILENO;
-use settings::Decrements;
+use settings::Shifts;
+use walks::Counts;
 
 pub enum Years {
     Reckoned(usize),
     NoCell,
+}
+
+// The years of the projection that serves a setting.
+fn years_of(counts: Counts, setting: usize) -> usize {
+    let projection = projection::projection_of(setting);
+    if projection == 1 {
+        return counts.moredeaths;
+    }
+    if projection == 2 {
+        return counts.fewerdeaths;
+    }
+    if projection == 3 {
+        return counts.morelapses;
+    }
+    if projection == 4 {
+        return counts.fewerlapses;
+    }
+    counts.base
 }
 
 // The walk of the first cell of a chain of an accepted book.
@@ -26,12 +45,12 @@ fn first_walk(book: &[u8], setting: usize, chain: usize) -> Years {
     if head == 0 {
         return Years::NoCell;
     }
-    let mut rows = [0u64; 2040];
-    let mut premium = [0u64; 50];
-    let mut claims = [0u64; 50];
-    rows::read_rows(book, Decrements::new(book, setting), chain, head, &mut rows);
+    let mut rows = [0u64; 2720];
+    let mut sums = [0u64; 500];
+    rows::read_rows(book, Shifts::new(book), chain, head, &mut rows);
     let count = book::field_of(book, head, book::COUNT_OFFSET);
-    Years::Reckoned(walks::walk(&rows, 0, count, &mut premium, &mut claims))
+    let stop = walks::walk(&rows, 0, count, &mut sums);
+    Years::Reckoned(years_of(stop.counts, setting))
 }
 
 fn write_years(years: Years) {

@@ -6,14 +6,16 @@ ghost use lib.IntN.{_+ℤ_, _-ℤ_};
 ghost use lib.Signed.{mag};
 ghost use Rattle.field.specs.declared.Verdict.the-variants.{Accepted, Refused};
 ghost use Rattle.book.specs.Reading.{ValidBook};
-ghost use Rattle.settings.specs.Settings.{decrementsOf};
+ghost use Rattle.settings.specs.Settings.{outgoingsOf, OutgoWeighed};
 ghost use Rattle.reckoning.specs.Totals.{totalOf, totalsOf, differencesOf, totalsFor, TotalsPromised};
-ghost use Rattle.years.specs.Outcome.{CurveOf};
-ghost use Rattle.totals.specs.Sums.{AllSums, AllLater};
+ghost use Rattle.reckoning.specs.Replies.{groupLiability};
+ghost use Rattle.projection.specs.Added.{TableOf};
+ghost use Rattle.years.specs.Outcome.{CurveOf, SettledIn};
+ghost use Rattle.totals.specs.Sums.{AllTables, AllLater, Sizes};
 use field::Verdict;
-use projection::Sums;
 use reckoning::TotalsReply;
-use settings::Decrements;
+use settings::Outgoings;
+use settings::Shifts;
 use years::Amounts;
 
 fn plus(a: i64, b: i64) -> i64
@@ -30,135 +32,166 @@ fn minus(a: i64, b: i64) -> i64
     a - b
 }
 
-// The year sums of the five product groups at the weights of a setting.
-fn all_sums(book: &[u8], setting: usize) -> [Sums; 5]
-    requires { ⌜ (setting < 8) × ValidBook 1 (now book) ⌝ }
-    ensures { λ r. ⌜ AllSums (now (book .entry)) (decrementsOf (now (book .entry)) setting) r ⌝ }
-{
-    let w = Decrements::new(book, setting);
-    [
-        projection::group_sums(book, w, 1),
-        projection::group_sums(book, w, 2),
-        projection::group_sums(book, w, 3),
-        projection::group_sums(book, w, 4),
-        projection::group_sums(book, w, 5),
-    ]
-}
-
-// What the years from k = 5 on give to the five product groups. Their weights of costs and claims are the same in every setting.
+// What the years from k = 5 on give to the five product groups, whose tables are p to t. Their weights of costs and claims are the same in every
+// setting.
 fn all_later(
     book: &[u8],
     divisors: &[u64; 50],
     fractions: &[u64; 50],
     setting: usize,
-    sums: [Sums; 5],
+    w: Outgoings,
+    p: &[u64; 500],
+    q: &[u64; 500],
+    r: &[u64; 500],
+    s: &[u64; 500],
+    t: &[u64; 500],
 ) -> [Amounts; 5]
-    requires { ⌜ (setting < 8) × ValidBook 1 (now book) × AllSums (now book) (decrementsOf (now book) setting) sums × CurveOf (now book) (now divisors) (now fractions) ⌝ }
-    ensures { λ r. ⌜ AllLater (now (book .entry)) setting r ⌝ }
+    requires { ⌜ (setting < 8) × ValidBook 1 (now book) × AllTables (now book) (now p) (now q) (now r) (now s) (now t) × CurveOf (now book) (now divisors) (now fractions) ⌝ }
+    requires { ⌜ (w ≡ outgoingsOf setting) × OutgoWeighed w ⌝ }
+    ensures { λ a. ⌜ AllLater (now (book .entry)) setting a ⌝ }
 {
-    let p = sums[0];
-    let q = sums[1];
-    let r = sums[2];
-    let s = sums[3];
-    let t = sums[4];
     [
-        years::settle_in(book, divisors, fractions, setting, 1, p, 5, 50),
-        years::settle_in(book, divisors, fractions, setting, 2, q, 5, 50),
-        years::settle_in(book, divisors, fractions, setting, 3, r, 5, 50),
-        years::settle_in(book, divisors, fractions, setting, 4, s, 5, 50),
-        years::settle_in(book, divisors, fractions, setting, 5, t, 5, 50),
+        years::settle_in(book, divisors, fractions, setting, w, 1, p, 5, 50),
+        years::settle_in(book, divisors, fractions, setting, w, 2, q, 5, 50),
+        years::settle_in(book, divisors, fractions, setting, w, 3, r, 5, 50),
+        years::settle_in(book, divisors, fractions, setting, w, 4, s, 5, 50),
+        years::settle_in(book, divisors, fractions, setting, w, 5, t, 5, 50),
     ]
 }
 
-// The total of a setting: the five groups' liabilities added, each from its first five years and from its later ones.
+// The liability of a product group: from its first five years, and from what its later ones give.
+fn liability_of(
+    book: &[u8],
+    divisors: &[u64; 50],
+    fractions: &[u64; 50],
+    setting: usize,
+    w: Outgoings,
+    group: usize,
+    numbers: &[u64; 500],
+    later: Amounts,
+) -> i64
+    requires { ⌜ (setting < 8) × (1 ≤ group) × (group ≤ 5) × ValidBook 1 (now book)
+        × TableOf (now book) group (now numbers) × SettledIn (now book) setting group 5 50 later × CurveOf (now book) (now divisors) (now fractions) ⌝ }
+    requires { ⌜ (w ≡ outgoingsOf setting) × OutgoWeighed w ⌝ }
+    ensures { λ r. ⌜ (r ≡ groupLiability (now (book .entry)) setting group) × (mag r ≤ 495000000000000000) ⌝ }
+{
+    let first = years::settle_in(book, divisors, fractions, setting, w, group, numbers, 0, 5);
+    settling::less(first.outgo + later.outgo, first.premium + later.premium)
+}
+
+// The total of a setting: the five groups' liabilities added.
 fn total(
     book: &[u8],
     divisors: &[u64; 50],
     fractions: &[u64; 50],
     setting: usize,
-    sums: [Sums; 5],
+    p: &[u64; 500],
+    q: &[u64; 500],
+    r: &[u64; 500],
+    s: &[u64; 500],
+    t: &[u64; 500],
     later: [Amounts; 5],
 ) -> i64
-    requires { ⌜ (setting < 8) × ValidBook 1 (now book) × AllSums (now book) (decrementsOf (now book) setting) sums × AllLater (now book) setting later × CurveOf (now book) (now divisors) (now fractions) ⌝ }
-    ensures { λ r. ⌜ (r ≡ totalOf (now (book .entry)) setting) × (mag r ≤ 2475000000000000005) ⌝ }
+    requires { ⌜ (setting < 8) × ValidBook 1 (now book) × AllTables (now book) (now p) (now q) (now r) (now s) (now t) × AllLater (now book) setting later × CurveOf (now book) (now divisors) (now fractions) ⌝ }
+    ensures { λ x. ⌜ (x ≡ totalOf (now (book .entry)) setting) × (mag x ≤ 2475000000000000005) ⌝ }
 {
-    let mut sum: i64 = 0;
-    for j in 0usize..5 {
-        let s = sums[j];
-        let l = later[j];
-        let f = years::settle_in(book, divisors, fractions, setting, j + 1, s, 0, 5);
-        sum = plus(
-            sum,
-            settling::less(f.outgo + l.outgo, f.premium + l.premium),
-        );
-    }
-    sum
+    let w = Outgoings::new(setting);
+    let a = later[0];
+    let b = later[1];
+    let c = later[2];
+    let d = later[3];
+    let e = later[4];
+    let one = liability_of(book, divisors, fractions, setting, w, 1, p, a);
+    let two = liability_of(book, divisors, fractions, setting, w, 2, q, b);
+    let three = liability_of(book, divisors, fractions, setting, w, 3, r, c);
+    let four = liability_of(book, divisors, fractions, setting, w, 4, s, d);
+    let five = liability_of(book, divisors, fractions, setting, w, 5, t, e);
+    plus(plus(plus(plus(plus(0, one), two), three), four), five)
 }
 
-// The total of a setting whose sums no other setting shares.
-fn total_of(book: &[u8], divisors: &[u64; 50], fractions: &[u64; 50], setting: usize) -> i64
-    requires { ⌜ (setting < 8) × ValidBook 1 (now book) × CurveOf (now book) (now divisors) (now fractions) ⌝ }
-    ensures { λ r. ⌜ (r ≡ totalOf (now (book .entry)) setting) × (mag r ≤ 2475000000000000005) ⌝ }
+// The total of a setting whose later years no other setting shares.
+fn total_of(
+    book: &[u8],
+    divisors: &[u64; 50],
+    fractions: &[u64; 50],
+    setting: usize,
+    p: &[u64; 500],
+    q: &[u64; 500],
+    r: &[u64; 500],
+    s: &[u64; 500],
+    t: &[u64; 500],
+) -> i64
+    requires { ⌜ (setting < 8) × ValidBook 1 (now book) × AllTables (now book) (now p) (now q) (now r) (now s) (now t) × CurveOf (now book) (now divisors) (now fractions) ⌝ }
+    ensures { λ x. ⌜ (x ≡ totalOf (now (book .entry)) setting) × (mag x ≤ 2475000000000000005) ⌝ }
 {
-    let sums = all_sums(book, setting);
-    total(
-        book,
-        divisors,
-        fractions,
-        setting,
-        sums,
-        all_later(book, divisors, fractions, setting, sums),
-    )
+    let w = Outgoings::new(setting);
+    let later = all_later(book, divisors, fractions, setting, w, p, q, r, s, t);
+    total(book, divisors, fractions, setting, p, q, r, s, t, later)
 }
 
-// The reply of an accepted book. Settings 5, 6 and 7 shift costs and claims alone, and these in the first five years: the sums of the base
-// setting serve them too, and so do its later years.
-fn eight_totals(book: &[u8], divisors: &[u64; 50], fractions: &[u64; 50], n: u64) -> TotalsReply
-    requires { ⌜ ValidBook 1 (now book) × CurveOf (now book) (now divisors) (now fractions) ⌝ }
-    ensures { λ r. ⌜ r ≡ totalsFor (Accepted n) n (totalsOf (now (book .entry))) (differencesOf (now (book .entry))) ⌝ }
+// The eight totals. Settings 5, 6 and 7 shift costs and claims alone, and these in the first five years: the base's later years serve them too.
+fn eight_totals(
+    book: &[u8],
+    divisors: &[u64; 50],
+    fractions: &[u64; 50],
+    p: &[u64; 500],
+    q: &[u64; 500],
+    r: &[u64; 500],
+    s: &[u64; 500],
+    t: &[u64; 500],
+) -> [i64; 8]
+    requires { ⌜ ValidBook 1 (now book) × AllTables (now book) (now p) (now q) (now r) (now s) (now t) × CurveOf (now book) (now divisors) (now fractions) ⌝ }
+    ensures { λ a. ⌜ (a ≡ totalsOf (now (book .entry))) × Sizes a ⌝ }
 {
-    let sums = all_sums(book, 0);
-    let later = all_later(book, divisors, fractions, 0, sums);
-    let base = total(book, divisors, fractions, 0, sums, later);
-    let deaths_up = total_of(book, divisors, fractions, 1);
-    let deaths_down = total_of(book, divisors, fractions, 2);
-    let lapses_up = total_of(book, divisors, fractions, 3);
-    let lapses_down = total_of(book, divisors, fractions, 4);
-    let costs_up = total(book, divisors, fractions, 5, sums, later);
-    let costs_down = total(book, divisors, fractions, 6, sums, later);
-    let claims_up = total(book, divisors, fractions, 7, sums, later);
-    TotalsReply {
-        refusal: 0,
-        place: 0,
-        n,
-        totals: [
-            base,
-            deaths_up,
-            deaths_down,
-            lapses_up,
-            lapses_down,
-            costs_up,
-            costs_down,
-            claims_up,
-        ],
-        differences: [
-            minus(deaths_up, deaths_down),
-            minus(lapses_up, lapses_down),
-            minus(costs_up, costs_down),
-            minus(claims_up, base),
-        ],
-    }
+    let w = Outgoings::new(0);
+    let later = all_later(book, divisors, fractions, 0, w, p, q, r, s, t);
+    [
+        total(book, divisors, fractions, 0, p, q, r, s, t, later),
+        total_of(book, divisors, fractions, 1, p, q, r, s, t),
+        total_of(book, divisors, fractions, 2, p, q, r, s, t),
+        total_of(book, divisors, fractions, 3, p, q, r, s, t),
+        total_of(book, divisors, fractions, 4, p, q, r, s, t),
+        total(book, divisors, fractions, 5, p, q, r, s, t, later),
+        total(book, divisors, fractions, 6, p, q, r, s, t, later),
+        total(book, divisors, fractions, 7, p, q, r, s, t, later),
+    ]
 }
 
-// The same: the curve is read once for all settings.
-fn reckoned(book: &[u8], n: u64) -> TotalsReply
+// The same: the curve and the weights are read once for all settings, and the year sums of a product group are made once.
+fn all_totals(book: &[u8]) -> [i64; 8]
     requires { ⌜ ValidBook 1 (now book) ⌝ }
-    ensures { λ r. ⌜ r ≡ totalsFor (Accepted n) n (totalsOf (now (book .entry))) (differencesOf (now (book .entry))) ⌝ }
+    ensures { λ a. ⌜ (a ≡ totalsOf (now (book .entry))) × Sizes a ⌝ }
 {
     let curve = years::curve_of(book);
     let divisors = curve.divisors;
     let fractions = curve.fractions;
-    eight_totals(book, &divisors, &fractions, n)
+    let w = Shifts::new(book);
+    let p = projection::group_sums(book, w, 1).numbers;
+    let q = projection::group_sums(book, w, 2).numbers;
+    let r = projection::group_sums(book, w, 3).numbers;
+    let s = projection::group_sums(book, w, 4).numbers;
+    let t = projection::group_sums(book, w, 5).numbers;
+    eight_totals(book, &divisors, &fractions, &p, &q, &r, &s, &t)
+}
+
+// The reply of an accepted book.
+fn reckoned(book: &[u8], n: u64) -> TotalsReply
+    requires { ⌜ ValidBook 1 (now book) ⌝ }
+    ensures { λ r. ⌜ r ≡ totalsFor (Accepted n) n (totalsOf (now (book .entry))) (differencesOf (now (book .entry))) ⌝ }
+{
+    let totals = all_totals(book);
+    TotalsReply {
+        refusal: 0,
+        place: 0,
+        n,
+        totals,
+        differences: [
+            minus(totals[1], totals[2]),
+            minus(totals[3], totals[4]),
+            minus(totals[5], totals[6]),
+            minus(totals[7], totals[0]),
+        ],
+    }
 }
 
 // The reply of a refused book.

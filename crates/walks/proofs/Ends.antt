@@ -1,29 +1,21 @@
--- Where a cell's walk ends: at the first year with nothing in force, after which nothing is added. Assumes nothing.
-use mathlib.Core.Path.{_≡_, refl, sym, _∙_}
+-- Where a walk ends: at the first year with nothing in force, after which nothing is added. Assumes nothing.
+use mathlib.Core.Path.{_≡_, refl, sym, ap, _∙_}
 use mathlib.Core.Logic.{_⊎_, inl, inr, ⊎-elim}
 use mathlib.Core.Bool.{Bool, true, false}
 use mathlib.Core.List.{List}
-use Prim.Native.Nat.{ℕ, zero, suc, _+_, _-_, _<_, _≤_}
+use Prim.Native.Nat.{ℕ, zero, suc, _+_, _-_, _*_, _/_, _%_, _<_, _≤_}
 use native.Mathlib.Nat.{eq-or-lt-of-le, zero-add, suc-add, zero-mul, zero-div}
 use native.Mathlib.Numerals.{add-one}
 use native.Mathlib.Omega.{arith}
-use borrow.Author.Tests.{eq-eqb, ne-eqb, eqb-true, eqb-false}
-use lib.Dec.{eqb}
+use borrow.Author.Tests.{eq-eqb, ne-eqb, eqb-true, eqb-false, ltb-true, ltb-false}
+use lib.Dec.{eqb, ltb}
 use Rattle.field.specs.Verdicts.{pick}
-use Rattle.book.specs.Layout.{classOf, fieldOf, countOffset}
-use Rattle.book.specs.Reading.{Standing}
-use Rattle.settings.specs.declared.Decrements.{Decrements}
 use Rattle.reckoning.specs.Arithmetic.{rounded}
 use Rattle.reckoning.specs.Steps.{Cell, inForce, cellPremium, cellClaims}
-use Rattle.reckoning.specs.Portfolio.{rowAt, cellOf}
-use Rattle.rows.specs.Rows.{RowsOf}
-use Rattle.cell.specs.States.{cellIn, Walkable, premiumBy, claimsBy, premiumAt, claimsAt}
-use Rattle.cell.proofs.Agreement.{walkable, inforce-same, premium-same, claims-same}
-use Rattle.walks.specs.Tables.{added, late}
-use Rattle.walks.specs.Ends.{firstZero, yearsInForce, Going}
-use Rattle.walks.specs.Walked.{WalkedTo, WalkedFrom, WalkedBy, Walked}
-use Rattle.walks.specs.declared.Stop.{Stop}
-use Rattle.walks.proofs.Years.{added-same, late-rest}
+use Rattle.cell.specs.States.{premiumBy, claimsBy}
+use Rattle.walks.specs.Tables.{amountBy}
+use Rattle.walks.specs.Ends.{firstZero, yearsBefore, yearsInForce, together, yearsTogether}
+use Rattle.walks.proofs.Years.{amount-each}
 
 -- n is the first year from k on and before m in which f is 0, or m where there is none
 pub record IsFirst (f : ℕ → ℕ) (k m n : ℕ) : Type 0 where
@@ -61,6 +53,30 @@ module _ (f : ℕ → ℕ) where
             most = omega (arith, r .most);
           }
 
+  pub found : (m : ℕ) → IsFirst f 0 m (firstZero f 0 m)
+  found m = rw (zero-add m) at (first-found m 0)
+
+  -- there is no other
+  no-less : (m n p : ℕ) → IsFirst f 0 m n → IsFirst f 0 m p → n < p → ⊥
+  no-less m n p a b l = b .before n (omega arith) l (a .there (omega (arith, b .most)))
+
+  pub first-only : (m n p : ℕ) → IsFirst f 0 m n → IsFirst f 0 m p → n ≡ p
+  first-only m n p a b = by (ltb n p) refl (ltb p n) refl
+    where
+      by : (x : Bool) → ltb n p ≡ x → (y : Bool) → ltb p n ≡ y → n ≡ p
+      by true e y g = absurd (no-less m n p a b (ltb-true n p e))
+      by false e true g = absurd (no-less m p n b a (ltb-true p n g))
+      by false e false g = omega (arith, ltb-false n p e, ltb-false p n g)
+
+  -- a first year found among fewer years is that among more, where the next of them has nothing
+  pub first-still : (k m n : ℕ) → IsFirst f 0 k n → f k ≡ 0 → k ≤ m → IsFirst f 0 m n
+  first-still k m n a z h =
+      record {
+        before = a .before;
+        there = λ l. ⊎-elim (λ (e : n ≡ k). rw e z) (λ (g : n < k). a .there g) (eq-or-lt-of-le (a .most));
+        most = omega (arith, a .most);
+      }
+
 module _ (c : Cell) where
   -- once nothing is in force, nothing is in any later year
   nothing-next : (k : ℕ) → inForce rounded c k ≡ 0 → inForce rounded c (suc k) ≡ 0
@@ -78,70 +94,64 @@ module _ (c : Cell) where
 
   -- the years of a walk end at the first with nothing in force, or are fifty
   pub first-year : IsFirst (inForce rounded c) 0 50 (yearsInForce c)
-  unfolding yearsInForce
-  first-year = first-found (inForce rounded c) 50 0
-
-  -- every walk goes on in year 0
-  pub going-first : Going c 0
-  unfolding yearsInForce
-  going-first = refl
+  unfolding yearsBefore
+  first-year = found (inForce rounded c) 50
 
   -- a cell with no contracts has none
   pub no-contracts : c .count ≡ 0 → yearsInForce c ≡ 0
-  unfolding yearsInForce inForce
+  unfolding yearsBefore inForce
   no-contracts z = first-here (inForce rounded c) 0 50 (omega arith) (rw (z, zero-mul))
 
+  -- a year more
+  pub years-more : (k : ℕ) → pick (eqb (inForce rounded c k) 0) (yearsBefore c k) (k + 1) ≡ yearsBefore c (k + 1)
+  unfolding yearsBefore
+  years-more k = by (eqb (inForce rounded c k) 0) refl
+    where
+      f : ℕ → ℕ
+      f = inForce rounded c
+
+      by : (none : Bool) → eqb (inForce rounded c k) 0 ≡ none → pick none (firstZero (inForce rounded c) 0 k) (k + 1) ≡ firstZero (inForce rounded c) 0 (k + 1)
+      by true e = first-only _ (k + 1) _ _ (first-still _ k (k + 1) _ (found _ k) (eqb-true _ _ e) (omega arith)) (found _ (k + 1))
+      by false e =
+          first-only _ (k + 1) _ _
+          (record {
+            before = λ j h l z. eqb-false _ _ e (nothing-later j z k (omega arith));
+            there = λ l. absurd (omega arith);
+            most = omega arith;
+          })
+          (found _ (k + 1))
+
+  -- no years are counted once nothing is in force
+  pub years-end : (k : ℕ) → k ≤ 50 → inForce rounded c k ≡ 0 → yearsBefore c k ≡ yearsInForce c
+  unfolding yearsBefore
+  years-end k h z = first-only _ 50 _ _ (first-still _ k 50 _ (found _ k) z h) (found _ 50)
+
   -- nothing in force adds nothing
-  no-premium : (k : ℕ) → inForce rounded c k ≡ 0 → premiumBy c k ≡ 0
+  pub no-premium : (k : ℕ) → inForce rounded c k ≡ 0 → premiumBy c k ≡ 0
   unfolding premiumBy cellPremium
   no-premium k z = rw (z, zero-mul, zero-div)
 
-  no-claims : (k : ℕ) → inForce rounded c k ≡ 0 → claimsBy c k ≡ 0
+  pub no-claims : (k : ℕ) → inForce rounded c k ≡ 0 → claimsBy c k ≡ 0
   unfolding claimsBy cellClaims
   no-claims k z = rw (z, zero-mul, zero-div)
 
-  -- so a walk from year m on that ends there makes of the tables what fifty years make
-  pub walked-from : (m n : ℕ) (p p′ q q′ : List ℕ) → m ≤ n → n ≡ yearsInForce c
-      → p′ ≡ added (late m (premiumBy c)) n p → q′ ≡ added (late m (claimsBy c)) n q → WalkedFrom c m n p p′ q q′
-  walked-from m n p p′ q q′ h e ep eq =
-      let r : IsFirst (inForce rounded c) 0 50 n = rw e first-year in
-      let none : (j : ℕ) → n ≤ j → j < 50 → inForce rounded c j ≡ 0 = λ j g l. nothing-later n (r .there (omega arith)) j g in
-      record {
-        premium = ep ∙ late-rest m n (premiumBy c) p h (r .most) (λ j g l. no-premium j (none j g l));
-        claims = eq ∙ late-rest m n (claimsBy c) q h (r .most) (λ j g l. no-claims j (none j g l));
-        years = e;
-      }
+-- what holds of each of the five projections
+pub each-five : (P : ℕ → Type 0) → P 0 → P 1 → P 2 → P 3 → P 4 → (s : ℕ) → s < 5 → P s
+each-five P a b c d e zero l = a
+each-five P a b c d e (suc zero) l = b
+each-five P a b c d e (suc (suc zero)) l = c
+each-five P a b c d e (suc (suc (suc zero))) l = d
+each-five P a b c d e (suc (suc (suc (suc zero)))) l = e
+each-five P a b c d e (suc (suc (suc (suc (suc n))))) l = absurd (omega arith)
 
--- a walk up to year 50 stops where its years end
-pub walked-out : (t : List ℕ) (r n m : ℕ) (s : Stop) (p p′ q q′ : List ℕ) → WalkedTo t r n m 50 s p p′ q q′ → WalkedFrom (cellIn t r n) m (s .k) p p′ q q′
-unfolding firstZero
-walked-out t r n m s p p′ q q′ e = walked-from (cellIn t r n) m (s .k) p p′ q q′ (e .since) (all (eq-or-lt-of-le (e .most))) (e .premium) (e .claims)
-  where
-    all : (s .k ≡ 50) ⊎ (s .k < 50) → s .k ≡ yearsInForce (cellIn t r n)
-    all (inl z) = z ∙ (rw z at (e .going))
-    all (inr h) = sym (first-here _ (s .k) (50 - s .k) (omega arith) (e .ended h)) ∙ e .going
+-- nothing together is nothing in each
+module _ (c : ℕ → Cell) (k : ℕ) (z : together c k ≡ 0) where
+  pub none-each : (s : ℕ) → s < 5 → inForce rounded (c s) k ≡ 0
+  unfolding together
+  none-each = each-five (λ s. inForce rounded (c s) k ≡ 0) (omega (arith, z)) (omega (arith, z)) (omega (arith, z)) (omega (arith, z)) (omega (arith, z))
 
--- a search of two functions that agree
-pub first-same : (f g : ℕ → ℕ) (left k : ℕ) → ((j : ℕ) → j < k + left → f j ≡ g j) → firstZero f k left ≡ firstZero g k left
-unfolding firstZero
-first-same f g zero k h = refl
-first-same f g (suc left) k h = rw (h k (omega arith), first-same f g left (k + 1) (λ j l. h j (omega arith)))
-
--- a walk over the rows of a chain is the walk of the cell of its record
-module _ (b : List ℕ) (w : Decrements) (chain i : ℕ) (s : Standing b 120 chain i) (t : List ℕ) (rows : RowsOf b w chain i t) (own j n : ℕ)
-    (fits : own ≤ 120 - classOf b i) (record-is : j ≡ rowAt b i own) (count-is : n ≡ fieldOf b j countOffset) where
-  pub walkable-here : Walkable t own n
-  walkable-here = rw (count-is, record-is) (walkable b w chain i s t rows own fits)
-
-  pub premium-added : (p : List ℕ) → added (premiumBy (cellIn t own n)) 50 p ≡ added (premiumAt b w j) 50 p
-  premium-added p = rw (count-is, record-is) (added-same _ _ 50 p (premium-same b w chain i s t rows own fits))
-
-  pub claims-added : (q : List ℕ) → added (claimsBy (cellIn t own n)) 50 q ≡ added (claimsAt b w j) 50 q
-  claims-added q = rw (count-is, record-is) (added-same _ _ 50 q (claims-same b w chain i s t rows own fits))
-
-  years-same : yearsInForce (cellIn t own n) ≡ yearsInForce (cellOf b w j)
-  unfolding yearsInForce
-  years-same = rw (count-is, record-is) (first-same _ _ 50 0 (λ k l. inforce-same b w chain i s t rows own fits k (omega arith)))
-
-  pub walked : (m : ℕ) (p p′ q q′ : List ℕ) → WalkedBy (cellIn t own n) m p p′ q q′ → Walked b w j m p p′ q q′
-  walked m p p′ q q′ e = record { premium = e .premium ∙ premium-added p; claims = e .claims ∙ claims-added q; years = e .years ∙ years-same }
+  -- and adds nothing from there on
+  pub no-amount : (j : ℕ) → 10 * k ≤ j → amountBy c j ≡ 0
+  no-amount j h =
+      let none : inForce rounded (c (j % 10 / 2)) (j / 10) ≡ 0 = nothing-later (c (j % 10 / 2)) k (none-each (j % 10 / 2) (omega arith)) (j / 10) (omega arith) in
+      amount-each (λ x. x ≡ 0) c j (no-premium _ _ none) (no-claims _ _ none)

@@ -1,2 +1,4 @@
 pub mod Years
 pub mod Ends
+pub mod Together
+pub mod Records

@@ -1,28 +1,43 @@
--- Tables of fifty numbers, one a year: what a run over the years adds to one.
+-- A table of five hundred numbers: for each of the fifty years ten, for each of the five projections premium and claims. What is added to one.
 use mathlib.Core.List.{List, [], _∷_}
-use Prim.Native.Nat.{ℕ, zero, suc, _+_, _≤_}
-use lib.Dec.{ltb}
+use Prim.Native.Nat.{ℕ, zero, suc, _+_, _/_, _%_, _≤_}
+use lib.Dec.{ltb, eqb}
 use lib.ListN.{getD, set}
 use Rattle.field.specs.Verdicts.{pick}
+use Rattle.settings.specs.Settings.{decrementsOf}
+use Rattle.reckoning.specs.Steps.{Cell}
+use Rattle.reckoning.specs.Portfolio.{cellOf}
+use Rattle.cell.specs.States.{premiumBy, claimsBy}
+
+-- what a cell adds to number j, where c gives it in each projection: premium at the even places, claims at the odd ones
+unfoldable pub amountBy : (ℕ → Cell) → ℕ → ℕ
+amountBy c j = pick (eqb (j % 2) 0) (premiumBy (c (j % 10 / 2)) (j / 10)) (claimsBy (c (j % 10 / 2)) (j / 10))
+
+-- the same of the cell of record i of a book: projection s is that of setting s
+unfoldable pub amountAt : List ℕ → ℕ → ℕ → ℕ
+amountAt b i = amountBy (λ s. cellOf b (decrementsOf b s) i)
 
 -- the table t with f j added to its number j, for each j below n
 unfoldable pub added : (ℕ → ℕ) → ℕ → List ℕ → List ℕ
 added f zero t = t
 added f (suc n) t = set (added f n t) n (getD (added f n t) n 0 + f n)
 
--- the same for each record i of a list, with what f gives for it, in all fifty years
+-- the same for each record i of a list, with what f gives for it, in all five hundred
 unfoldable pub addedAll : (ℕ → ℕ → ℕ) → List ℕ → List ℕ → List ℕ
 addedAll f [] t = t
-addedAll f (i ∷ links) t = addedAll f links (added (f i) 50 t)
+addedAll f (i ∷ links) t = addedAll f links (added (f i) 500 t)
 
 -- no number of the table is above m
 abbrev pub AtMost : ℕ → List ℕ → Type 0
 AtMost m t = (j : ℕ) → getD t j 0 ≤ m
 
--- f from year m on, and nothing before
+-- f from number m on, and nothing before
 unfoldable pub late : ℕ → (ℕ → ℕ) → ℕ → ℕ
-late m f k = pick (ltb k m) 0 (f k)
+late m f j = pick (ltb j m) 0 (f j)
 
--- what three cells add together
-unfoldable pub three : (ℕ → ℕ) → (ℕ → ℕ) → (ℕ → ℕ) → ℕ → ℕ
-three f g h k = f k + g k + h k
+-- x more at number j, and y more at the next
+abbrev pub oneMore : List ℕ → ℕ → ℕ → List ℕ
+oneMore t j x = set t j (getD t j 0 + x)
+
+unfoldable pub twoMore : List ℕ → ℕ → ℕ → ℕ → List ℕ
+twoMore t j x y = oneMore (oneMore t j x) (j + 1) y

@@ -39,25 +39,25 @@ module _ (b : List ℕ) (v : ValidBook 1 b) where
         chains-most left (k + 1) (m + 121_000_000_000_000) (addedAll f (chainLinks b k) t) (omega arith) first j in
         rw (added-append f (chainLinks b k) (linksOf b (k + 1) left) t) (omega (arith, more))
 
-    group-most : (g k : ℕ) → g ≤ 5 → k < 50 → sumOver (λ i. f i k) (groupLinks b g) ≤ mostSum
+    group-most : (g k : ℕ) → g ≤ 5 → k < 500 → sumOver (λ i. f i k) (groupLinks b g) ≤ mostSum
     group-most g k hi year =
         let few : chainsOf g ≤ 6 = pick-le (eqb g 1) 6 (omega arith) (omega arith) in
         omega (
           arith,
-          sum-from-zero f (groupLinks b g) (addedAll f (groupLinks b g) (replicate 50 0)) refl k year,
-          chains-most (chainsOf g) (firstChain g) 0 (replicate 50 0) (chains-few g hi) zero-most k,
+          sum-from-zero f (groupLinks b g) (addedAll f (groupLinks b g) (replicate 500 0)) refl k year,
+          chains-most (chainsOf g) (firstChain g) 0 (replicate 500 0) (chains-few g hi) (zero-most 500) k,
         )
 
   module _ (w : Decrements) (g k : ℕ) (hi : g ≤ 5) (year : k < 50) where
     premium-most : premiumSum rounded (groupCells b w g) k ≤ mostSum
     premium-most =
         rw (← premium-sum-is b w k (groupLinks b g))
-        (group-most (premiumAt b w) (λ c i h s. premium-at-le b w c i s) g k hi year)
+        (group-most (premiumAt b w) (λ c i h s. premium-at-le b w c i s) g k hi (omega arith))
 
     claims-most : claimsSum rounded (groupCells b w g) k ≤ mostSum
     claims-most =
         rw (← claims-sum-is b w k (groupLinks b g))
-        (group-most (claimsAt b w) (λ c i h s. claims-at-le b w c i s) g k hi year)
+        (group-most (claimsAt b w) (λ c i h s. claims-at-le b w c i s) g k hi (omega arith))
 
 module _ (t : Terms) (cs : List Cell) (k : ℕ) where
   -- the cap never raises a premium

@@ -4,8 +4,8 @@ use mathlib.Core.Path.{_≡_}
 use Prim.Native.Nat.{ℕ, _+_, _*_, _<_, _≤_}
 use lib.ListN.{getD}
 use Rattle.book.specs.Reading.{ValidBook}
-use Rattle.settings.specs.Settings.{Weighed, decrementsOf}
-use Rattle.settings.specs.declared.Decrements.{Decrements}
+use Rattle.settings.specs.Settings.{ShiftsOf, decrementsOf}
+use Rattle.settings.specs.declared.Shifts.{Shifts}
 use Rattle.reckoning.specs.Arithmetic.{rounded}
 use Rattle.reckoning.specs.Steps.{outgo, countedPremium}
 use Rattle.reckoning.specs.Portfolio.{groupCells, termsOf}
@@ -15,14 +15,13 @@ use Rattle.year_report.specs.Report.{heading, roomOf}
 use Rattle.year_report.specs.declared.YearTable.{YearTable}
 use Rattle.year_report.specs.declared.Measured.{Measured}
 
--- what settling one product group of an accepted book asks: the weights w are the setting's
-pub record Asked (b : List ℕ) (setting : ℕ) (w : Decrements) (g : ℕ) : Type 0 where
+-- what settling one product group of an accepted book asks: the weights w are the book's
+pub record Asked (b : List ℕ) (setting : ℕ) (w : Shifts) (g : ℕ) : Type 0 where
   pub setting-is : setting < 8
   pub lo : 1 ≤ g
   pub hi : g ≤ 5
   pub book : ValidBook 1 b
-  pub weighed : Weighed w
-  pub weights : w ≡ decrementsOf b setting
+  pub weights : ShiftsOf b w
 
 -- the table has the premium after cap and the outgo of each year of product group g
 pub record Years (b : List ℕ) (setting g : ℕ) (table : List ℕ) : Type 0 where

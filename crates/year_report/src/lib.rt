@@ -7,7 +7,7 @@ ghost use Rattle.text.specs.Text.{Wrote};
 ghost use Rattle.year_report.specs.Report.{reportCheck, ReportPromised, RoomPromised};
 ghost use Rattle.year_report.specs.Tables.{Asked, Years, Measures, reportFrom};
 use field::Verdict;
-use settings::Decrements;
+use settings::Shifts;
 
 // What both calls answer: the length written or the buffer wanted, or the refusal and its place.
 pub enum ReportReply {
@@ -31,18 +31,14 @@ struct YearTable {
     numbers: [u64; 200],
 }
 
-fn year_table(book: &[u8], setting: usize, w: Decrements, group: usize) -> YearTable
+fn year_table(book: &[u8], setting: usize, w: Shifts, group: usize) -> YearTable
     requires { ⌜ Asked (now book) setting w group ⌝ }
     ensures { λ r. ⌜ Years (now (book .entry)) setting group (r .numbers) ⌝ }
 {
     let mut numbers = [0u64; 200];
-    years::settle(
-        book,
-        setting,
-        group,
-        projection::group_sums(book, w, group),
-        &mut numbers,
-    );
+    let sums = projection::group_sums(book, w, group);
+    let amounts = sums.numbers;
+    years::settle(book, setting, group, &amounts, &mut numbers);
     YearTable { numbers }
 }
 
@@ -56,7 +52,7 @@ fn measured_years(book: &[u8], setting: usize) -> Measured
     requires { ⌜ (setting < 8) × ValidBook 1 (now book) ⌝ }
     ensures { λ r. ⌜ Measures (now (book .entry)) setting r ⌝ }
 {
-    let w = Decrements::new(book, setting);
+    let w = Shifts::new(book);
     let mut years = Measured {
         tables: [YearTable { numbers: [0; 200] }; 5],
         bytes: 25,

@@ -25,7 +25,7 @@ stored P table k x l h p i lt =
 
 -- no year at first, then one more
 pub in-none : (f : ℕ → ℕ) (m from : ℕ) → InYears f m from from (replicate 50 0)
-in-none f m from = record { are = λ k h l. absurd (omega arith); most = λ k h. omega (arith, zero-most k) }
+in-none f m from = record { are = λ k h l. absurd (omega arith); most = λ k h. omega (arith, zero-most 50 k) }
 
 pub in-more : (f : ℕ → ℕ) (m from k x : ℕ) (table : List ℕ) → k < length table → InYears f m from k table → x ≡ f k → x ≤ m
     → InYears f m from (k + 1) (set table k x)

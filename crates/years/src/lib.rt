@@ -1,12 +1,12 @@
 // The fifty years of a product group settled: its liability and its year table from its year sums, or what some years give.
 // Internal: it asks for an accepted book, which the calls above have from the check.
+ghost use mathlib.Core.Path.{_≡_};
 ghost use Prim.Native.Nat.{_<_, _≤_};
 ghost use lib.ListN.{length};
 ghost use Rattle.book.specs.Reading.{ValidBook};
-ghost use Rattle.settings.specs.Settings.{decrementsOf};
-ghost use Rattle.projection.specs.Added.{YearSums};
+ghost use Rattle.settings.specs.Settings.{outgoingsOf, OutgoWeighed};
+ghost use Rattle.projection.specs.Added.{TableOf};
 ghost use Rattle.years.specs.Outcome.{CurveOf, Undiscounted, NoneFrom, Settled, SettledIn};
-use projection::Sums;
 use settings::Outgoings;
 use settling::Year;
 
@@ -40,41 +40,50 @@ struct Years {
     outgo: [u64; 50],
 }
 
-// The years from `from` to before `to`, before discounting.
+// The years from `from` to before `to`, before discounting, at the weights of the setting: whoever settles many groups makes them once.
 fn undiscounted(
     book: &[u8],
     setting: usize,
+    w: Outgoings,
     group: usize,
-    sums: Sums,
+    numbers: &[u64; 500],
     from: usize,
     to: usize,
 ) -> Years
-    requires { ⌜ (setting < 8) × (1 ≤ group) × (group ≤ 5) × (from ≤ to) × (to ≤ 50) × ValidBook 1 (now book) × YearSums (now book) (decrementsOf (now book) setting) group sums ⌝ }
+    requires { ⌜ (setting < 8) × (1 ≤ group) × (group ≤ 5) × (from ≤ to) × (to ≤ 50) × ValidBook 1 (now book) × TableOf (now book) group (now numbers) ⌝ }
+    requires { ⌜ (w ≡ outgoingsOf setting) × OutgoWeighed w ⌝ }
     ensures { λ r. ⌜ Undiscounted (now (book .entry)) setting group from to (r .premium) (r .outgo) ⌝ }
 {
-    let w = Outgoings::new(setting);
     let rate = settling::cost_rate_of(book, group);
-    let due = sums.premium;
-    let claims = sums.claims;
+    let projection = projection::projection_of(setting);
     let mut premium = [0u64; 50];
     let mut outgo = [0u64; 50];
     for k in from..to {
-        let spent = settling::outgo(w, k, rate, due[k], claims[k]);
+        let j = 10 * k + 2 * projection;
+        let due = numbers[j];
+        let spent = settling::outgo(w, k, rate, due, numbers[j + 1]);
         outgo[k] = spent;
-        premium[k] = settling::counted(k, due[k], spent);
+        premium[k] = settling::counted(k, due, spent);
     }
     Years { premium, outgo }
 }
 
 // The liability of a product group from its year sums; the first 200 numbers of the table become the fifty years'.
-pub fn settle(book: &[u8], setting: usize, group: usize, sums: Sums, table: &mut [u64]) -> i64
-    requires { ⌜ (setting < 8) × (1 ≤ group) × (group ≤ 5) × (200 ≤ length (now table)) × ValidBook 1 (now book) × YearSums (now book) (decrementsOf (now book) setting) group sums ⌝ }
+pub fn settle(
+    book: &[u8],
+    setting: usize,
+    group: usize,
+    numbers: &[u64; 500],
+    table: &mut [u64],
+) -> i64
+    requires { ⌜ (setting < 8) × (1 ≤ group) × (group ≤ 5) × (200 ≤ length (now table)) × ValidBook 1 (now book) × TableOf (now book) group (now numbers) ⌝ }
     ensures { λ r. ⌜ Settled (now (book .entry)) setting group (now (table .entry)) (now (table .exit)) r ⌝ }
 {
     let curve = curve_of(book);
     let divisors = curve.divisors;
     let fractions = curve.fractions;
-    let years = undiscounted(book, setting, group, sums, 0, 50);
+    let w = Outgoings::new(setting);
+    let years = undiscounted(book, setting, w, group, numbers, 0, 50);
     let due = years.premium;
     let spent = years.outgo;
     let mut premium = due;
@@ -120,16 +129,18 @@ pub fn settle_in(
     divisors: &[u64; 50],
     fractions: &[u64; 50],
     setting: usize,
+    w: Outgoings,
     group: usize,
-    sums: Sums,
+    numbers: &[u64; 500],
     from: usize,
     to: usize,
 ) -> Amounts
-    requires { ⌜ (setting < 8) × (1 ≤ group) × (group ≤ 5) × (from ≤ to) × (to ≤ 50) × ValidBook 1 (now book) × YearSums (now book) (decrementsOf (now book) setting) group sums ⌝ }
+    requires { ⌜ (setting < 8) × (1 ≤ group) × (group ≤ 5) × (from ≤ to) × (to ≤ 50) × ValidBook 1 (now book) × TableOf (now book) group (now numbers) ⌝ }
+    requires { ⌜ (w ≡ outgoingsOf setting) × OutgoWeighed w ⌝ }
     requires { ⌜ CurveOf (now book) (now divisors) (now fractions) ⌝ }
     ensures { λ r. ⌜ SettledIn (now (book .entry)) setting group from to r ⌝ }
 {
-    let years = undiscounted(book, setting, group, sums, from, to);
+    let years = undiscounted(book, setting, w, group, numbers, from, to);
     let mut premium = years.premium;
     let mut outgo = years.outgo;
     let end = end_of(&premium, &outgo, from, to);

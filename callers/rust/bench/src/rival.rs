@@ -1,5 +1,4 @@
-//! Totals in safe Rust with every idea of the archive, and one that it has not: the five projections of a
-//! cell side by side. What a good engineer makes of them.
+//! Totals in safe Rust with every idea of the archive. What a good engineer makes of them.
 //!
 //! Shares and discounting go by fractions of 2^64 (`share.rs`), so no loop divides but by constants.
 //! Rows are made once for all settings. Five projections serve the eight settings; those of a cell go

@@ -17,7 +17,7 @@ pub struct Contender {
 }
 
 /// The archive comes first, then the tuned Rust: with eight projections, the baseline, and with five; then
-/// that with the ideas of the archive and one more.
+/// that with the ideas of the archive.
 pub const CONTENDERS: [Contender; 6] = [
     Contender {
         name: "the archive",
@@ -36,7 +36,7 @@ pub const CONTENDERS: [Contender; 6] = [
         totals: |book| tuned_totals(book, Projections::Five, Walk::YearByYear),
     },
     Contender {
-        name: "its ideas in Rust, five side by side",
+        name: "its ideas in Rust",
         totals: rival::totals,
     },
     Contender {

@@ -70,24 +70,20 @@ returns-3 c =
     let none = sym (found (c .before)) ∙ c .if1 .taken in
     refused _ _ _ _ _ _ _ _ 26 0 (by-class _ _ _ _ _ _ _ e _ (checked m) none) refl refl
 
-new-requires : tie.Need-new-requires
-new-requires c κs =
-    let m = c .before .before .before in
-    (omega (arith, asked-setting _ _ _ _ _ (asked (m .before .before .before))), valid 1 _ _ (checked m))
-
 run-requires : tie.Need-run-requires
 run-requires c κs =
     let n = c .before in
-    let l = n .before .before in
+    let l = n .before in
     let m = l .before .before in
     let v = valid 1 _ _ (checked m) in
+    let d = asked (m .before .before .before) in
     let e = l .record-of .ensures in
     let f = l .before .chain-of .ensures .1 in (
-      n .new .ensures .1,
+      omega (arith, asked-setting _ _ _ _ _ d),
       v,
       f,
-      rw e (link-standing _ v _ f _ (rw e at (pos-of-ne-zero (n .before .if1 .left)))),
-      asked-numbers _ _ _ _ _ (asked (m .before .before .before)),
+      rw e (link-standing _ v _ f _ (rw e at (pos-of-ne-zero (n .if1 .left)))),
+      asked-numbers _ _ _ _ _ d,
     )
 
 returns-4 : tie.Need-returns-4
@@ -95,15 +91,15 @@ unfolding inForceRun
 returns-4 c =
     let r = c .before .before in
     let n = r .before .before in
-    let l = n .before .before in
+    let l = n .before in
     let m = l .before .before in
     let e = asked (m .before .before .before) in
     shown _ _ _ _ _ _ _ _ 0
-    (by-none _ _ _ _ _ _ _ e _ (checked m) (λ none. n .before .if1 .left (found l ∙ none))) refl
-    (rw (n .new .ensures .0, found l) at (r .run .ensures))
+    (by-none _ _ _ _ _ _ _ e _ (checked m) (λ none. n .if1 .left (found l ∙ none))) refl
+    (rw (found l) at (r .run .ensures))
 
 pub in-force-spec : {M : Type 1} → statement M
 in-force-spec =
     tie.close
     (tie.spec (search needs) (search needs) (search needs) returns (search needs) (search needs) (search needs)
-    returns-2 chain-of-requires record-of-requires returns-3 new-requires run-requires (search needs) returns-4)
+    returns-2 chain-of-requires record-of-requires returns-3 run-requires (search needs) returns-4)

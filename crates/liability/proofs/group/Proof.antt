@@ -22,24 +22,24 @@ returns c =
 new-requires : tie.Need-new-requires
 new-requires c κs =
     let e = sym (c .before .before .check-group .ensures) ∙ c .enum-told .given .1 in
-    (group-setting _ _ _ _ _ e, group-valid _ _ _ _ _ e)
+    group-valid _ _ _ _ _ e
 
 group-sums-requires : tie.Need-group-sums-requires
 group-sums-requires c κs =
     let m = c .before in
     let e = sym (m .before .before .check-group .ensures) ∙ m .enum-told .given .1 in
-    (c .new .ensures .1, group-valid _ _ _ _ _ e, group-range _ _ _ _ _ e .0, group-range _ _ _ _ _ e .1)
+    (c .new .ensures, group-valid _ _ _ _ _ e, group-range _ _ _ _ _ e .0, group-range _ _ _ _ _ e .1)
 
 settle-requires : tie.Need-settle-requires
 settle-requires c κs =
-    let m = c .before .before .before in
+    let m = c .before .before .before .before .before in
     let e = sym (m .before .before .check-group .ensures) ∙ m .enum-told .given .1 in
-    (omega (arith, group-setting _ _ _ _ _ e), group-range _ _ _ _ _ e .0, group-range _ _ _ _ _ e .1, group-table _ _ _ _ _ e, group-valid _ _ _ _ _ e, rw (c .before .before .new .ensures .0) at (c .before .group-sums .ensures))
+    (omega (arith, group-setting _ _ _ _ _ e), group-range _ _ _ _ _ e .0, group-range _ _ _ _ _ e .1, group-table _ _ _ _ _ e, group-valid _ _ _ _ _ e, c .before .before .before .group-sums .ensures .table)
 
 returns-2 : tie.Need-returns-2
 unfolding groupReply groupTable
 returns-2 c =
-    let m = c .before .before .before .before .before .before in
+    let m = c .before .before .before .before .before .before .before .before in
     let a = m .before .before .before .before .before .args in
     let b = a .book .now in
     let setting = a .setting in
@@ -47,7 +47,7 @@ returns-2 c =
     let e = sym (m .before .before .check-group .ensures) ∙ m .enum-told .given .1 in
     let s = c .before .before .settle in
     let l = toZ-ofZ w64 (s .result) (record { sfits = s .ok }) ∙ s .ensures .liability-is in
-    let n = c .before .before .before .before .group-sums .ensures .n-is in
+    let n = c .before .before .before .before .before .before .group-sums .ensures .n-is in
     promised _ _ _ _ _ _ (rw (e, l) (ap (λ (m : ℕ). Reckoned (groupLiability b setting g) m) n)) (rw e (s .ensures .table-is))
 
 pub group-spec : {M : Type 1} → statement M

@@ -8,8 +8,7 @@ use Rattle.book.specs.Cells.{heldIn, heldFrom}
 use Rattle.book.specs.Reading.{Standing}
 use Rattle.reckoning.specs.Portfolio.{linksFrom}
 use Rattle.reckoning.proofs.Rows.{chain-standing}
-use Rattle.cell.specs.States.{premiumAt, claimsAt}
-use Rattle.walks.specs.Tables.{addedAll}
+use Rattle.walks.specs.Tables.{amountAt, addedAll}
 use Rattle.projection.proofs.Adding.{links-empty, cells-empty, head-chain}
 use Rattle.projection.proofs.add_chain.Statement.{statement}
 use Rattle.projection.proofs.add_chain.Tie as tie
@@ -20,8 +19,7 @@ returns c =
     let a = c .before .before .before in
     let e = sym (c .before .head-of .ensures .0) ∙ c .if1 .taken in
     record {
-      premium = rw (links-empty (a .args .book .now) (a .args .k) e);
-      claims = rw (links-empty (a .args .book .now) (a .args .k) e);
+      sums = rw (links-empty (a .args .book .now) (a .args .k) e);
       n-is = sym (cells-empty (a .args .book .now) (a .args .k) e);
       few = omega arith;
     }
@@ -33,29 +31,27 @@ stands m =
     let b = a .args .book .now in
     let k = a .args .k in
     let head = m .before .head-of in
-    chain-standing b k _ (head .result) (head-chain b (a .pre .0 .1) k (a .pre .0 .2) (head .result) _ (head .ensures .0) (m .if1 .left) refl) (omega arith)
+    chain-standing b k _ (head .result) (head-chain b (a .pre .1) k (a .pre .2) (head .result) _ (head .ensures .0) (m .if1 .left) refl) (omega arith)
 
 read-rows-requires : tie.Need-read-rows-requires
 read-rows-requires c κs =
     let a = c .before .before .before .before in
-    (a .pre .0 .0, a .pre .0 .1, a .pre .0 .2, stands (c .before))
+    (a .pre .0, a .pre .1, a .pre .2, stands (c .before))
 
 add-cells-requires : tie.Need-add-cells-requires
 add-cells-requires c κs =
-    let a = c .before .before .before .before .before .before .before .before in
-    ((a .pre .0 .1, stands (c .before .before .before .before .before), c .before .before .before .read-rows .ensures), a .pre .1)
+    let a = c .before .before .before .before .before .before .before in
+    (a .pre .1, stands (c .before .before .before .before), c .before .before .read-rows .ensures, a .pre .3)
 
 returns-2 : tie.Need-returns-2
 unfolding heldIn
 returns-2 c =
-    let a = c .before .before .before .before .before .before .before .before .before in
+    let a = c .before .before .before .before .before .before .before .before in
     let b = a .args .book .now in
-    let w = a .args .w in
-    let head-is = c .before .before .before .before .before .before .before .head-of .ensures .0 in
+    let head-is = c .before .before .before .before .before .before .head-of .ensures .0 in
     let e = c .add-cells .ensures in
     record {
-      premium = e .premium ∙ ap (λ (i : ℕ). addedAll (premiumAt b w) (linksFrom b i 121) (a .args .premium .now)) head-is;
-      claims = e .claims ∙ ap (λ (i : ℕ). addedAll (claimsAt b w) (linksFrom b i 121) (a .args .claims .now)) head-is;
+      sums = e .sums ∙ ap (λ (i : ℕ). addedAll (amountAt b) (linksFrom b i 121) (a .args .sums .now)) head-is;
       n-is = e .n-is ∙ ap (λ (i : ℕ). heldFrom b i 121) head-is;
       few = e .few;
     }

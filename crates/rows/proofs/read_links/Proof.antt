@@ -14,7 +14,7 @@ use Rattle.rows.proofs.read_links.Tie as tie
 
 abbrev Inv-loop : tie.InvT-loop
 Inv-loop book w chain i rows₀ row₀ class₀ to r₀ rows row class r =
-    (r ≤ to) × Reached book chain i r row class × RowsBelow book w chain i rows r
+    (r ≤ to) × Reached book chain i r row class × RowsBelow book chain i rows r
 
 abbrev μ-loop : tie.MeasureT-loop
 μ-loop book w chain i rows₀ row₀ class₀ to r₀ rows row class r = to - r
@@ -41,7 +41,7 @@ loop-again c =
       omega arith,
       ⊎-elim (λ w. reached-next b (a .chain) (a .i) (l .r) (l .row) (l .class) h _ _ (omega (arith, w .0 .taken)) (w .2 ∙ w .1 .ensures .0) (w .3))
           (λ w. reached-same b (a .chain) (a .i) (l .r) (l .row) (l .class) h _ _ (omega (arith, w .0 .left)) (w .1) (w .2)) (c .if1 .came),
-      rows-more b (a .w) (chainSex (a .chain)) (rowAt b (a .i)) (l .rows) _ (l .r) (l .row) (h .row-is) (l .inv .2) (c .before .put-row .ensures),
+      rows-more b (chainSex (a .chain)) (rowAt b (a .i)) (l .rows) _ (l .r) (l .row) (h .row-is) (l .inv .2) (c .before .put-row .ensures),
     )
 
 returns : tie.Need-returns Inv-loop μ-loop

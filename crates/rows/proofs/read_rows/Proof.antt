@@ -9,7 +9,7 @@ returns c =
     let k = c .before .before .before .before in
     let a = k .before .before in
     let x = a .args in
-    rows-repeated (x .book .now) (x .w) (x .chain) (x .i) (a .pre .3) _ _ (c .before .before .read-links .ensures)
+    rows-repeated (x .book .now) (x .chain) (x .i) (a .pre .3) _ _ (c .before .before .read-links .ensures)
     (rw (k .class-of .ensures .0) at (c .repeat-row .ensures))
 
 pub read-rows-spec : {M : Type 1} → statement M

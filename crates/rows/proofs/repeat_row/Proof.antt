@@ -12,13 +12,13 @@ use Rattle.rows.proofs.repeat_row.Tie as tie
 
 abbrev Inv-loop : tie.InvT-loop
 Inv-loop rows₀ from to j₀ j-end rows j =
-    (12 * from ≤ j) × (j ≤ 12 * to) × (length rows ≡ length rows₀) × Repeated rows₀ rows (12 * from) j
+    (16 * from ≤ j) × (j ≤ 16 * to) × (length rows ≡ length rows₀) × Repeated rows₀ rows (16 * from) j
 
 abbrev μ-loop : tie.MeasureT-loop
-μ-loop rows₀ from to j₀ j-end rows j = 12 * to - j
+μ-loop rows₀ from to j₀ j-end rows j = 16 * to - j
 
 loop-holds : tie.Need-loop-holds Inv-loop μ-loop
-loop-holds c = (omega arith, omega arith, refl, repeated-none (c .args .rows .now) (12 * c .args .from))
+loop-holds c = (omega arith, omega arith, refl, repeated-none (c .args .rows .now) (16 * c .args .from))
 
 loop-again : tie.Need-loop-again Inv-loop μ-loop
 loop-again c =
@@ -28,7 +28,7 @@ loop-again c =
       omega arith,
       omega arith,
       length-set (l .rows) (l .j) _ ∙ l .inv .2,
-      repeated-more (a .rows .now) (l .rows) (12 * a .from) (l .j) (omega arith) (l .inv .0) (omega arith) (l .inv .3),
+      repeated-more (a .rows .now) (l .rows) (16 * a .from) (l .j) (omega arith) (l .inv .0) (omega arith) (l .inv .3),
     )
 
 same-length : tie.Need-same-length Inv-loop μ-loop
@@ -37,7 +37,7 @@ same-length c = c .before .loop .inv .2
 returns : tie.Need-returns Inv-loop μ-loop
 returns c =
     let l = c .before .loop in
-    let end : l .j ≡ 12 * c .before .before .args .to = omega arith in
+    let end : l .j ≡ 16 * c .before .before .args .to = omega arith in
     rw end at (l .inv .3)
 
 pub repeat-row-spec : {M : Type 1} → statement M

@@ -1,5 +1,4 @@
 -- `settling::step_back` meets its contract: the part of what is doubled, over what is doubled. Assumes nothing.
-use mathlib.Core.Path.{_∙_}
 use native.Mathlib.Omega.{arith}
 use borrow.Author.Needs.{needs}
 use Rattle.settling.proofs.Discounting.{halved}
@@ -7,7 +6,13 @@ use Rattle.settling.proofs.step_back.Statement.{statement}
 use Rattle.settling.proofs.step_back.Tie as tie
 
 returns : tie.Need-returns
-returns c = let a = c .before .args in c .part .ensures ∙ halved (a .x) (a .d)
+returns c =
+    let a = c .before .args in
+    let e = c .two-parts .ensures in
+    (rw (e .0) (halved (a .x) (a .d)), rw (e .1) (halved (a .y) (a .d)))
+
+two-parts-requires : tie.Need-two-parts-requires
+two-parts-requires c κs = (omega arith, omega arith, omega arith, omega arith, c .pre .2 .fraction-is, c .pre .2 .fraction-is)
 
 pub step-back-spec : {M : Type 1} → statement M
-step-back-spec = tie.close (tie.spec (search needs) (search needs) (λ c κs. (omega arith, omega arith, omega arith, c .pre .1 .fraction-is)) returns)
+step-back-spec = tie.close (tie.spec (search needs) (search needs) (search needs) two-parts-requires returns)

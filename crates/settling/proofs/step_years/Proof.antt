@@ -21,27 +21,23 @@ loop-holds c = (omega arith, omega arith, stepped-none _ _ _, stepped-none _ _ _
 
 step-year-requires : tie.Need-step-year-requires Inv-loop μ-loop
 step-year-requires c κs =
-    let m = c .before .before in
+    let m = c .before .before .before in
     let l = m .loop in
-    let a = m .before in
-    (omega arith, rw (l .inv .2 .later (l .k) (omega arith)) (a .pre .3 (l .k) (omega arith)), a .pre .2)
-
-step-year-requires-2 : tie.Need-step-year-requires-2 Inv-loop μ-loop
-step-year-requires-2 c κs =
-    let m = c .before .before .before .before in
-    let l = m .loop in
-    let a = m .before in
-    (omega arith, rw (l .inv .3 .later (l .k) (omega arith)) (a .pre .4 (l .k) (omega arith)), a .pre .2)
+    let a = m .before in (
+      omega arith,
+      rw (l .inv .2 .later (l .k) (omega arith)) (a .pre .3 (l .k) (omega arith)),
+      rw (l .inv .3 .later (l .k) (omega arith)) (a .pre .4 (l .k) (omega arith)),
+      a .pre .2,
+    )
 
 loop-again : tie.Need-loop-again Inv-loop μ-loop
 loop-again c =
-    let p = c .before .before .step-year in
-    let o = c .step-year2 in
-    let l = c .before .before .before .before .before .loop in (
+    let e = c .step-year .ensures in
+    let l = c .before .before .before .before .loop in (
       omega arith,
       omega arith,
-      stepped-more _ _ _ (l .k) (l .premium) _ (omega arith) (l .inv .2) (p .ensures),
-      stepped-more _ _ _ (l .k) (l .outgo) _ (omega arith) (l .inv .3) (o .ensures),
+      stepped-more _ _ _ (l .k) (l .premium) _ (omega arith) (l .inv .2) (e .0),
+      stepped-more _ _ _ (l .k) (l .outgo) _ (omega arith) (l .inv .3) (e .1),
     )
 
 returns : tie.Need-returns Inv-loop μ-loop
@@ -52,4 +48,4 @@ returns c =
 
 pub step-years-spec : {M : Type 1} → statement M
 step-years-spec = tie.close
-    (tie.spec Inv-loop μ-loop loop-holds step-year-requires step-year-requires-2 (search needs) (search needs) loop-again returns)
+    (tie.spec Inv-loop μ-loop loop-holds step-year-requires (search needs) (search needs) loop-again returns)

@@ -8,7 +8,7 @@ use Rattle.book.proofs.Valid.{valid}
 use Rattle.reckoning.specs.Portfolio.{rowAt}
 use Rattle.reckoning.proofs.Rows.{chain-standing}
 use Rattle.projection.proofs.Adding.{head-chain, zero-most}
-use Rattle.walks.proofs.Ends.{walkable-here}
+use Rattle.walks.proofs.Records.{walkable-here}
 use Rattle.test_walk.proofs.first_walk.Statement.{statement}
 use Rattle.test_walk.proofs.first_walk.Tie as tie
 
@@ -33,12 +33,12 @@ head-of-requires c κs =
     (omega arith, omega (arith, v .header .size))
 
 new-requires : tie.Need-new-requires
-new-requires c κs = (omega arith, accepted c)
+new-requires c κs = accepted c
 
 read-rows-requires : tie.Need-read-rows-requires
 read-rows-requires c κs =
     let m = c .before .before in
-    (c .before .new .ensures .1, accepted m, few m, stands m)
+    (c .before .new .ensures, accepted m, few m, stands m)
 
 field-of-requires : tie.Need-field-of-requires
 field-of-requires c κs =
@@ -48,15 +48,14 @@ field-of-requires c κs =
 walk-requires : tie.Need-walk-requires
 unfolding rowAt
 walk-requires c κs =
-    let m = c .before .before .before .before .before .before .before in
-    let read = c .before .before .before .before .read-rows .ensures in (
-      walkable-here _ _ _ _ (stands m) _ read 0 _ _ (omega arith) refl (c .before .before .before .field-of .ensures .0),
-      λ j. omega (arith, zero-most j),
-      λ j. omega (arith, zero-most j),
+    let m = c .before .before .before .before .before .before in
+    let read = c .before .before .before .read-rows .ensures in (
+      walkable-here _ _ _ (stands m) _ read 0 _ _ (omega arith) refl (c .before .before .field-of .ensures .0),
+      λ j. omega (arith, zero-most 500 j),
     )
 
 pub first-walk-spec : {M : Type 1} → statement M
 first-walk-spec =
     tie.close
     (tie.spec (search needs) (search needs) (search needs) (search needs) (search needs) (search needs) head-of-requires (search needs)
-    new-requires read-rows-requires field-of-requires walk-requires (search needs))
+    new-requires read-rows-requires field-of-requires walk-requires (search needs) (search needs))

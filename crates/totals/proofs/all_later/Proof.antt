@@ -1,34 +1,31 @@
 -- `totals::all_later` meets its contract: five calls, in a row. Assumes nothing.
 use native.Mathlib.Omega.{arith}
-use borrow.Author.Needs.{needs}
 use Rattle.totals.proofs.Laws.{five-later}
 use Rattle.totals.proofs.all_later.Statement.{statement}
 use Rattle.totals.proofs.all_later.Tie as tie
 
 settle-in-requires : tie.Need-settle-in-requires
-settle-in-requires c κs = let a = c .before .before .before .before .before .before in ((a .pre .0, omega arith, omega arith, omega arith, omega arith, a .pre .1, a .pre .2 0 (omega arith)), a .pre .3)
+settle-in-requires c κs = let a = c .before .pre in ((a .0 .0, omega arith, omega arith, omega arith, omega arith, a .0 .1, a .0 .2 .first), (a .1, a .0 .3))
 
 settle-in-requires-2 : tie.Need-settle-in-requires-2
-settle-in-requires-2 c κs = let a = c .before .before .before .before .before .before .before in ((a .pre .0, omega arith, omega arith, omega arith, omega arith, a .pre .1, a .pre .2 1 (omega arith)), a .pre .3)
+settle-in-requires-2 c κs = let a = c .before .before .pre in ((a .0 .0, omega arith, omega arith, omega arith, omega arith, a .0 .1, a .0 .2 .second), (a .1, a .0 .3))
 
 settle-in-requires-3 : tie.Need-settle-in-requires-3
-settle-in-requires-3 c κs = let a = c .before .before .before .before .before .before .before .before in ((a .pre .0, omega arith, omega arith, omega arith, omega arith, a .pre .1, a .pre .2 2 (omega arith)), a .pre .3)
+settle-in-requires-3 c κs = let a = c .before .before .before .pre in ((a .0 .0, omega arith, omega arith, omega arith, omega arith, a .0 .1, a .0 .2 .third), (a .1, a .0 .3))
 
 settle-in-requires-4 : tie.Need-settle-in-requires-4
-settle-in-requires-4 c κs = let a = c .before .before .before .before .before .before .before .before .before in ((a .pre .0, omega arith, omega arith, omega arith, omega arith, a .pre .1, a .pre .2 3 (omega arith)), a .pre .3)
+settle-in-requires-4 c κs = let a = c .before .before .before .before .pre in ((a .0 .0, omega arith, omega arith, omega arith, omega arith, a .0 .1, a .0 .2 .fourth), (a .1, a .0 .3))
 
 settle-in-requires-5 : tie.Need-settle-in-requires-5
-settle-in-requires-5 c κs = let a = c .before .before .before .before .before .before .before .before .before .before in ((a .pre .0, omega arith, omega arith, omega arith, omega arith, a .pre .1, a .pre .2 4 (omega arith)), a .pre .3)
+settle-in-requires-5 c κs = let a = c .before .before .before .before .before .pre in ((a .0 .0, omega arith, omega arith, omega arith, omega arith, a .0 .1, a .0 .2 .fifth), (a .1, a .0 .3))
 
 returns : tie.Need-returns
 returns c =
-    let p = c .before .before .before .before in
-    let a = p .before .before .before .before .before .before .before in
-    five-later (a .args .book .now) (a .args .setting) (p .settle-in .result) (c .before .before .before .settle-in2 .result) (c .before .before .settle-in3 .result) (c .before .settle-in4 .result) (c .settle-in5 .result)
-    (p .settle-in .ensures) (c .before .before .before .settle-in2 .ensures) (c .before .before .settle-in3 .ensures) (c .before .settle-in4 .ensures) (c .settle-in5 .ensures)
+    let a = c .before .before .before .before .before .before in
+    five-later (a .args .book .now) (a .args .setting) (c .before .before .before .before .settle-in .result) (c .before .before .before .settle-in2 .result) (c .before .before .settle-in3 .result) (c .before .settle-in4 .result) (c .settle-in5 .result)
+    (c .before .before .before .before .settle-in .ensures) (c .before .before .before .settle-in2 .ensures) (c .before .before .settle-in3 .ensures) (c .before .settle-in4 .ensures) (c .settle-in5 .ensures)
 
 pub all-later-spec : {M : Type 1} → statement M
 all-later-spec =
     tie.close
-    (tie.spec (search needs) (search needs) (search needs) (search needs) (search needs) settle-in-requires settle-in-requires-2
-    settle-in-requires-3 settle-in-requires-4 settle-in-requires-5 returns)
+    (tie.spec settle-in-requires settle-in-requires-2 settle-in-requires-3 settle-in-requires-4 settle-in-requires-5 returns)

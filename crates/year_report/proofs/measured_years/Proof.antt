@@ -24,7 +24,7 @@ abbrev μ-loop : tie.MeasureT-loop
 μ-loop book setting w years₀ j₀ years j = 5 - j
 
 new-requires : tie.Need-new-requires Inv-loop μ-loop
-new-requires c κs = c .before .pre
+new-requires c κs = c .before .pre .1
 
 loop-holds : tie.Need-loop-holds Inv-loop μ-loop
 unfolding joined

@@ -1,4 +1,4 @@
--- `year_report::year_table` meets its contract: the table is that of `settle`, whose sums are at the setting's weights.
+-- `year_report::year_table` meets its contract: the table is that of `settle`, whose sums are the product group's.
 -- Assumes nothing.
 use native.Mathlib.Omega.{arith}
 use borrow.Author.Needs.{needs}
@@ -8,9 +8,8 @@ use Rattle.year_report.proofs.year_table.Tie as tie
 
 settle-requires : tie.Need-settle-requires
 settle-requires c κs =
-    let asked = c .before .before .before .pre in
-    let sums = rw (asked .weights) at (c .before .group-sums .ensures) in
-    (asked .setting-is, asked .lo, asked .hi, omega arith, asked .book, sums)
+    let asked = c .before .before .before .before .before .pre in
+    (asked .setting-is, asked .lo, asked .hi, omega arith, asked .book, c .before .before .before .group-sums .ensures .table)
 
 returns : tie.Need-returns
 returns c = years-at _ _ _ _ _ (c .before .settle .ensures .table-is)

@@ -27,7 +27,7 @@ abbrev cells : List ℕ → ℕ → ℕ → List Cell
 cells b s g = groupCells b (decrementsOf b s) g
 
 abbrev Inv-loop : tie.InvT-loop
-Inv-loop book setting group table₀ due spent premium outgo paid₀ earned₀ k₀ table paid earned k =
+Inv-loop book setting group numbers table₀ due spent premium outgo paid₀ earned₀ k₀ table paid earned k =
     (k ≤ 50) × (table ≡ yearTable (terms book setting group) (cells book setting group) k ++ drop (4 * k) table₀)
     × (paid ≡ sumYears rounded k (outgoIn book setting group)) × (earned ≡ sumYears rounded k (premiumIn book setting group))
     × (paid ≤ 9000000000000000 * k) × (earned ≤ 9000000000000000 * k)
@@ -35,27 +35,27 @@ Inv-loop book setting group table₀ due spent premium outgo paid₀ earned₀ k
     × InYears (premiumIn book setting group) 9000000000000000 0 50 premium × InYears (outgoIn book setting group) 9000000000000000 0 50 outgo
 
 abbrev μ-loop : tie.MeasureT-loop
-μ-loop book setting group table₀ due spent premium outgo paid₀ earned₀ k₀ table paid earned k = 50 - k
+μ-loop book setting group numbers table₀ due spent premium outgo paid₀ earned₀ k₀ table paid earned k = 50 - k
 
 curve-of-requires : tie.Need-curve-of-requires Inv-loop μ-loop
 curve-of-requires c κs = c .before .before .pre .4
 
 undiscounted-requires : tie.Need-undiscounted-requires Inv-loop μ-loop
 undiscounted-requires c κs =
-    let a = c .before .before .before .before .before in
-    (a .pre .0, a .pre .1, a .pre .2, omega arith, omega arith, a .pre .4, a .pre .5)
+    let a = c .before .before .before .before .before .before .pre in
+    ((a .0, a .1, a .2, omega arith, omega arith, a .4, a .5), c .new .ensures)
 
 discount-requires : tie.Need-discount-requires Inv-loop μ-loop
 discount-requires c κs =
     let u = c .before .before .before .before .before .before in
     let y = u .undiscounted .ensures in
-    (omega arith, omega arith, curve-divisors _ _ _ (u .before .before .before .curve-of .ensures), y .premium-in .most, y .outgo-in .most)
+    (omega arith, omega arith, curve-divisors _ _ _ (u .before .before .before .before .curve-of .ensures), y .premium-in .most, y .outgo-in .most)
 
 loop-holds : tie.Need-loop-holds Inv-loop μ-loop
 unfolding yearTable sumYears
 loop-holds c =
     let u = c .before .before .before .before .before .before .before in
-    let v = u .before .before .before in
+    let v = u .before .before .before .before in
     let a = v .before .before .before in
     let b = a .args .book .now in
     let s = a .args .setting in
@@ -75,7 +75,7 @@ loop-holds c =
     )
 
 abbrev start : tie.At-loop Inv-loop μ-loop → tie.Start Inv-loop μ-loop
-start m = m .before .before .before .before .before .before .before .before .before .before .before .before .before .before
+start m = m .before .before .before .before .before .before .before .before .before .before .before .before .before .before .before
 
 -- the table keeps its length
 long : (m : tie.At-loop Inv-loop μ-loop) → length (m .loop .table) ≡ length (start m .args .table .now)
@@ -146,6 +146,6 @@ returns c =
 pub settle-spec : {M : Type 1} → statement M
 settle-spec =
     tie.close
-    (tie.spec Inv-loop μ-loop curve-of-requires undiscounted-requires discount-requires loop-holds (λ c. omega arith) (λ c. omega arith) (λ c. omega arith)
+    (tie.spec Inv-loop μ-loop curve-of-requires (search needs) undiscounted-requires discount-requires loop-holds (λ c. omega arith) (λ c. omega arith) (λ c. omega arith)
     (λ c. omega arith) (λ c. omega arith) (λ c. omega arith) (λ c. omega arith) (λ c. omega arith) put-year-requires (λ c. omega arith) (λ c. omega arith) add-paid
     (λ c. omega arith) (λ c. omega arith) add-earned (λ c. omega arith) (λ c. omega arith) loop-again (search needs) same-length returns)

@@ -13,7 +13,7 @@ use Rattle.years.proofs.settle_in.Statement.{statement}
 use Rattle.years.proofs.settle_in.Tie as tie
 
 abbrev Inv-loop : tie.InvT-loop
-Inv-loop book divisors fractions setting group from to premium outgo end paid₀ earned₀ k₀ paid earned k =
+Inv-loop book divisors fractions setting group numbers from to premium outgo end paid₀ earned₀ k₀ paid earned k =
     (from ≤ k) × (k ≤ end)
     × (sumYears rounded from (outgoIn book setting group) + paid ≡ sumYears rounded k (outgoIn book setting group))
     × (sumYears rounded from (premiumIn book setting group) + earned ≡ sumYears rounded k (premiumIn book setting group))
@@ -21,10 +21,10 @@ Inv-loop book divisors fractions setting group from to premium outgo end paid₀
     × InYears (outgoIn book setting group) 9000000000000000 from end outgo × InYears (premiumIn book setting group) 9000000000000000 from end premium
 
 abbrev μ-loop : tie.MeasureT-loop
-μ-loop book divisors fractions setting group from to premium outgo end paid₀ earned₀ k₀ paid earned k = end - k
+μ-loop book divisors fractions setting group numbers from to premium outgo end paid₀ earned₀ k₀ paid earned k = end - k
 
 undiscounted-requires : tie.Need-undiscounted-requires Inv-loop μ-loop
-undiscounted-requires c κs = c .before .pre .0
+undiscounted-requires c κs = let a = c .before .pre in (a .0, a .1 .0)
 
 end-of-requires : tie.Need-end-of-requires Inv-loop μ-loop
 end-of-requires c κs = let a = c .before .before .before .before .before .before in (a .pre .0 .3, a .pre .0 .4)
@@ -61,7 +61,7 @@ discount-requires c κs =
     let n = e .end-of .ensures in (
       omega arith,
       omega (arith, n .most, a .pre .0 .4),
-      curve-divisors _ _ _ (a .pre .1),
+      curve-divisors _ _ _ (a .pre .1 .1),
       λ k h. y .premium-in .most k (omega (arith, n .most)),
       λ k h. y .outgo-in .most k (omega (arith, n .most)),
     )
@@ -85,8 +85,8 @@ loop-holds c =
       omega arith,
       omega arith,
       omega arith,
-      in-discounted b _ _ _ _ _ _ _ _ _ (a .pre .1) (outgo-discounted b s g) last few (in-fewer _ _ _ _ _ _ (n .most) (y .outgo-in)) (d .1),
-      in-discounted b _ _ _ _ _ _ _ _ _ (a .pre .1) (premium-discounted b s g) last few (in-fewer _ _ _ _ _ _ (n .most) (y .premium-in)) (d .0),
+      in-discounted b _ _ _ _ _ _ _ _ _ (a .pre .1 .1) (outgo-discounted b s g) last few (in-fewer _ _ _ _ _ _ (n .most) (y .outgo-in)) (d .1),
+      in-discounted b _ _ _ _ _ _ _ _ _ (a .pre .1 .1) (premium-discounted b s g) last few (in-fewer _ _ _ _ _ _ (n .most) (y .premium-in)) (d .0),
     )
 
 add-paid : tie.Need-add-paid Inv-loop μ-loop

@@ -1,10 +1,11 @@
 -- `years::undiscounted` meets its contract. The invariant: the tables have premium and outgo of the years from `from` to before k.
 -- The measure is the number of years left. Assumes nothing.
 use mathlib.Core.Path.{_≡_, refl, _∙_}
-use Prim.Native.Nat.{_-_, _≤_, _<_}
+use Prim.Native.Nat.{_+_, _-_, _*_, _≤_, _<_}
 use native.Mathlib.Omega.{arith}
 use borrow.Author.Needs.{needs}
 use lib.ListN.{length, getD, length-set}
+use Rattle.projection.proofs.Serving.{premium-served, claims-served}
 use Rattle.settling.proofs.Settling.{outgo-of, premium-of}
 use Rattle.years.specs.Outcome.{InYears, premiumBefore, outgoBefore}
 use Rattle.years.proofs.Tables.{in-none, in-more}
@@ -12,61 +13,65 @@ use Rattle.years.proofs.undiscounted.Statement.{statement}
 use Rattle.years.proofs.undiscounted.Tie as tie
 
 abbrev Inv-loop : tie.InvT-loop
-Inv-loop book setting group from to w rate due claims premium₀ outgo₀ k₀ premium outgo k =
+Inv-loop book setting w group numbers from to rate projection premium₀ outgo₀ k₀ premium outgo k =
     (from ≤ k) × (k ≤ to) × (length premium ≡ 50) × (length outgo ≡ 50)
     × InYears (premiumBefore book setting group) 4000000000000000 from k premium × InYears (outgoBefore book setting group) 4000000000000000 from k outgo
 
 abbrev μ-loop : tie.MeasureT-loop
-μ-loop book setting group from to w rate due claims premium₀ outgo₀ k₀ premium outgo k = to - k
+μ-loop book setting w group numbers from to rate projection premium₀ outgo₀ k₀ premium outgo k = to - k
 
 cost-rate-of-requires : tie.Need-cost-rate-of-requires Inv-loop μ-loop
-cost-rate-of-requires c κs = let a = c .before .before in (a .pre .1, a .pre .2, a .pre .5)
+cost-rate-of-requires c κs = let a = c .before .pre .0 in (a .1, a .2, a .5)
 
 loop-holds : tie.Need-loop-holds Inv-loop μ-loop
 loop-holds c = (omega arith, omega arith, refl, refl, in-none _ _ _, in-none _ _ _)
 
+-- a year of the loop is one of the fifty, and its numbers stand in the table
+here : (m : tie.In-loop Inv-loop μ-loop) → 10 * m .before .loop .k + 2 * m .before .before .projection-of .result + 1 < 500
+here m = omega (arith, m .loop-test .taken, m .before .before .before .before .before .pre .0 .4, m .before .before .projection-of .ensures .1)
+
 outgo-requires : tie.Need-outgo-requires Inv-loop μ-loop
 outgo-requires c κs =
-    let m = c .before in
-    let n = m .before .before .before .before in
-    let a = n .before .before in
-    (n .new .ensures .1, m .before .before .before .cost-rate-of .ensures .1, a .pre .6 .premium-most _, a .pre .6 .claims-most _)
+    let a = c .before .before .before .before .before .before .before in
+    (a .pre .1 .1, c .before .before .before .before .before .cost-rate-of .ensures .1, a .pre .0 .6 .most _, a .pre .0 .6 .most _)
 
 loop-again : tie.Need-loop-again Inv-loop μ-loop
 loop-again c =
     let o = c .before .outgo in
-    let m = c .before .before .before in
+    let m = c .before .before .before .before .before in
     let l = m .loop in
-    let r = m .before .before .before in
-    let n = r .before in
-    let a = n .before .before in
+    let p = c .before .before .before .before .before .before .projection-of in
+    let r = c .before .before .before .before .before .before .before .cost-rate-of in
+    let a = c .before .before .before .before .before .before .before .before .before in
     let b = a .args .book .now in
     let s = a .args .setting in
     let g = a .args .group in
-    let lt : l .k < 50 = omega (arith, c .before .before .loop-test .taken) in
-    let due = getD (a .args .sums .premium) (l .k) 0 in
+    let t = a .pre .0 .6 in
+    let lt : l .k < 50 = omega (arith, c .before .before .before .before .loop-test .taken) in
+    let due = getD (a .args .numbers .now) (10 * l .k + 2 * p .result) 0 in
+    let claims = getD (a .args .numbers .now) (10 * l .k + 2 * p .result + 1) 0 in
+    let due-is = premium-served b g s (p .result) (l .k) _ t (a .pre .0 .0) (p .ensures .0) (p .ensures .1) lt in
+    let claims-is = claims-served b g s (p .result) (l .k) _ t (a .pre .0 .0) (p .ensures .0) (p .ensures .1) lt in
     let eo : o .result ≡ outgoBefore b s g (l .k) =
-    outgo-of b s g (l .k) (r .cost-rate-of .result) due (getD (a .args .sums .claims) (l .k) 0) (o .result) (rw (n .new .ensures .0) at (o .ensures .0))
-    (r .cost-rate-of .ensures .0) (a .pre .6 .premium-is (l .k) lt) (a .pre .6 .claims-is (l .k) lt) in (
+    outgo-of b s g (l .k) (r .result) due claims (o .result) (rw (a .pre .1 .0) at (o .ensures .0)) (r .ensures .0) due-is claims-is in (
       omega arith,
-      omega (arith, c .before .before .loop-test .taken),
+      omega (arith, c .before .before .before .before .loop-test .taken),
       length-set (l .premium) (l .k) _ ∙ l .inv .2,
       length-set (l .outgo) (l .k) _ ∙ l .inv .3,
       in-more _ _ _ (l .k) _ (l .premium) (omega (arith, l .inv .2)) (l .inv .4)
-          (premium-of b s g (l .k) due (o .result) (c .counted .result) (c .counted .ensures .0) (a .pre .6 .premium-is (l .k) lt) eo)
-          (omega (arith, c .counted .ensures .1, a .pre .6 .premium-most (l .k))),
+          (premium-of b s g (l .k) due (o .result) (c .counted .result) (c .counted .ensures .0) due-is eo) (omega (arith, c .counted .ensures .1, t .most (10 * l .k + 2 * p .result))),
       in-more _ _ _ (l .k) _ (l .outgo) (omega (arith, l .inv .3)) (l .inv .5) eo (omega (arith, o .ensures .1)),
     )
 
 returns : tie.Need-returns Inv-loop μ-loop
 returns c =
     let l = c .before .loop in
-    let e : l .k ≡ c .before .before .before .before .before .before .before .args .to = omega arith in
+    let e : l .k ≡ c .before .before .before .before .before .args .to = omega arith in
     record { premium-in = rw e at (l .inv .4); outgo-in = rw e at (l .inv .5) }
 
 pub undiscounted-spec : {M : Type 1} → statement M
 undiscounted-spec =
     tie.close
-    (tie.spec Inv-loop μ-loop (search needs) cost-rate-of-requires loop-holds (λ c. omega arith) (λ c. omega arith) (λ c. omega arith)
-    (λ c. omega arith) outgo-requires (λ c. omega arith) (λ c. omega arith) (λ c. omega arith) (λ c. omega arith) (search needs)
-    (λ c. omega arith) (λ c. omega arith) (λ c. omega arith) (λ c. omega arith) loop-again returns)
+    (tie.spec Inv-loop μ-loop cost-rate-of-requires (search needs) loop-holds (λ c. omega (arith, here c)) (λ c. omega (arith, here c)) (λ c. omega (arith, here c))
+    (λ c. omega (arith, here c)) (λ c. omega (arith, here c)) (λ c. omega (arith, here (c .before))) (λ c. omega (arith, here (c .before))) (λ c. omega (arith, here (c .before))) outgo-requires
+    (λ c. omega arith) (λ c. omega arith) (λ c κs. search needs) (λ c. omega arith) (λ c. omega arith) (λ c. omega arith) (λ c. omega arith) loop-again returns)

@@ -1,0 +1,75 @@
+-- The states of a cell in the five projections side by side: those of settings 0 to 4, which serve the other settings too.
+use mathlib.Core.List.{List}
+use Prim.Native.Nat.{ℕ, _+_, _*_}
+use lib.Dec.{eqb}
+use Rattle.field.specs.Verdicts.{pick}
+use Rattle.cell.specs.declared.Cell.{Cell}
+use Rattle.cell.specs.States.{cellIn, stateIn, nextYear, premiumIn, claimsIn, Ready}
+use Rattle.walks.specs.declared.Counts.{Counts}
+use Rattle.walks.specs.declared.Five.{Five}
+use Rattle.walks.specs.Tables.{twoMore}
+use Rattle.walks.specs.Ends.{yearsBefore}
+
+-- the states in year k of the cell that starts at row r of the table t with n contracts
+unfoldable pub fiveIn : List ℕ → ℕ → ℕ → ℕ → Five
+fiveIn t r n k = record {
+  base = stateIn t r n 0 k;
+  moredeaths = stateIn t r n 1 k;
+  fewerdeaths = stateIn t r n 2 k;
+  morelapses = stateIn t r n 3 k;
+  fewerlapses = stateIn t r n 4 k;
+}
+
+-- states that can go on
+pub record FiveReady (t : List ℕ) (c : Five) : Type 0 where
+  pub base : Ready t (c .base)
+  pub more-deaths : Ready t (c .moredeaths)
+  pub fewer-deaths : Ready t (c .fewerdeaths)
+  pub more-lapses : Ready t (c .morelapses)
+  pub fewer-lapses : Ready t (c .fewerlapses)
+
+-- the states a year after year k
+unfoldable pub nextFive : List ℕ → ℕ → Five → Five
+nextFive t k c = record {
+  base = nextYear t 0 k (c .base);
+  moredeaths = nextYear t 1 k (c .moredeaths);
+  fewerdeaths = nextYear t 2 k (c .fewerdeaths);
+  morelapses = nextYear t 3 k (c .morelapses);
+  fewerlapses = nextYear t 4 k (c .fewerlapses);
+}
+
+-- premium and claims of a state in year k of a projection, added at their places
+abbrev pub yearMore : List ℕ → ℕ → ℕ → Cell → List ℕ → List ℕ
+yearMore t setting k c u = twoMore u (10 * k + 2 * setting) (premiumIn t c) (claimsIn t c)
+
+-- the same for all five
+unfoldable pub tenMore : List ℕ → ℕ → Five → List ℕ → List ℕ
+tenMore t k c u =
+    yearMore t 4 k (c .fewerlapses) (yearMore t 3 k (c .morelapses) (yearMore t 2 k (c .fewerdeaths) (yearMore t 1 k (c .moredeaths) (yearMore t 0 k (c .base) u))))
+
+-- what is in force in the five together
+abbrev pub inForceOf : Five → ℕ
+inForceOf c = c .base .inforce + c .moredeaths .inforce + c .fewerdeaths .inforce + c .morelapses .inforce + c .fewerlapses .inforce
+
+-- the years in force before year k, of each
+unfoldable pub countsIn : List ℕ → ℕ → ℕ → ℕ → Counts
+countsIn t r n k = record {
+  base = yearsBefore (cellIn t r n 0) k;
+  moredeaths = yearsBefore (cellIn t r n 1) k;
+  fewerdeaths = yearsBefore (cellIn t r n 2) k;
+  morelapses = yearsBefore (cellIn t r n 3) k;
+  fewerlapses = yearsBefore (cellIn t r n 4) k;
+}
+
+-- of a count and a state in year k, the count a year later
+abbrev pub countMore : ℕ → Cell → ℕ → ℕ
+countMore n c k = pick (eqb (c .inforce) 0) n (k + 1)
+
+unfoldable pub countsMore : Counts → Five → ℕ → Counts
+countsMore n c k = record {
+  base = countMore (n .base) (c .base) k;
+  moredeaths = countMore (n .moredeaths) (c .moredeaths) k;
+  fewerdeaths = countMore (n .fewerdeaths) (c .fewerdeaths) k;
+  morelapses = countMore (n .morelapses) (c .morelapses) k;
+  fewerlapses = countMore (n .fewerlapses) (c .fewerlapses) k;
+}
