@@ -17,7 +17,7 @@ pub struct Contender {
 }
 
 /// The archive comes first, then the tuned Rust: with eight projections, the baseline, and with five; then
-/// that with the ideas of the archive.
+/// that with the ideas of the archive that help it.
 pub const CONTENDERS: [Contender; 6] = [
     Contender {
         name: "the archive",
