@@ -90,8 +90,9 @@ unfolding curveRate stored signedOf
 curve-back (pos n) e = rw (le-leb n 2147483647 (omega (arith, leb-true (n + 10000) 210000 e)))
 curve-back (negsuc m) e =
     let le : m ≤ 9999 = omega (arith, leb-true (m + 1) 10000 e) in
-    let same : 4294967295 - (4294967295 - m) ≡ m = omega arith in
-    rw (lt-leb (4294967295 - m) 2147483647 (omega arith), same)
+    let high : 2147483647 < stored (negsuc m) = omega arith in
+    let same : 4294967295 - stored (negsuc m) ≡ m = omega arith in
+    rw (lt-leb (stored (negsuc m)) 2147483647 high, same)
 
 module _ (u : ℕ) (small : u < 4294967296) where
   pub signed-back : stored (signedOf u) ≡ u
