@@ -3,7 +3,9 @@ use mathlib.Core.Path.{_≡_, sym, ap, _∙_}
 use Prim.Native.Nat.{ℕ, zero, suc, _+_, _-_, _*_, _/_, _%_, _≤_, _<_}
 use native.Mathlib.Nat.{one-mul, div-add-mod', div-mul-le-self, lt-div-mul-add, le-of-mul-le-mul-right, lt-of-mul-lt-mul-right, div-eq-of-lt, add-mul, mul-assoc, mul-comm, mul-add-div-right, mul-le-mul, mul-le-mul-left, mul-le-mul-right, mod-lt, le-of-lt, mul-lt-mul-of-pos-right, lt-of-lt-of-le, zero-mul}
 use native.Mathlib.Omega.{arith}
-use Rattle.arith.specs.Fractions.{Fraction}
+use borrow.Author.Tests.{ltb-false}
+use mathlib.Core.Bool.{false}
+use Rattle.arith.specs.Fractions.{Fraction, nearTop}
 
 -- x y / d is q y + r y / d, where x = q d + r
 pub mul-div : (x y d : ℕ) → 0 < d → (x * y) / d ≡ (x / d) * y + ((x % d) * y) / d
@@ -158,16 +160,16 @@ one-carry p x h = omega arith
 -- so the upper half is the quotient where the lower half leaves room for the largest x; and anywhere it can be mended
 module _ (x w d f q most : ℕ) (some : 0 < d) (e : Fraction w d f) (upper-half : q ≡ x * f / 18446744073709551616) (h : x ≤ most)
     (fits : most ≤ 18446744073709551615) where
-  pub part-sure : (low : ℕ) → low ≡ x * f % 18446744073709551616 → low ≤ 18446744073709551615 - most → q ≡ x * w / d
-  part-sure low lower-half room =
+  pub part-sure : nearTop most (x * f) ≡ false → q ≡ x * w / d
+  part-sure far =
       quotient-is (x * w) d q some (part-below x w d f q some e upper-half)
-      (rw (one-mul d) at (part-above x w d f q some e upper-half 1 (no-carry _ x most h (omega (arith, fits)) (rw lower-half at room))))
+      (rw (one-mul d) at (part-above x w d f q some e upper-half 1 (no-carry _ x most h (omega (arith, fits)) (ltb-false _ _ far))))
 
-  pub part-short : d < 9223372036854775808 → f ≤ 18446744073709551615
+  pub part-short : d < 9223372036854775808 → q < 18446744073709551615
       → (d < 9223372036854775808) × (q < 18446744073709551615) × (q * d ≤ x * w) × (x * w < q * d + 2 * d)
-  part-short small g = (
+  part-short small below = (
     small,
-    high-small x f q (omega (arith, h, fits)) g upper-half,
+    below,
     part-below x w d f q some e upper-half,
     part-above x w d f q some e upper-half 2 (one-carry _ x (omega (arith, h, fits))),
   )

@@ -1,7 +1,7 @@
 // A product divided and rounded down, within 64 bits. For the crates above, which have shown that the figures fit.
 ghost use mathlib.Core.Path.{_≡_};
 ghost use Prim.Native.Nat.{_+_, _*_, _<_, _≤_, _/_, _%_, _^_};
-ghost use Rattle.arith.specs.Fractions.{Fraction};
+ghost use Rattle.arith.specs.Fractions.{Fraction, nearTop};
 
 // x times y over d, rounded down. With x = q d + r it is q y + r y / d, whose products fit where the whole product may not.
 pub fn mul_div(x: u64, y: u64, d: u64) -> u64
@@ -48,8 +48,16 @@ pub fn mul_low(a: u64, b: u64) -> u64
     std::num::wrapping_add_u64(cross * 4_294_967_296, al * bl)
 }
 
+// Whether the upper half of x times a fraction may be one less than the quotient, for x up to `most`: what the fraction lacks, at most x, may carry
+// where the lower half ends so near below 2^64.
+pub fn near(x: u64, fraction: u64, most: u64) -> bool
+    ensures { λ r. ⌜ r ≡ nearTop most (x * fraction) ⌝ }
+{
+    u64::MAX - most < mul_low(x, fraction)
+}
+
 // x times w over d, where q is that, rounded down, or one too few. What is left tells: it is below 2 d, so its lower half is all of it.
-fn mended(x: u64, w: u64, d: u64, q: u64) -> u64
+pub fn mended(x: u64, w: u64, d: u64, q: u64) -> u64
     requires { ⌜ (d < 9223372036854775808) × (q < 18446744073709551615) × (q * d ≤ x * w) × (x * w < q * d + 2 * d) ⌝ }
     ensures { λ r. ⌜ r ≡ (x * w) / d ⌝ }
 {
@@ -63,9 +71,8 @@ pub struct Two {
     pub second: u64,
 }
 
-// x times w and y times v over d, rounded down, by the fractions that w over d and v over d are: no division. The upper half of a product is the
-// quotient, unless the lower half ends so near below 2^64 that what the fraction lacks, at most x, may carry. One branch serves both: where either
-// may be one too few, both are mended.
+// x times w and y times v over d, rounded down, by the fractions that w over d and v over d are: no division. One branch serves both: where either
+// upper half may be one too few, both are mended.
 pub fn two_parts(
     x: u64,
     w: u64,
@@ -81,8 +88,8 @@ pub fn two_parts(
 {
     let first = mul_high(x, fraction);
     let second = mul_high(y, other);
-    let first_near = u64::MAX - most < mul_low(x, fraction);
-    let second_near = u64::MAX - most < mul_low(y, other);
+    let first_near = near(x, fraction, most);
+    let second_near = near(y, other, most);
     if first_near || second_near {
         return Two {
             first: mended(x, w, d, first),
@@ -90,25 +97,4 @@ pub fn two_parts(
         };
     }
     Two { first, second }
-}
-
-// The part of a part: x times w over d, rounded down, and of that v over d. One branch serves both.
-pub fn part_of_part(x: u64, w: u64, fraction: u64, v: u64, other: u64, d: u64, most: u64) -> u64
-    requires { ⌜ (x ≤ most) × (w ≤ d) × (0 < d) × (d < 9223372036854775808) × Fraction w d fraction × Fraction v d other ⌝ }
-    ensures { λ r. ⌜ r ≡ ((x * w) / d * v) / d ⌝ }
-{
-    let first = mul_high(x, fraction);
-    let second = mul_high(first, other);
-    let first_near = u64::MAX - most < mul_low(x, fraction);
-    let second_near = u64::MAX - most < mul_low(first, other);
-    if first_near || second_near {
-        let whole = mended(x, w, d, first);
-        let upper = if whole == first {
-            second
-        } else {
-            mul_high(whole, other)
-        };
-        return mended(whole, v, d, upper);
-    }
-    second
 }

@@ -1,4 +1,5 @@
 -- The state of a cell from year to year in a setting, as the code carries it over the rows of its chain.
+use mathlib.Core.Path.{_≡_}
 use mathlib.Core.List.{List}
 use Prim.Native.Nat.{ℕ, _+_, _*_, _/_, _<_, _≤_}
 use lib.Dec.{ltb, eqb}
@@ -8,7 +9,7 @@ use Rattle.reckoning.specs.Arithmetic.{rounded}
 use Rattle.reckoning.specs.Steps as steps
 use Rattle.reckoning.specs.Steps.{inForce, cellPremium, cellClaims}
 use Rattle.reckoning.specs.Portfolio.{cellOf}
-use Rattle.rows.specs.Rows.{rate, RowReady}
+use Rattle.rows.specs.Rows.{rate, fraction, RowReady}
 use Rattle.cell.specs.declared.Cell.{Cell}
 
 -- the column of what lives on in year k of a setting: settings 1 and 2 shift mortality in the first five years
@@ -40,6 +41,15 @@ pub record Ready (t : List ℕ) (c : Cell) : Type 0 where
   pub row : RowReady t (c .row)
   pub fits : c .row < 170
   pub bound : c .inforce ≤ 100_000_000_000_000
+
+-- the upper half of what is in force times the fraction of a column
+abbrev pub upperHalf : List ℕ → Cell → ℕ → ℕ
+upperHalf t c column = c .inforce * fraction t (c .row) column / 18446744073709551616
+
+-- the upper halves from which the state a year after year k of a setting is mended: what lives on, and of that what stays
+pub record Halves (t : List ℕ) (setting k : ℕ) (c : Cell) (alive inforce : ℕ) : Type 0 where
+  pub alive-is : alive ≡ upperHalf t c (livingColumn setting k)
+  pub inforce-is : inforce ≡ alive * fraction t (c .row) (stayingColumn setting) / 18446744073709551616
 
 -- the state a year after year k of a setting: what lives on, rounded down, and of that what stays, rounded down
 unfoldable pub nextYear : List ℕ → ℕ → ℕ → Cell → Cell

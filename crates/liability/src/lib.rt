@@ -25,8 +25,8 @@ pub fn group(book: &[u8], setting: usize, group: usize, table: &mut [u64]) -> Gr
     if let Verdict::Refused(number, place) = v {
         return GroupReply::Refused(number, place);
     }
-    let sums = projection::group_sums(book, Shifts::new(book), group);
-    let n = sums.n;
-    let numbers = sums.numbers;
+    let mut rows = [0u64; 2720];
+    let mut numbers = [0u64; 500];
+    let n = projection::group_sums(book, Shifts::new(book), group, &mut rows, &mut numbers);
     GroupReply::Reckoned(years::settle(book, setting, group, &numbers, table), n)
 }

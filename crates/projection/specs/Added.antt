@@ -12,7 +12,6 @@ use Rattle.reckoning.specs.Arithmetic.{rounded}
 use Rattle.reckoning.specs.Steps.{premiumSum, claimsSum}
 use Rattle.reckoning.specs.Portfolio.{linksFrom, chainLinks, groupCells}
 use Rattle.walks.specs.Tables.{amountAt, addedAll, AtMost}
-use Rattle.projection.specs.declared.Sums.{Sums}
 
 -- what the cells of the records from record i on make of the table u, and how many hold contracts
 pub record CellsAdded (b : List ℕ) (i n : ℕ) (u v : List ℕ) : Type 0 where
@@ -33,9 +32,9 @@ pub record TableOf (b : List ℕ) (g : ℕ) (t : List ℕ) : Type 0 where
   pub most : AtMost 726_000_000_000_000 t
 
 -- and its n
-pub record SumsOf (b : List ℕ) (g : ℕ) (s : Sums) : Type 0 where
-  pub table : TableOf b g (s .numbers)
-  pub n-is : s .n ≡ heldOfGroup b (lastClass 1) g
+pub record SumsOf (b : List ℕ) (g n : ℕ) (t : List ℕ) : Type 0 where
+  pub table : TableOf b g t
+  pub n-is : n ≡ heldOfGroup b (lastClass 1) g
 
 -- of the five projections, the one that serves a setting: settings 5, 6 and 7 shift costs and claims alone
 unfoldable pub projectionOf : ℕ → ℕ

@@ -2,6 +2,7 @@
 // Internal: the functions ask for an accepted book's rules, which the calls above have from the check.
 ghost use mathlib.Core.Path.{_≡_};
 ghost use Prim.Native.Nat.{_+_, _*_, _<_, _≤_};
+ghost use lib.ListN.{replicate};
 ghost use Rattle.book.specs.Cells.{firstChain, chainsOf};
 ghost use Rattle.book.specs.Reading.{Standing, ValidBook};
 ghost use Rattle.settings.specs.Settings.{ShiftsOf};
@@ -9,13 +10,6 @@ ghost use Rattle.rows.specs.Rows.{RowsOf};
 ghost use Rattle.walks.specs.Tables.{AtMost};
 ghost use Rattle.projection.specs.Added.{CellsAdded, ChainAdded, SumsOf, projectionOf};
 use settings::Shifts;
-
-// The sums of the years k = 0 to 49 of a product group, before weights, costs and the cap: for each year ten numbers, for each of the settings 0 to 4
-// premium and claims. And its n.
-pub struct Sums {
-    pub numbers: [u64; 500],
-    pub n: u64,
-}
 
 // The first chain of a product group.
 fn first_chain(group: usize) -> usize
@@ -66,20 +60,26 @@ fn add_chain(book: &[u8], w: Shifts, k: usize, rows: &mut [u64; 2720], sums: &mu
     add_cells(book, k, head, rows, sums)
 }
 
-// The year sums of a product group, over both sexes and, for PG1, its three subgroups.
-pub fn group_sums(book: &[u8], w: Shifts, group: usize) -> Sums
-    requires { ⌜ ShiftsOf (now book) w × ValidBook 1 (now book) × (1 ≤ group) × (group ≤ 5) ⌝ }
-    ensures { λ r. ⌜ SumsOf (now (book .entry)) group r ⌝ }
+// The year sums of a product group, over both sexes and, for PG1, its three subgroups: k = 0 to 49, before weights, costs and the cap. They are added
+// to a table of zeros: for each year ten numbers, for each of the settings 0 to 4 premium and claims. Hands back the group's n. The rows are room to
+// work in.
+pub fn group_sums(
+    book: &[u8],
+    w: Shifts,
+    group: usize,
+    rows: &mut [u64; 2720],
+    numbers: &mut [u64; 500],
+) -> u64
+    requires { ⌜ ShiftsOf (now book) w × ValidBook 1 (now book) × (1 ≤ group) × (group ≤ 5) × (now numbers ≡ replicate 500 0) ⌝ }
+    ensures { λ n. ⌜ SumsOf (now (book .entry)) group n (now (numbers .exit)) ⌝ }
 {
-    let mut rows = [0u64; 2720];
-    let mut numbers = [0u64; 500];
     let mut n: u64 = 0;
     let from = first_chain(group);
     let to = 4 + 2 * group;
     for k in from..to {
-        n += add_chain(book, w, k, &mut rows, &mut numbers);
+        n += add_chain(book, w, k, rows, numbers);
     }
-    Sums { numbers, n }
+    n
 }
 
 // Of the five projections, the one that serves a setting: settings 5, 6 and 7 shift costs and claims alone.

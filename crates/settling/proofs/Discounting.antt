@@ -49,7 +49,7 @@ step-at [] k d = sym (zero-div d)
 step-at (x ∷ u) zero d = refl
 step-at (x ∷ u) (suc k) d = step-at u k d
 
--- the years from `from` to before k have gone a year back: none at first, then one more
+-- the years from `from` to before k have gone a year back: none at first, then one more, or two
 module _ (divisors : List ℕ) (from : ℕ) (before : List ℕ) where
   pub stepped-none : Stepped divisors from from before before
   stepped-none = record { stepped = λ k l h. absurd (omega arith); earlier = λ k h. refl; later = λ k h. refl }
@@ -73,6 +73,13 @@ module _ (divisors : List ℕ) (from : ℕ) (before : List ℕ) where
 
       at : (i : ℕ) → from ≤ i → i ≤ k → getD v i 0 ≡ getD before i 0 * 1_000_000 / getD divisors i 0
       at i li le = ⊎-elim (λ (q : i ≡ k). rw q here) (λ (g : i < k). other i (λ q. omega arith) ∙ s .stepped i li g) (eq-or-lt-of-le le)
+
+  pub stepped-two : (k : ℕ) (u v w : List ℕ) → from ≤ k → Stepped divisors from k before u
+      → v ≡ set u k (getD u k 0 * 1_000_000 / getD divisors k 0)
+      → w ≡ set v (k + 1) (getD v (k + 1) 0 * 1_000_000 / getD divisors (k + 1) 0) → Stepped divisors from (k + 2) before w
+  stepped-two k u v w l s e f =
+      let two : k + 1 + 1 ≡ k + 2 = omega arith in
+      rw two at (stepped-more (k + 1) v w (omega arith) (stepped-more k u v l s e) f)
 
 -- all years at once: for no year, and for one year more
 module _ (divisors : List ℕ) (to : ℕ) (before : List ℕ) where

@@ -15,8 +15,8 @@ ghost use Rattle.settling.specs.Settling.{Divisor, Divisors, AtMost, Ste
 use arith::Two;
 use settings::Outgoings;
 
-// No doubled amount is above 2^55.
-const MOST_DOUBLED: u64 = 36_028_797_018_963_968;
+// No doubled amount is above that: amounts before a step are at most 10^16.
+const MOST_DOUBLED: u64 = 20_000_000_000_000_000;
 
 // The cost rate of a product group, in millionths of premium.
 pub fn cost_rate_of(book: &[u8], group: usize) -> u64
@@ -81,7 +81,8 @@ fn step_year(
     outgo[k] = back.second;
 }
 
-// One step on the amounts of the years from `from` to before `to`. No step waits for another.
+// One step on the amounts of the years from `from` to before `to`. No step waits for another. Two years a turn, which was measured to cost less, and a
+// last one alone where their number is odd.
 fn step_years(
     divisors: &[u64; 50],
     fractions: &[u64; 50],
@@ -93,7 +94,13 @@ fn step_years(
     requires { ⌜ (from ≤ to) × (to ≤ 50) × Divisors (now divisors) (now fractions) × AtMost 10000000000000000 to (now premium) × AtMost 10000000000000000 to (now outgo) ⌝ }
     ensures { λ _. ⌜ Stepped (now (divisors .entry)) from to (now (premium .entry)) (now (premium .exit)) × Stepped (now (divisors .entry)) from to (now (outgo .entry)) (now (outgo .exit)) ⌝ }
 {
-    for k in from..to {
+    let mut k = from;
+    while k + 1 < to {
+        step_year(divisors, fractions, k, premium, outgo);
+        step_year(divisors, fractions, k + 1, premium, outgo);
+        k += 2;
+    }
+    if k < to {
         step_year(divisors, fractions, k, premium, outgo);
     }
 }

@@ -157,7 +157,8 @@ fn eight_totals(
     ]
 }
 
-// The same: the curve and the weights are read once for all settings, and the year sums of a product group are made once.
+// The same: the curve and the weights are read once for all settings, and the year sums of a product group are made once. All groups work in the same
+// rows.
 fn all_totals(book: &[u8]) -> [i64; 8]
     requires { ⌜ ValidBook 1 (now book) ⌝ }
     ensures { λ a. ⌜ (a ≡ totalsOf (now (book .entry))) × Sizes a ⌝ }
@@ -166,11 +167,17 @@ fn all_totals(book: &[u8]) -> [i64; 8]
     let divisors = curve.divisors;
     let fractions = curve.fractions;
     let w = Shifts::new(book);
-    let p = projection::group_sums(book, w, 1).numbers;
-    let q = projection::group_sums(book, w, 2).numbers;
-    let r = projection::group_sums(book, w, 3).numbers;
-    let s = projection::group_sums(book, w, 4).numbers;
-    let t = projection::group_sums(book, w, 5).numbers;
+    let mut rows = [0u64; 2720];
+    let mut p = [0u64; 500];
+    projection::group_sums(book, w, 1, &mut rows, &mut p);
+    let mut q = [0u64; 500];
+    projection::group_sums(book, w, 2, &mut rows, &mut q);
+    let mut r = [0u64; 500];
+    projection::group_sums(book, w, 3, &mut rows, &mut r);
+    let mut s = [0u64; 500];
+    projection::group_sums(book, w, 4, &mut rows, &mut s);
+    let mut t = [0u64; 500];
+    projection::group_sums(book, w, 5, &mut rows, &mut t);
     eight_totals(book, &divisors, &fractions, &p, &q, &r, &s, &t)
 }
 

@@ -35,9 +35,10 @@ fn year_table(book: &[u8], setting: usize, w: Shifts, group: usize) -> YearTable
     requires { ⌜ Asked (now book) setting w group ⌝ }
     ensures { λ r. ⌜ Years (now (book .entry)) setting group (r .numbers) ⌝ }
 {
+    let mut rows = [0u64; 2720];
+    let mut amounts = [0u64; 500];
+    projection::group_sums(book, w, group, &mut rows, &mut amounts);
     let mut numbers = [0u64; 200];
-    let sums = projection::group_sums(book, w, group);
-    let amounts = sums.numbers;
     years::settle(book, setting, group, &amounts, &mut numbers);
     YearTable { numbers }
 }

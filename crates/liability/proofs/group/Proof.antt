@@ -1,6 +1,6 @@
 -- `liability::group` meets its contract: where a refusal applies it is given and nothing is touched; else reply and table are those of `settle`.
 -- What is promised of both follows from these two equations. Assumes nothing.
-use mathlib.Core.Path.{sym, ap, _∙_}
+use mathlib.Core.Path.{refl, sym, ap, _∙_}
 use Prim.Native.Nat.{ℕ}
 use mir.Syntax.{w64}
 use mir.ValLaws.{toZ-ofZ}
@@ -26,20 +26,20 @@ new-requires c κs =
 
 group-sums-requires : tie.Need-group-sums-requires
 group-sums-requires c κs =
-    let m = c .before in
+    let m = c .before .before .before in
     let e = sym (m .before .before .check-group .ensures) ∙ m .enum-told .given .1 in
-    (c .new .ensures, group-valid _ _ _ _ _ e, group-range _ _ _ _ _ e .0, group-range _ _ _ _ _ e .1)
+    (c .before .before .new .ensures, group-valid _ _ _ _ _ e, group-range _ _ _ _ _ e .0, group-range _ _ _ _ _ e .1, refl)
 
 settle-requires : tie.Need-settle-requires
 settle-requires c κs =
-    let m = c .before .before .before .before .before in
+    let m = c .before .before .before .before .before .before in
     let e = sym (m .before .before .check-group .ensures) ∙ m .enum-told .given .1 in
-    (omega (arith, group-setting _ _ _ _ _ e), group-range _ _ _ _ _ e .0, group-range _ _ _ _ _ e .1, group-table _ _ _ _ _ e, group-valid _ _ _ _ _ e, c .before .before .before .group-sums .ensures .table)
+    (omega (arith, group-setting _ _ _ _ _ e), group-range _ _ _ _ _ e .0, group-range _ _ _ _ _ e .1, group-table _ _ _ _ _ e, group-valid _ _ _ _ _ e, c .before .before .group-sums .ensures .table)
 
 returns-2 : tie.Need-returns-2
 unfolding groupReply groupTable
 returns-2 c =
-    let m = c .before .before .before .before .before .before .before .before in
+    let m = c .before .before .before .before .before .before .before .before .before in
     let a = m .before .before .before .before .before .args in
     let b = a .book .now in
     let setting = a .setting in
@@ -47,7 +47,7 @@ returns-2 c =
     let e = sym (m .before .before .check-group .ensures) ∙ m .enum-told .given .1 in
     let s = c .before .before .settle in
     let l = toZ-ofZ w64 (s .result) (record { sfits = s .ok }) ∙ s .ensures .liability-is in
-    let n = c .before .before .before .before .before .before .group-sums .ensures .n-is in
+    let n = c .before .before .before .before .before .group-sums .ensures .n-is in
     promised _ _ _ _ _ _ (rw (e, l) (ap (λ (m : ℕ). Reckoned (groupLiability b setting g) m) n)) (rw e (s .ensures .table-is))
 
 pub group-spec : {M : Type 1} → statement M

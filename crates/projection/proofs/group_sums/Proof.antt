@@ -1,6 +1,6 @@
 -- `projection::group_sums` meets its contract. The invariant: what is added and counted so far, with the chains from k on, is what all chains of the
 -- group add and count. The measure is the number of chains left. Assumes nothing.
-use mathlib.Core.Path.{_≡_, refl, sym, _∙_}
+use mathlib.Core.Path.{_≡_, sym, _∙_}
 use mathlib.Core.List.{List}
 use Prim.Native.Nat.{ℕ, _+_, _-_, _*_, _<_, _≤_}
 use native.Mathlib.Omega.{arith}
@@ -34,13 +34,14 @@ first-chain-requires c κs = (c .before .pre .2, c .before .pre .3)
 
 loop-holds : tie.Need-loop-holds Inv-loop μ-loop
 unfolding zeros
-loop-holds c = (
-  omega arith,
-  omega arith,
-  omega arith,
-  (refl, λ j. omega (arith, zero-most 500 j)),
-  omega arith,
-)
+loop-holds c =
+    let none = c .before .before .pre .4 in (
+      omega arith,
+      omega arith,
+      omega arith,
+      (rw none, rw none (λ j. omega (arith, zero-most 500 j))),
+      omega arith,
+    )
 
 add-chain-requires : tie.Need-add-chain-requires Inv-loop μ-loop
 add-chain-requires c κs =

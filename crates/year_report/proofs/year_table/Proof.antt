@@ -8,8 +8,8 @@ use Rattle.year_report.proofs.year_table.Tie as tie
 
 settle-requires : tie.Need-settle-requires
 settle-requires c κs =
-    let asked = c .before .before .before .before .before .pre in
-    (asked .setting-is, asked .lo, asked .hi, omega arith, asked .book, c .before .before .before .group-sums .ensures .table)
+    let asked = c .before .before .before .before .before .before .pre in
+    (asked .setting-is, asked .lo, asked .hi, omega arith, asked .book, c .before .before .group-sums .ensures .table)
 
 returns : tie.Need-returns
 returns c = years-at _ _ _ _ _ (c .before .settle .ensures .table-is)
