@@ -29,7 +29,7 @@ def script(name, module, least, *words):
     return Part(name, [sys.executable, "-m", module, *words], least)
 
 
-PROOFS = Part("proofs, must-fail edits and programs", ["rt", "ci"], 319)
+PROOFS = Part("proofs, must-fail edits and programs", ["rt", "ci"], 330)
 # What runs on the proved programs, two parts at once.
 PROGRAMS = [
     script("must-fail edits fit the proof files", "tests.must_fail_reasons", 2),
