@@ -7,6 +7,6 @@ use lib.Dec.{ltb}
 unfoldable pub Fraction : ℕ → ℕ → ℕ → Type 0
 Fraction w d f = (f * d ≤ w * 18446744073709551616) × (w * 18446744073709551616 ≤ f * d + d)
 
--- the lower half of a product ends less than m + 1 below 2^64
+-- the lower half of a product ends at most m below 2^64
 abbrev pub nearTop : ℕ → ℕ → Bool
 nearTop m n = ltb (18446744073709551615 - m) (n % 18446744073709551616)

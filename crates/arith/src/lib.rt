@@ -36,7 +36,7 @@ pub fn share(x: u64, y: u64) -> u64
     mul_div(x, y, 1_000_000_000)
 }
 
-// The lower half of that product. Beside `mul_high` of the same factors it costs nothing.
+// The lower half of a product of 128 bits. Beside `mul_high` of the same factors it costs nothing.
 pub fn mul_low(a: u64, b: u64) -> u64
     ensures { λ r. ⌜ r ≡ (a * b) % 18446744073709551616 ⌝ }
 {

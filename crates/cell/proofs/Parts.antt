@@ -14,9 +14,9 @@ module _ (t : List ℕ) (r column : ℕ) (ready : RowReady t r) (known : column 
   pub sure : nearTop 100000000000000 (x * fraction t r column) ≡ false → q ≡ x * rate t r column / 1000000000
   sure = part-sure x (rate t r column) 1000000000 (fraction t r column) q 100000000000000 (omega arith) (ready .fractions column known) upper few (omega arith)
 
-  -- a share of at most the whole is at most x
-  pub share-le : rate t r column ≤ 1000000000 → q ≤ x
-  share-le most =
+  -- of at most the whole, the upper half is at most x
+  upper-le : rate t r column ≤ 1000000000 → q ≤ x
+  upper-le most =
       le-of-mul-le-mul-right {k = 1000000000}
       (le-trans (part-below x (rate t r column) 1000000000 (fraction t r column) q (omega arith) (ready .fractions column known) upper) (mul-le-mul-left x most)) (omega arith)
 
@@ -24,4 +24,4 @@ module _ (t : List ℕ) (r column : ℕ) (ready : RowReady t r) (known : column 
       → (1000000000 < 9223372036854775808) × (q < 18446744073709551615) × (q * 1000000000 ≤ x * rate t r column) × (x * rate t r column < q * 1000000000 + 2 * 1000000000)
   short most =
       part-short x (rate t r column) 1000000000 (fraction t r column) q 100000000000000 (omega arith) (ready .fractions column known) upper few (omega arith) (omega arith)
-      (omega (arith, share-le most, few))
+      (omega (arith, upper-le most, few))

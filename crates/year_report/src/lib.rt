@@ -36,10 +36,10 @@ fn year_table(book: &[u8], setting: usize, w: Shifts, group: usize) -> YearTable
     ensures { λ r. ⌜ Years (now (book .entry)) setting group (r .numbers) ⌝ }
 {
     let mut rows = [0u64; 2720];
-    let mut amounts = [0u64; 500];
-    projection::group_sums(book, w, group, &mut rows, &mut amounts);
+    let mut sums = [0u64; 500];
+    projection::group_sums(book, w, group, &mut rows, &mut sums);
     let mut numbers = [0u64; 200];
-    years::settle(book, setting, group, &amounts, &mut numbers);
+    years::settle(book, setting, group, &sums, &mut numbers);
     YearTable { numbers }
 }
 

@@ -1,5 +1,5 @@
 //! Totals in safe Rust with every idea of the archive that helps it. What a good engineer makes of them.
-//! One does not: a single branch for two shares, with which it takes a quarter to two fifths longer.
+//! One does not: a single branch for two shares, with which it takes a quarter longer, or up to almost half.
 //!
 //! Shares and discounting go by fractions of 2^64 (`share.rs`), so no loop divides but by constants.
 //! Rows are made once for all settings. Five projections serve the eight settings; those of a cell go

@@ -1,12 +1,12 @@
 -- `cell::Cell::mended_year` meets its contract: what lives on is mended, and of that, taken anew where it has changed, what stays. Assumes nothing.
 use mathlib.Core.Logic.{⊎-elim}
 use mathlib.Core.Path.{_≡_, sym, ap, _∙_}
-use Prim.Native.Nat.{ℕ, _*_, _/_, _≤_}
-use native.Mathlib.Nat.{mul-le-mul-left, div-le-of-le-mul, le-trans}
+use Prim.Native.Nat.{ℕ, _*_, _/_}
 use native.Mathlib.Omega.{arith}
 use borrow.Author.Needs.{needs}
 use Rattle.rows.specs.Rows.{fraction}
 use Rattle.cell.specs.States.{upperHalf, nextYear}
+use Rattle.cell.proofs.Cells.{share-bound}
 use Rattle.cell.proofs.Parts.{short}
 use Rattle.cell.proofs.Cell.mended_year.Statement.{statement}
 use Rattle.cell.proofs.Cell.mended_year.Tie as tie
@@ -19,12 +19,6 @@ mended-requires c κs =
     short (a .args .rows .now) (a .args .self .row) (living .result) (r .row) (omega (arith, living .ensures .1)) (a .args .self .inforce) (a .args .alive) (r .bound)
     (a .pre .1 .alive-is ∙ ap (upperHalf (a .args .rows .now) (a .args .self)) (sym (living .ensures .0))) (r .row .shares (living .result) (omega (arith, living .ensures .1)))
 
--- what lives on is at most what is in force
-alive-le : (x w r : ℕ) → w ≤ 1000000000 → x ≤ 100000000000000 → r ≡ x * w / 1000000000 → r ≤ 100000000000000
-alive-le x w r h k e =
-    let below : x * w / 1000000000 ≤ x = div-le-of-le-mul 1000000000 (omega (arith, mul-le-mul-left x h)) in
-    rw e (le-trans below k)
-
 mended-requires-2 : tie.Need-mended-requires-2
 mended-requires-2 c κs =
     let m = c .before .before .before in
@@ -35,7 +29,7 @@ mended-requires-2 c κs =
     let t = a .args .rows .now in
     let told = a .pre .1 .inforce-is ∙ ap (λ (column : ℕ). a .args .alive * fraction t (a .args .self .row) column / 18446744073709551616) (sym (staying .ensures .0)) in
     short t (a .args .self .row) (staying .result) (r .row) (omega (arith, staying .ensures .1)) (m .mended .result) (c .before .before .if1 .upper)
-    (alive-le (a .args .self .inforce) _ _ (r .row .shares (living .result) (omega (arith, living .ensures .1))) (r .bound) (m .mended .ensures))
+    (share-bound (a .args .self .inforce) _ _ _ (r .row .shares (living .result) (omega (arith, living .ensures .1))) (r .bound) (m .mended .ensures))
     (⊎-elim (λ w. w .1 ∙ told ∙ ap (λ (n : ℕ). n * fraction t (a .args .self .row) (staying .result) / 18446744073709551616) (sym (w .0 .taken))) (λ w. w .3 ∙ w .2 .ensures) (c .before .before .if1 .came))
     (r .row .shares (staying .result) (omega (arith, staying .ensures .1)))
 
