@@ -9,15 +9,16 @@ use native.Mathlib.Omega.{arith}
 use lib.Dec.{ltb}
 use Rattle.book.specs.Layout.{chainSex, sexOf, classOf, fieldOf, countOffset, lapseOffset, premiumOffset, claimsOffset}
 use Rattle.book.specs.Reading.{Standing}
-use Rattle.settings.specs.Settings.{weightOf, mortalityWeight, decrementsOf, mortalityIn, lapseIn}
+use Rattle.settings.specs.Settings.{weightOf, mortalityWeight, decrementsOf, mortalityIn, lapseIn, livingColumn, stayingColumn}
+use Rattle.settings.proofs.Held.{living-low, staying-low}
 use Rattle.settings.specs.declared.Decrements.{Decrements}
 use Rattle.reckoning.specs.Arithmetic.{rounded}
 use Rattle.reckoning.specs.Steps.{inForce, cellPremium, cellClaims}
 use Rattle.reckoning.specs.Portfolio.{mortalityOf, oneLess, onward, rowAt, cellOf}
 use Rattle.reckoning.proofs.Rows.{row-standing}
 use Rattle.rows.specs.Rows.{rate, rateOf, RowReady, RowOf, RowsOf}
-use Rattle.cell.specs.States.{livingColumn, stayingColumn, cellIn, Walkable, premiumBy, claimsBy, premiumAt, claimsAt}
-use Rattle.cell.proofs.Cells.{share-le, living-low, staying-low}
+use Rattle.cell.specs.States.{cellIn, Walkable, premiumBy, claimsBy, premiumAt, claimsAt}
+use Rattle.cell.proofs.Cells.{share-le}
 
 -- the record of a later year, from that of a year between
 pub row-sum : (b : List ℕ) (i j k : ℕ) → rowAt b i (j + k) ≡ rowAt b (rowAt b i j) k
@@ -51,7 +52,7 @@ module _ (b : List ℕ) (sex i k : ℕ) where
       by false e = each-setting Lives (rw e) (rw e) (rw e) (rw e) (rw e) (rw e) (rw e) (rw e)
 
   Stays : ℕ → Type 0
-  Stays setting = rateOf b sex i (stayingColumn setting) ≡ oneLess (fieldOf b i lapseOffset) (lapseIn (decrementsOf b setting) k)
+  Stays setting = rateOf b sex i (stayingColumn setting k) ≡ oneLess (fieldOf b i lapseOffset) (lapseIn (decrementsOf b setting) k)
 
   column-staying : (setting : ℕ) → setting < 8 → Stays setting
   unfolding Stays rateOf stayingColumn decrementsOf weightOf
@@ -84,9 +85,9 @@ module _ (b : List ℕ) (chain i : ℕ) (s : Standing b 120 chain i) (t : List �
     unfolding Lives
     living-is k h = rw sex-is (here k h .rates _ (omega (arith, living-low setting k)) ∙ column-living b (chainSex chain) (rowAt b record-of k) k setting known)
 
-    staying-is : (k : ℕ) → k < 50 → rate t (own + k) (stayingColumn setting) ≡ oneLess (fieldOf b (rowAt b record-of k) lapseOffset) (lapseIn (decrementsOf b setting) k)
+    staying-is : (k : ℕ) → k < 50 → rate t (own + k) (stayingColumn setting k) ≡ oneLess (fieldOf b (rowAt b record-of k) lapseOffset) (lapseIn (decrementsOf b setting) k)
     unfolding Stays
-    staying-is k h = here k h .rates _ (omega (arith, staying-low setting)) ∙ column-staying b (chainSex chain) (rowAt b record-of k) k setting known
+    staying-is k h = here k h .rates _ (omega (arith, staying-low setting k)) ∙ column-staying b (chainSex chain) (rowAt b record-of k) k setting known
 
     pub inforce-same : (k : ℕ) → k ≤ 50 → inForce rounded (cellIn t own contracts setting) k ≡ inForce rounded (cellOf b (decrementsOf b setting) record-of) k
     unfolding inForce cellIn cellOf

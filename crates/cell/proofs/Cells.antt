@@ -6,13 +6,14 @@ use Prim.Native.Nat.{ℕ, zero, suc, _+_, _*_, _/_, _≤_, _<_}
 use native.Mathlib.Nat.{add-zero, le-trans, mul-le-mul, mul-le-mul-left, div-le-of-le-mul}
 use native.Mathlib.Numerals.{add-one}
 use native.Mathlib.Omega.{arith}
-use lib.Dec.{ltb, eqb}
-use Rattle.settings.proofs.Laws.{pick-le}
+use Rattle.settings.specs.Settings.{livingColumn, stayingColumn, columnsOf, livesIn, staysIn}
+use Rattle.settings.specs.declared.Columns.{Columns}
+use Rattle.settings.proofs.Held.{living-low, staying-low, lives-is, stays-is}
 use Rattle.reckoning.specs.Arithmetic.{rounded}
 use Rattle.reckoning.specs.Steps.{inForce, cellPremium, cellClaims}
 use Rattle.rows.specs.Rows.{rate, RowReady}
 use Rattle.cell.specs.declared.Cell.{Cell}
-use Rattle.cell.specs.States.{livingColumn, stayingColumn, cellIn, Walkable, Ready, nextYear, stateIn, premiumIn, claimsIn, premiumBy, claimsBy}
+use Rattle.cell.specs.States.{cellIn, Walkable, Ready, nextBy, nextYear, stateIn, premiumIn, claimsIn, premiumBy, claimsBy}
 
 -- a share of at most the whole is at most the amount
 pub share-le : (x y : ℕ) → y ≤ 1_000_000_000 → x * y / 1_000_000_000 ≤ x
@@ -30,14 +31,14 @@ module _ (t : List ℕ) (c : Cell) (r : Ready t c) where
   pub claims-in-le : claimsIn t c ≤ 1_000_000_000_000
   claims-in-le = div-le-of-le-mul 1_000_000_000 (le-trans (mul-le-mul (r .bound) (r .row .claims)) (omega arith))
 
--- columns of shares
-pub living-low : (setting k : ℕ) → livingColumn setting k ≤ 2
-unfolding livingColumn
-living-low setting k = pick-le (ltb k 5) 2 (pick-le (eqb setting 1) 2 (omega arith) (pick-le (eqb setting 2) 2 (omega arith) (omega arith))) (omega arith)
+-- the columns of a setting are those of its year k
+module _ (setting k : ℕ) (columns : Columns) (e : columns ≡ columnsOf setting) where
+  pub held-low : (livesIn columns k ≤ 5) × (staysIn columns k ≤ 5)
+  held-low = rw e (omega (arith, lives-is setting k, living-low setting k), omega (arith, stays-is setting k, staying-low setting k))
 
-pub staying-low : (setting : ℕ) → stayingColumn setting ≤ 5
-unfolding stayingColumn
-staying-low setting = pick-le (eqb setting 3) 5 (omega arith) (pick-le (eqb setting 4) 5 (omega arith) (omega arith))
+  pub next-held : (t : List ℕ) (c r : Cell) → r ≡ nextBy t (livesIn columns k) (staysIn columns k) c → r ≡ nextYear t setting k c
+  unfolding nextYear
+  next-held t c r h = h ∙ rw (e, lives-is setting k, stays-is setting k)
 
 module _ (t : List ℕ) (r n setting : ℕ) where
   pub state-start : stateIn t r n setting 0 ≡ record { row = r; inforce = n * 1_000_000_000 }
@@ -71,7 +72,7 @@ module _ (t : List ℕ) (r n setting : ℕ) where
     inforce-le zero h = omega (arith, s .few)
     inforce-le (suc k) h =
         let row = s .rows k (omega arith) in
-        le-trans (share-le _ _ (row .shares (stayingColumn setting) (omega (arith, staying-low setting))))
+        le-trans (share-le _ _ (row .shares (stayingColumn setting k) (omega (arith, staying-low setting k))))
         (le-trans (share-le _ _ (row .shares (livingColumn setting k) (omega (arith, living-low setting k)))) (inforce-le k (omega arith)))
 
     -- every state of the reckoning can go on

@@ -2,30 +2,23 @@
 use mathlib.Core.Path.{_≡_}
 use mathlib.Core.List.{List}
 use Prim.Native.Nat.{ℕ, _+_, _*_, _/_, _<_, _≤_}
-use lib.Dec.{ltb, eqb}
-use Rattle.field.specs.Verdicts.{pick}
+use lib.ListN.{getD}
+use Rattle.arith.specs.Fractions.{Fraction}
+use Rattle.settings.specs.Settings.{livingColumn, stayingColumn}
 use Rattle.settings.specs.declared.Decrements.{Decrements}
 use Rattle.reckoning.specs.Arithmetic.{rounded}
 use Rattle.reckoning.specs.Steps as steps
 use Rattle.reckoning.specs.Steps.{inForce, cellPremium, cellClaims}
 use Rattle.reckoning.specs.Portfolio.{cellOf}
-use Rattle.rows.specs.Rows.{rate, fraction, RowReady}
+use Rattle.rows.specs.Rows.{rate, RowReady}
 use Rattle.cell.specs.declared.Cell.{Cell}
-
--- the column of what lives on in year k of a setting: settings 1 and 2 shift mortality in the first five years
-unfoldable pub livingColumn : ℕ → ℕ → ℕ
-livingColumn setting k = pick (ltb k 5) (pick (eqb setting 1) 1 (pick (eqb setting 2) 2 0)) 0
-
--- the column of what stays: settings 3 and 4 shift the lapse in all years
-unfoldable pub stayingColumn : ℕ → ℕ
-stayingColumn setting = pick (eqb setting 3) 4 (pick (eqb setting 4) 5 3)
 
 -- the cell that starts at row r of the table t with n contracts, in a setting: in year k it has reached row r + k
 unfoldable pub cellIn : List ℕ → ℕ → ℕ → ℕ → steps.Cell
 cellIn t r n setting = record {
   count = n;
   living = λ k. rate t (r + k) (livingColumn setting k);
-  staying = λ k. rate t (r + k) (stayingColumn setting);
+  staying = λ k. rate t (r + k) (stayingColumn setting k);
   premium = λ k. rate t (r + k) 6;
   claims = λ k. rate t (r + k) 7;
 }
@@ -42,21 +35,25 @@ pub record Ready (t : List ℕ) (c : Cell) : Type 0 where
   pub fits : c .row < 170
   pub bound : c .inforce ≤ 100_000_000_000_000
 
--- the upper half of what is in force times the fraction of a column
-abbrev pub upperHalf : List ℕ → Cell → ℕ → ℕ
-upperHalf t c column = c .inforce * fraction t (c .row) column / 18446744073709551616
+-- a place of the rows by which shares can be taken: it has the fraction of the rate eight further, which is at most the whole
+pub record ShareAt (t : List ℕ) (at : ℕ) : Type 0 where
+  pub fraction-is : Fraction (getD t (at + 8) 0) 1_000_000_000 (getD t at 0)
+  pub most : getD t (at + 8) 0 ≤ 1_000_000_000
 
--- the upper halves from which the state a year after year k of a setting is mended: what lives on, and of that what stays
-pub record Halves (t : List ℕ) (setting k : ℕ) (c : Cell) (alive inforce : ℕ) : Type 0 where
-  pub alive-is : alive ≡ upperHalf t c (livingColumn setting k)
-  pub inforce-is : inforce ≡ alive * fraction t (c .row) (stayingColumn setting) / 18446744073709551616
+-- the share of x that it gives, rounded down
+abbrev pub shareOf : List ℕ → ℕ → ℕ → ℕ
+shareOf t at x = x * getD t (at + 8) 0 / 1_000_000_000
 
--- the state a year after year k of a setting: what lives on, rounded down, and of that what stays, rounded down
-unfoldable pub nextYear : List ℕ → ℕ → ℕ → Cell → Cell
-nextYear t setting k c = record {
+-- the state a year later, by the columns of what lives on and of what stays: what lives on, rounded down, and of that what stays, rounded down
+abbrev pub nextBy : List ℕ → ℕ → ℕ → Cell → Cell
+nextBy t lives stays c = record {
   row = c .row + 1;
-  inforce = c .inforce * rate t (c .row) (livingColumn setting k) / 1_000_000_000 * rate t (c .row) (stayingColumn setting) / 1_000_000_000;
+  inforce = c .inforce * rate t (c .row) lives / 1_000_000_000 * rate t (c .row) stays / 1_000_000_000;
 }
+
+-- the state a year after year k of a setting
+unfoldable pub nextYear : List ℕ → ℕ → ℕ → Cell → Cell
+nextYear t setting k = nextBy t (livingColumn setting k) (stayingColumn setting k)
 
 -- the state in year k of a setting, as the reckoning has it
 unfoldable pub stateIn : List ℕ → ℕ → ℕ → ℕ → ℕ → Cell

@@ -11,6 +11,7 @@ ghost use Rattle.reckoning.specs.Portfolio.{cellOf, chainLinks};
 ghost use Rattle.inforce.specs.Screen.{chainOf, ofClass, askedCheck, firstYears, InForcePromised};
 use cell::Cell;
 use field::Verdict;
+use settings::Columns;
 use settings::Shifts;
 
 // The refusals that the caller alone decides, in their order.
@@ -63,11 +64,12 @@ fn run(book: &[u8], setting: usize, chain: usize, i: usize, out: &mut [u64])
         ≡ firstYears (inForce rounded (cellOf (now (book .entry)) (decrementsOf (now (book .entry)) setting) i)) 50
         ++ drop 50 (now (out .entry)) ⌝ }
 {
+    let columns = Columns::new(setting);
     let mut rows = [0u64; 2720];
     rows::read_rows(book, Shifts::new(book), chain, i, &mut rows);
     let mut cell = Cell::new(0, book::field_of(book, i, book::COUNT_OFFSET));
     for k in 0usize..50 {
-        let next = cell.next_year(&rows, setting, k);
+        let next = cell.next_year(&rows, columns, k);
         out[k] = cell.inforce;
         cell = next;
     }

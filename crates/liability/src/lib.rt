@@ -27,6 +27,14 @@ pub fn group(book: &[u8], setting: usize, group: usize, table: &mut [u64]) -> Gr
     }
     let mut rows = [0u64; 2720];
     let mut numbers = [0u64; 500];
-    let n = projection::group_sums(book, Shifts::new(book), group, &mut rows, &mut numbers);
+    let projection = projection::projection_of(setting);
+    let n = projection::group_sums(
+        book,
+        Shifts::new(book),
+        group,
+        projection,
+        &mut rows,
+        &mut numbers,
+    );
     GroupReply::Reckoned(years::settle(book, setting, group, &numbers, table), n)
 }

@@ -11,29 +11,33 @@ use Rattle.settings.specs.Settings.{decrementsOf}
 use Rattle.reckoning.specs.Arithmetic.{rounded}
 use Rattle.reckoning.specs.Steps.{premiumSum, claimsSum}
 use Rattle.reckoning.specs.Portfolio.{linksFrom, chainLinks, groupCells}
-use Rattle.walks.specs.Tables.{amountAt, addedAll, AtMost}
+use Rattle.walks.specs.Tables.{amountIn, Among, addedAll, AtMost}
 
 -- what the cells of the records from record i on make of the table u, and how many hold contracts
-pub record CellsAdded (b : List ℕ) (i n : ℕ) (u v : List ℕ) : Type 0 where
-  pub sums : v ≡ addedAll (amountAt b) (linksFrom b i (lastClass 1 + 1)) u
+pub record CellsAdded (b : List ℕ) (which i n : ℕ) (u v : List ℕ) : Type 0 where
+  pub sums : v ≡ addedAll (amountIn b which) (linksFrom b i (lastClass 1 + 1)) u
   pub n-is : n ≡ heldFrom b i (lastClass 1 + 1)
   pub few : n ≤ 121
 
 -- what the cells of chain k make of it, and how many hold contracts
-pub record ChainAdded (b : List ℕ) (k n : ℕ) (u v : List ℕ) : Type 0 where
-  pub sums : v ≡ addedAll (amountAt b) (chainLinks b k) u
+pub record ChainAdded (b : List ℕ) (which k n : ℕ) (u v : List ℕ) : Type 0 where
+  pub sums : v ≡ addedAll (amountIn b which) (chainLinks b k) u
   pub n-is : n ≡ heldIn b (lastClass 1) k
   pub few : n ≤ 121
 
--- the table of product group g: ten numbers a year, for each of the settings 0 to 4 premium and claims
-pub record TableOf (b : List ℕ) (g : ℕ) (t : List ℕ) : Type 0 where
-  pub premium-is : (s k : ℕ) → s < 5 → k < 50 → getD t (10 * k + 2 * s) 0 ≡ premiumSum rounded (groupCells b (decrementsOf b s) g) k
-  pub claims-is : (s k : ℕ) → s < 5 → k < 50 → getD t (10 * k + 2 * s + 1) 0 ≡ claimsSum rounded (groupCells b (decrementsOf b s) g) k
+-- the table of product group g, ten numbers a year, has premium and claims of projection s
+pub record TableIn (b : List ℕ) (s g : ℕ) (t : List ℕ) : Type 0 where
+  pub premium-is : (k : ℕ) → k < 50 → getD t (10 * k + 2 * s) 0 ≡ premiumSum rounded (groupCells b (decrementsOf b s) g) k
+  pub claims-is : (k : ℕ) → k < 50 → getD t (10 * k + 2 * s + 1) 0 ≡ claimsSum rounded (groupCells b (decrementsOf b s) g) k
   pub most : AtMost 726_000_000_000_000 t
 
--- and its n
-pub record SumsOf (b : List ℕ) (g n : ℕ) (t : List ℕ) : Type 0 where
-  pub table : TableOf b g t
+-- and those of all
+abbrev pub TableOf : List ℕ → ℕ → List ℕ → Type 0
+TableOf b g t = (s : ℕ) → s < 5 → TableIn b s g t
+
+-- those of the projections that were asked for, and the group's n
+pub record SumsOf (b : List ℕ) (which g n : ℕ) (t : List ℕ) : Type 0 where
+  pub table : (s : ℕ) → s < 5 → Among which s → TableIn b s g t
   pub n-is : n ≡ heldOfGroup b (lastClass 1) g
 
 -- of the five projections, the one that serves a setting: settings 5, 6 and 7 shift costs and claims alone

@@ -9,7 +9,12 @@ ghost use Rattle.settings.specs.Settings.{ShiftsOf};
 ghost use Rattle.rows.specs.Rows.{RowsOf};
 ghost use Rattle.walks.specs.Tables.{AtMost};
 ghost use Rattle.projection.specs.Added.{CellsAdded, ChainAdded, SumsOf, projectionOf};
+use settings::Columns;
+use settings::FiveColumns;
 use settings::Shifts;
+
+// In place of a projection: all five.
+pub const ALL: usize = walks::ALL;
 
 // The first chain of a product group.
 fn first_chain(group: usize) -> usize
@@ -24,19 +29,22 @@ fn add_cells(
     book: &[u8],
     chain: usize,
     head: usize,
+    which: usize,
     rows: &[u64; 2720],
     sums: &mut [u64; 500],
 ) -> u64
-    requires { ⌜ ValidBook 1 (now book) × Standing (now book) 120 chain head × RowsOf (now book) chain head (now rows) × AtMost 1000000000000000 (now sums) ⌝ }
-    ensures { λ n. ⌜ CellsAdded (now (book .entry)) head n (now (sums .entry)) (now (sums .exit)) ⌝ }
+    requires { ⌜ ValidBook 1 (now book) × Standing (now book) 120 chain head × RowsOf (now book) chain head (now rows) × (which ≤ 5) × AtMost 1000000000000000 (now sums) ⌝ }
+    ensures { λ n. ⌜ CellsAdded (now (book .entry)) which head n (now (sums .entry)) (now (sums .exit)) ⌝ }
 {
+    let five = FiveColumns::new();
+    let one = Columns::new(which);
     let mut i = head;
     let mut own = 0usize;
     let mut above = book::LAST_CLASS - book::class_of(book, head);
     let mut n: u64 = 0;
     loop {
         let count = book::field_of(book, i, book::COUNT_OFFSET);
-        walks::walk(rows, own, count, sums);
+        walks::walk_by(rows, own, count, five, one, which, sums);
         n += book::holds(book, i);
         if above == 0 {
             return n;
@@ -48,36 +56,44 @@ fn add_cells(
 }
 
 // Adds the cells of chain k to the table, and hands back how many of them hold contracts. The rows are room to work in.
-fn add_chain(book: &[u8], w: Shifts, k: usize, rows: &mut [u64; 2720], sums: &mut [u64; 500]) -> u64
-    requires { ⌜ ShiftsOf (now book) w × ValidBook 1 (now book) × (k < 14) × AtMost 1000000000000000 (now sums) ⌝ }
-    ensures { λ n. ⌜ ChainAdded (now (book .entry)) k n (now (sums .entry)) (now (sums .exit)) ⌝ }
+fn add_chain(
+    book: &[u8],
+    w: Shifts,
+    k: usize,
+    which: usize,
+    rows: &mut [u64; 2720],
+    sums: &mut [u64; 500],
+) -> u64
+    requires { ⌜ ShiftsOf (now book) w × ValidBook 1 (now book) × (k < 14) × (which ≤ 5) × AtMost 1000000000000000 (now sums) ⌝ }
+    ensures { λ n. ⌜ ChainAdded (now (book .entry)) which k n (now (sums .entry)) (now (sums .exit)) ⌝ }
 {
     let head = book::head_of(book, k);
     if head == 0 {
         return 0;
     }
     rows::read_rows(book, w, k, head, rows);
-    add_cells(book, k, head, rows, sums)
+    add_cells(book, k, head, which, rows, sums)
 }
 
 // The year sums of a product group, over both sexes and, for PG1, its three subgroups: k = 0 to 49, before weights, costs and the cap. They are added
-// to a table of zeros: for each year ten numbers, for each of the settings 0 to 4 premium and claims. Hands back the group's n. The rows are room to
+// to a table of zeros: for each year ten numbers, for each of the settings 0 to 4 premium and claims; those of one of them, or of all. Hands back the group's n. The rows are room to
 // work in.
 pub fn group_sums(
     book: &[u8],
     w: Shifts,
     group: usize,
+    which: usize,
     rows: &mut [u64; 2720],
     numbers: &mut [u64; 500],
 ) -> u64
-    requires { ⌜ ShiftsOf (now book) w × ValidBook 1 (now book) × (1 ≤ group) × (group ≤ 5) × (now numbers ≡ replicate 500 0) ⌝ }
-    ensures { λ n. ⌜ SumsOf (now (book .entry)) group n (now (numbers .exit)) ⌝ }
+    requires { ⌜ ShiftsOf (now book) w × ValidBook 1 (now book) × (1 ≤ group) × (group ≤ 5) × (which ≤ 5) × (now numbers ≡ replicate 500 0) ⌝ }
+    ensures { λ n. ⌜ SumsOf (now (book .entry)) which group n (now (numbers .exit)) ⌝ }
 {
     let mut n: u64 = 0;
     let from = first_chain(group);
     let to = 4 + 2 * group;
     for k in from..to {
-        n += add_chain(book, w, k, rows, numbers);
+        n += add_chain(book, w, k, which, rows, numbers);
     }
     n
 }

@@ -7,6 +7,8 @@ use Prim.Native.Nat.{ℕ, _*_, _/_, _≤_}
 use lib.Dec.{ltb, eqb}
 use Rattle.field.specs.Verdicts.{pick}
 use Rattle.book.specs.Layout.{edition, percentAt}
+use Rattle.settings.specs.declared.Columns.{Columns}
+use Rattle.settings.specs.declared.FiveColumns.{FiveColumns}
 use Rattle.settings.specs.declared.DecrementWeights.{DecrementWeights}
 use Rattle.settings.specs.declared.Decrements.{Decrements}
 use Rattle.settings.specs.declared.OutgoWeights.{OutgoWeights}
@@ -104,3 +106,36 @@ pub record OutgoWeighed (w : Outgoings) : Type 0 where
   pub first-claims : w .first .claims ≤ 1050
   pub later-costs : w .later .costs ≤ 1200
   pub later-claims : w .later .claims ≤ 1050
+
+-- the column of the weight of mortality that holds in year k of a setting: 0 the base's, 1 of more deaths, 2 of fewer
+unfoldable pub livingColumn : ℕ → ℕ → ℕ
+livingColumn setting k = pick (eqb (weightOf setting 0 k) (weightOf 0 0 0)) 0 (pick (eqb (weightOf setting 0 k) (weightOf 1 0 0)) 1 2)
+
+-- the column of the weight of the lapse: 3 the base's, 4 of more lapses, 5 of fewer
+unfoldable pub stayingColumn : ℕ → ℕ → ℕ
+stayingColumn setting k = pick (eqb (weightOf setting 2 k) (weightOf 0 2 0)) 3 (pick (eqb (weightOf setting 2 k) (weightOf 3 2 0)) 4 5)
+
+-- both for the first five years and for the later ones
+unfoldable pub columnsOf : ℕ → Columns
+columnsOf setting = record {
+  firstlives = livingColumn setting 0;
+  firststays = stayingColumn setting 0;
+  laterlives = livingColumn setting 5;
+  laterstays = stayingColumn setting 5;
+}
+
+abbrev pub livesIn : Columns → ℕ → ℕ
+livesIn c k = pick (ltb k 5) (c .firstlives) (c .laterlives)
+
+abbrev pub staysIn : Columns → ℕ → ℕ
+staysIn c k = pick (ltb k 5) (c .firststays) (c .laterstays)
+
+-- those of the five settings that serve all
+unfoldable pub fiveColumns : FiveColumns
+fiveColumns = record {
+  base = columnsOf 0;
+  moredeaths = columnsOf 1;
+  fewerdeaths = columnsOf 2;
+  morelapses = columnsOf 3;
+  fewerlapses = columnsOf 4;
+}

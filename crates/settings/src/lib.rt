@@ -4,6 +4,7 @@ ghost use mathlib.Core.Path.{_≡_};
 ghost use Prim.Native.Nat.{_<_, _≤_};
 ghost use Rattle.book.specs.Reading.{ValidBook};
 ghost use Rattle.settings.specs.Settings.{weightOf, percentOf, mortalityWeight, decrementsAt, outgoAt, outgoingsOf};
+ghost use Rattle.settings.specs.Settings.{livingColumn, stayingColumn, columnsOf, livesIn, staysIn, fiveColumns};
 ghost use Rattle.settings.specs.Settings.{ofSex, costsIn, claimsIn, ShiftsOf, OutgoWeighed};
 
 // The kinds of weight. Mortality has the number of its sex, 0 men, 1 women, and its weight is so much for each percent.
@@ -262,6 +263,107 @@ impl Outgoings {
             self.first.claims
         } else {
             self.later.claims
+        }
+    }
+}
+
+// Of the columns of a chain's rows, the one of what lives on in year k of a setting: that of the weight which holds, 0 the base's, 1 of more deaths,
+// 2 of fewer.
+fn living_column(setting: usize, k: usize) -> usize
+    requires { ⌜ setting < 8 ⌝ }
+    ensures { λ r. ⌜ r ≡ livingColumn setting k ⌝ }
+{
+    let held = weight(setting, 0, k);
+    let base = weight(0, 0, 0);
+    let more = weight(1, 0, 0);
+    if held == base {
+        return 0;
+    }
+    if held == more { 1 } else { 2 }
+}
+
+// The one of what stays: 3 the base's, 4 of more lapses, 5 of fewer.
+fn staying_column(setting: usize, k: usize) -> usize
+    requires { ⌜ setting < 8 ⌝ }
+    ensures { λ r. ⌜ r ≡ stayingColumn setting k ⌝ }
+{
+    let held = weight(setting, LAPSE, k);
+    let base = weight(0, LAPSE, 0);
+    let more = weight(3, LAPSE, 0);
+    if held == base {
+        return 3;
+    }
+    if held == more { 4 } else { 5 }
+}
+
+// The columns of a setting, of what lives on and of what stays: in the years k = 0 to 4, and in the later ones.
+pub struct Columns {
+    pub firstlives: usize,
+    pub firststays: usize,
+    pub laterlives: usize,
+    pub laterstays: usize,
+}
+
+impl Columns {
+    pub fn new(setting: usize) -> Columns
+        requires { ⌜ setting < 8 ⌝ }
+        ensures { λ r. ⌜ r ≡ columnsOf setting ⌝ }
+    {
+        Columns {
+            firstlives: living_column(setting, 0),
+            firststays: staying_column(setting, 0),
+            laterlives: living_column(setting, 5),
+            laterstays: staying_column(setting, 5),
+        }
+    }
+
+    // The column of what lives on in the year k.
+    pub fn lives(self, k: usize) -> usize
+        ensures { λ r. ⌜ r ≡ livesIn self k ⌝ }
+    {
+        if k < 5 {
+            self.firstlives
+        } else {
+            self.laterlives
+        }
+    }
+
+    // The column of what stays in the year k.
+    pub fn stays(self, k: usize) -> usize
+        ensures { λ r. ⌜ r ≡ staysIn self k ⌝ }
+    {
+        if k < 5 {
+            self.firststays
+        } else {
+            self.laterstays
+        }
+    }
+}
+
+// Those of the five settings that serve all.
+pub struct FiveColumns {
+    pub base: Columns,
+    pub moredeaths: Columns,
+    pub fewerdeaths: Columns,
+    pub morelapses: Columns,
+    pub fewerlapses: Columns,
+}
+
+impl FiveColumns {
+    pub fn new() -> FiveColumns
+        ensures { λ r. ⌜ r ≡ fiveColumns ⌝ }
+    {
+        let base = Columns::new(0);
+        let moredeaths = Columns::new(1);
+        let fewerdeaths = Columns::new(2);
+        let morelapses = Columns::new(3);
+        let fewerlapses = Columns::new(4);
+        FiveColumns {
+            base,
+            moredeaths,
+            fewerdeaths,
+            morelapses,
+            fewerlapses,
         }
     }
 }

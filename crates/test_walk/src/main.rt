@@ -3,6 +3,7 @@
 use field::Verdict;
 use libc::STDIN_FILENO;
 use libc::STDOUT_FILENO;
+use settings::FiveColumns;
 use settings::Shifts;
 use walks::Counts;
 
@@ -49,8 +50,8 @@ fn first_walk(book: &[u8], setting: usize, chain: usize) -> Years {
     let mut sums = [0u64; 500];
     rows::read_rows(book, Shifts::new(book), chain, head, &mut rows);
     let count = book::field_of(book, head, book::COUNT_OFFSET);
-    let stop = walks::walk(&rows, 0, count, &mut sums);
-    Years::Reckoned(years_of(stop.counts, setting))
+    let counts = walks::walk(&rows, 0, count, FiveColumns::new(), &mut sums);
+    Years::Reckoned(years_of(counts, setting))
 }
 
 fn write_years(years: Years) {

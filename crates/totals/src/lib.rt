@@ -169,15 +169,15 @@ fn all_totals(book: &[u8]) -> [i64; 8]
     let w = Shifts::new(book);
     let mut rows = [0u64; 2720];
     let mut p = [0u64; 500];
-    projection::group_sums(book, w, 1, &mut rows, &mut p);
+    projection::group_sums(book, w, 1, projection::ALL, &mut rows, &mut p);
     let mut q = [0u64; 500];
-    projection::group_sums(book, w, 2, &mut rows, &mut q);
+    projection::group_sums(book, w, 2, projection::ALL, &mut rows, &mut q);
     let mut r = [0u64; 500];
-    projection::group_sums(book, w, 3, &mut rows, &mut r);
+    projection::group_sums(book, w, 3, projection::ALL, &mut rows, &mut r);
     let mut s = [0u64; 500];
-    projection::group_sums(book, w, 4, &mut rows, &mut s);
+    projection::group_sums(book, w, 4, projection::ALL, &mut rows, &mut s);
     let mut t = [0u64; 500];
-    projection::group_sums(book, w, 5, &mut rows, &mut t);
+    projection::group_sums(book, w, 5, projection::ALL, &mut rows, &mut t);
     eight_totals(book, &divisors, &fractions, &p, &q, &r, &s, &t)
 }
 

@@ -13,9 +13,7 @@ use Rattle.field.specs.Verdicts.{pick}
 use Rattle.reckoning.specs.Arithmetic.{rounded}
 use Rattle.reckoning.specs.Steps.{Cell, inForce, cellPremium, cellClaims}
 use Rattle.cell.specs.States.{premiumBy, claimsBy}
-use Rattle.walks.specs.Tables.{amountBy}
-use Rattle.walks.specs.Ends.{firstZero, yearsBefore, yearsInForce, together, yearsTogether}
-use Rattle.walks.proofs.Years.{amount-each}
+use Rattle.walks.specs.Ends.{firstZero, yearsInForce, Going}
 
 -- n is the first year from k on and before m in which f is 0, or m where there is none
 pub record IsFirst (f : ℕ → ℕ) (k m n : ℕ) : Type 0 where
@@ -56,27 +54,6 @@ module _ (f : ℕ → ℕ) where
   pub found : (m : ℕ) → IsFirst f 0 m (firstZero f 0 m)
   found m = rw (zero-add m) at (first-found m 0)
 
-  -- there is no other
-  no-less : (m n p : ℕ) → IsFirst f 0 m n → IsFirst f 0 m p → n < p → ⊥
-  no-less m n p a b l = b .before n (omega arith) l (a .there (omega (arith, b .most)))
-
-  pub first-only : (m n p : ℕ) → IsFirst f 0 m n → IsFirst f 0 m p → n ≡ p
-  first-only m n p a b = by (ltb n p) refl (ltb p n) refl
-    where
-      by : (x : Bool) → ltb n p ≡ x → (y : Bool) → ltb p n ≡ y → n ≡ p
-      by true e y g = absurd (no-less m n p a b (ltb-true n p e))
-      by false e true g = absurd (no-less m p n b a (ltb-true p n g))
-      by false e false g = omega (arith, ltb-false n p e, ltb-false p n g)
-
-  -- a first year found among fewer years is that among more, where the next of them has nothing
-  pub first-still : (k m n : ℕ) → IsFirst f 0 k n → f k ≡ 0 → k ≤ m → IsFirst f 0 m n
-  first-still k m n a z h =
-      record {
-        before = a .before;
-        there = λ l. ⊎-elim (λ (e : n ≡ k). rw e z) (λ (g : n < k). a .there g) (eq-or-lt-of-le (a .most));
-        most = omega (arith, a .most);
-      }
-
 module _ (c : Cell) where
   -- once nothing is in force, nothing is in any later year
   nothing-next : (k : ℕ) → inForce rounded c k ≡ 0 → inForce rounded c (suc k) ≡ 0
@@ -94,37 +71,28 @@ module _ (c : Cell) where
 
   -- the years of a walk end at the first with nothing in force, or are fifty
   pub first-year : IsFirst (inForce rounded c) 0 50 (yearsInForce c)
-  unfolding yearsBefore
+  unfolding yearsInForce
   first-year = found (inForce rounded c) 50
+
+  -- the search in year 0, and in a year with something in force, in one with nothing, and after the last
+  pub going-start : Going c 0
+  unfolding yearsInForce
+  going-start = refl
+
+  pub going-on : (k : ℕ) → k < 50 → (inForce rounded c k ≡ 0 → ⊥) → Going c k → Going c (k + 1)
+  going-on k h some g = sym (first-on _ k (50 - k) _ (omega arith) some) ∙ g
+
+  pub going-ends : (k : ℕ) → k < 50 → inForce rounded c k ≡ 0 → Going c k → k ≡ yearsInForce c
+  going-ends k h z g = sym (first-here _ k (50 - k) (omega arith) z) ∙ g
+
+  pub going-out : (k : ℕ) → k ≡ 50 → Going c k → k ≡ yearsInForce c
+  unfolding firstZero
+  going-out k e g = e ∙ (rw e at g)
 
   -- a cell with no contracts has none
   pub no-contracts : c .count ≡ 0 → yearsInForce c ≡ 0
-  unfolding yearsBefore inForce
+  unfolding yearsInForce inForce
   no-contracts z = first-here (inForce rounded c) 0 50 (omega arith) (rw (z, zero-mul))
-
-  -- a year more
-  pub years-more : (k : ℕ) → pick (eqb (inForce rounded c k) 0) (yearsBefore c k) (k + 1) ≡ yearsBefore c (k + 1)
-  unfolding yearsBefore
-  years-more k = by (eqb (inForce rounded c k) 0) refl
-    where
-      f : ℕ → ℕ
-      f = inForce rounded c
-
-      by : (none : Bool) → eqb (inForce rounded c k) 0 ≡ none → pick none (firstZero (inForce rounded c) 0 k) (k + 1) ≡ firstZero (inForce rounded c) 0 (k + 1)
-      by true e = first-only _ (k + 1) _ _ (first-still _ k (k + 1) _ (found _ k) (eqb-true _ _ e) (omega arith)) (found _ (k + 1))
-      by false e =
-          first-only _ (k + 1) _ _
-          (record {
-            before = λ j h l z. eqb-false _ _ e (nothing-later j z k (omega arith));
-            there = λ l. absurd (omega arith);
-            most = omega arith;
-          })
-          (found _ (k + 1))
-
-  -- no years are counted once nothing is in force
-  pub years-end : (k : ℕ) → k ≤ 50 → inForce rounded c k ≡ 0 → yearsBefore c k ≡ yearsInForce c
-  unfolding yearsBefore
-  years-end k h z = first-only _ 50 _ _ (first-still _ k 50 _ (found _ k) z h) (found _ 50)
 
   -- nothing in force adds nothing
   pub no-premium : (k : ℕ) → inForce rounded c k ≡ 0 → premiumBy c k ≡ 0
@@ -143,15 +111,3 @@ each-five P a b c d e (suc (suc zero)) l = c
 each-five P a b c d e (suc (suc (suc zero))) l = d
 each-five P a b c d e (suc (suc (suc (suc zero)))) l = e
 each-five P a b c d e (suc (suc (suc (suc (suc n))))) l = absurd (omega arith)
-
--- nothing together is nothing in each
-module _ (c : ℕ → Cell) (k : ℕ) (z : together c k ≡ 0) where
-  pub none-each : (s : ℕ) → s < 5 → inForce rounded (c s) k ≡ 0
-  unfolding together
-  none-each = each-five (λ s. inForce rounded (c s) k ≡ 0) (omega (arith, z)) (omega (arith, z)) (omega (arith, z)) (omega (arith, z)) (omega (arith, z))
-
-  -- and adds nothing from there on
-  pub no-amount : (j : ℕ) → 10 * k ≤ j → amountBy c j ≡ 0
-  no-amount j h =
-      let none : inForce rounded (c (j % 10 / 2)) (j / 10) ≡ 0 = nothing-later (c (j % 10 / 2)) k (none-each (j % 10 / 2) (omega arith)) (j / 10) (omega arith) in
-      amount-each (λ x. x ≡ 0) c j (no-premium _ _ none) (no-claims _ _ none)

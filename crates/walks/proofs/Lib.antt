@@ -1,4 +1,5 @@
 pub mod Years
 pub mod Ends
-pub mod Together
+pub mod Single
+pub mod Fives
 pub mod Records

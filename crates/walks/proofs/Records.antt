@@ -15,11 +15,10 @@ use Rattle.reckoning.specs.Portfolio.{rowAt, cellOf}
 use Rattle.rows.specs.Rows.{RowsOf}
 use Rattle.cell.specs.States.{cellIn, Walkable, premiumBy, claimsBy, premiumAt, claimsAt}
 use Rattle.cell.proofs.Agreement.{walkable, inforce-same, premium-same, claims-same, premium-at-le, claims-at-le}
-use Rattle.walks.specs.Tables.{amountBy, amountAt, added}
-use Rattle.walks.specs.Ends.{firstZero, yearsBefore, yearsInForce, together, yearsTogether}
-use Rattle.walks.specs.Walked.{Walked}
-use Rattle.walks.specs.declared.Stop.{Stop}
+use Rattle.walks.specs.Tables.{amountBy, amountAt, amountIn, chosen, Among, added}
+use Rattle.walks.specs.Ends.{firstZero, yearsInForce}
 use Rattle.walks.proofs.Years.{added-same, amount-each, amount-premium, amount-claims}
+use Rattle.walks.proofs.Single.{chosen-same, chosen-le, chosen-at}
 
 -- a search of two functions that agree
 first-same : (f g : ℕ → ℕ) (left k : ℕ) → ((j : ℕ) → j < k + left → f j ≡ g j) → firstZero f k left ≡ firstZero g k left
@@ -47,12 +46,13 @@ module _ (b : List ℕ) (chain i : ℕ) (s : Standing b 120 chain i) (t : List �
       by true = premiums
       by false = claims
 
-  pub amounts-added : (u : List ℕ) → added (amountBy (cellIn t own n)) 500 u ≡ added (amountAt b j) 500 u
-  amounts-added u = added-same _ _ 500 u amount-same
+  pub amounts-added : (which : ℕ) (u : List ℕ) → added (chosen which (amountBy (cellIn t own n))) 500 u ≡ added (amountIn b which j) 500 u
+  unfolding amountIn
+  amounts-added which u = added-same _ _ 500 u (λ m h. chosen-same which (amountBy (cellIn t own n)) (amountAt b j) m (amount-same m h))
 
   -- the years of a projection are those of the record's cell in that setting
   pub years-same : (setting : ℕ) → setting < 8 → yearsInForce (cellIn t own n setting) ≡ yearsInForce (cellOf b (decrementsOf b setting) j)
-  unfolding yearsBefore
+  unfolding yearsInForce
   years-same setting h = rw (count-is, record-is) (first-same _ _ 50 0 (λ k l. inforce-same b chain i s t rows own fits setting h k (omega arith)))
 
 -- what the cell of a linked record adds
@@ -61,12 +61,16 @@ unfolding amountAt premiumAt claimsAt
 amount-at-le b chain i s j =
     amount-each (λ x. x ≤ 1_000_000_000_000) _ j (premium-at-le b (decrementsOf b (j % 10 / 2)) chain i s (j / 10)) (claims-at-le b (decrementsOf b (j % 10 / 2)) chain i s (j / 10))
 
--- the numbers of a projection in a year
-module _ (b : List ℕ) (k s i : ℕ) (h : s < 5) where
-  pub premium-at : amountAt b i (10 * k + 2 * s) ≡ premiumAt b (decrementsOf b s) i k
-  unfolding amountAt premiumAt
-  premium-at = amount-premium (λ x. cellOf b (decrementsOf b x) i) k s h
+pub amount-in-le : (b : List ℕ) (which chain i : ℕ) → Standing b 120 chain i → (j : ℕ) → amountIn b which i j ≤ 1_000_000_000_000
+unfolding amountIn
+amount-in-le b which chain i s j = chosen-le which (amountAt b i) j _ (amount-at-le b chain i s j)
 
-  pub claims-at : amountAt b i (10 * k + 2 * s + 1) ≡ claimsAt b (decrementsOf b s) i k
-  unfolding amountAt claimsAt
-  claims-at = amount-claims (λ x. cellOf b (decrementsOf b x) i) k s h
+-- the numbers of a projection in a year
+module _ (b : List ℕ) (which k s i : ℕ) (among : Among which s) (h : s < 5) (year : k < 50) where
+  pub premium-at : amountIn b which i (10 * k + 2 * s) ≡ premiumAt b (decrementsOf b s) i k
+  unfolding amountIn amountAt premiumAt
+  premium-at = chosen-at which (amountAt b i) s (10 * k + 2 * s) among h (omega arith) (omega arith) ∙ amount-premium (λ x. cellOf b (decrementsOf b x) i) k s h
+
+  pub claims-at : amountIn b which i (10 * k + 2 * s + 1) ≡ claimsAt b (decrementsOf b s) i k
+  unfolding amountIn amountAt claimsAt
+  claims-at = chosen-at which (amountAt b i) s (10 * k + 2 * s + 1) among h (omega arith) (omega arith) ∙ amount-claims (λ x. cellOf b (decrementsOf b x) i) k s h

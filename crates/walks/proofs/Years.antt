@@ -10,7 +10,7 @@ use native.Mathlib.Numerals.{add-one}
 use borrow.Author.Tests.{lt-ltb, le-ltb, eq-eqb, ne-eqb}
 use lib.Dec.{eqb}
 use lib.ListN.{length, getD, set, length-set}
-use lib.Seq.{getD-set-same, getD-set-other, set-getD}
+use lib.Seq.{getD-set-same, getD-set-other, set-getD, set-comm}
 use Rattle.field.specs.Verdicts.{pick}
 use Rattle.reckoning.specs.Steps.{Cell}
 use Rattle.cell.specs.States.{premiumBy, claimsBy}
@@ -78,6 +78,34 @@ added-same f g zero t h = refl
 added-same f g (suc n) t h =
     let e = added-same f g n t (λ j l. h j (omega arith)) in
     rw (e, h n (omega arith))
+
+-- a store above a run can be made before it
+added-under : (g : ℕ → ℕ) (n : ℕ) (t : List ℕ) (i a : ℕ) → n ≤ i → added g n (set t i a) ≡ set (added g n t) i a
+unfolding added
+added-under g zero t i a h = refl
+added-under g (suc n) t i a h =
+    let u = added g n t in
+    rw (added-under g n t i a (omega arith), getD-set-other u i n a 0 (λ q. omega arith)) (set-comm u i n a (getD u n 0 + g n) (λ q. omega arith))
+
+-- two stores at one place
+twice : (t : List ℕ) (i a x : ℕ) → set (set t i a) i (getD (set t i a) i 0 + x) ≡ set t i (a + x)
+twice [] i a x = refl
+twice (y ∷ t) zero a x = refl
+twice (y ∷ t) (suc i) a x = ap (λ (l : List ℕ). y ∷ l) (twice t i a x)
+
+-- what is added to what was added is added together
+added-both : (f g : ℕ → ℕ) (n : ℕ) (t : List ℕ) → added g n (added f n t) ≡ added (λ j. f j + g j) n t
+unfolding added
+added-both f g zero t = refl
+added-both f g (suc n) t =
+    let u = added f n t in
+    let w = added (λ j. f j + g j) n t in
+    let same : (getD u n 0 + f n) + g n ≡ getD w n 0 + (f n + g n) = omega (arith, added-later f n t n (omega arith), added-later (λ j. f j + g j) n t n (omega arith)) in
+    ap (λ (l : List ℕ). set l n (getD l n 0 + g n)) (added-under g n u n (getD u n 0 + f n) (omega arith))
+    ∙ twice (added g n u) n (getD u n 0 + f n) (g n) ∙ ap (λ (l : List ℕ). set l n ((getD u n 0 + f n) + g n)) (added-both f g n t) ∙ ap (set w n) same
+
+pub added-join : (f g h : ℕ → ℕ) (n : ℕ) (t u v : List ℕ) → u ≡ added f n t → v ≡ added g n u → ((j : ℕ) → j < n → f j + g j ≡ h j) → v ≡ added h n t
+added-join f g h n t u v e w s = w ∙ ap (added g n) e ∙ added-both f g n t ∙ added-same _ h n t s
 
 -- f from number m on: nothing before, and all of f from there
 pub late-low : (m : ℕ) (f : ℕ → ℕ) (k : ℕ) → k < m → late m f k ≡ 0

@@ -1,14 +1,10 @@
 -- The states of a cell in the five projections side by side: those of settings 0 to 4, which serve the other settings too.
 use mathlib.Core.List.{List}
-use Prim.Native.Nat.{ℕ, _+_, _*_}
-use lib.Dec.{eqb}
-use Rattle.field.specs.Verdicts.{pick}
+use Prim.Native.Nat.{ℕ, _+_, _*_, _<_}
 use Rattle.cell.specs.declared.Cell.{Cell}
-use Rattle.cell.specs.States.{cellIn, stateIn, nextYear, premiumIn, claimsIn, Ready}
-use Rattle.walks.specs.declared.Counts.{Counts}
+use Rattle.cell.specs.States.{stateIn, nextYear, premiumIn, claimsIn, Ready}
 use Rattle.walks.specs.declared.Five.{Five}
 use Rattle.walks.specs.Tables.{twoMore}
-use Rattle.walks.specs.Ends.{yearsBefore}
 
 -- the states in year k of the cell that starts at row r of the table t with n contracts
 unfoldable pub fiveIn : List ℕ → ℕ → ℕ → ℕ → Five
@@ -47,29 +43,10 @@ unfoldable pub tenMore : List ℕ → ℕ → Five → List ℕ → List ℕ
 tenMore t k c u =
     yearMore t 4 k (c .fewerlapses) (yearMore t 3 k (c .morelapses) (yearMore t 2 k (c .fewerdeaths) (yearMore t 1 k (c .moredeaths) (yearMore t 0 k (c .base) u))))
 
--- what is in force in the five together
-abbrev pub inForceOf : Five → ℕ
-inForceOf c = c .base .inforce + c .moredeaths .inforce + c .fewerdeaths .inforce + c .morelapses .inforce + c .fewerlapses .inforce
-
--- the years in force before year k, of each
-unfoldable pub countsIn : List ℕ → ℕ → ℕ → ℕ → Counts
-countsIn t r n k = record {
-  base = yearsBefore (cellIn t r n 0) k;
-  moredeaths = yearsBefore (cellIn t r n 1) k;
-  fewerdeaths = yearsBefore (cellIn t r n 2) k;
-  morelapses = yearsBefore (cellIn t r n 3) k;
-  fewerlapses = yearsBefore (cellIn t r n 4) k;
-}
-
--- of a count and a state in year k, the count a year later
-abbrev pub countMore : ℕ → Cell → ℕ → ℕ
-countMore n c k = pick (eqb (c .inforce) 0) n (k + 1)
-
-unfoldable pub countsMore : Counts → Five → ℕ → Counts
-countsMore n c k = record {
-  base = countMore (n .base) (c .base) k;
-  moredeaths = countMore (n .moredeaths) (c .moredeaths) k;
-  fewerdeaths = countMore (n .fewerdeaths) (c .fewerdeaths) k;
-  morelapses = countMore (n .morelapses) (c .morelapses) k;
-  fewerlapses = countMore (n .fewerlapses) (c .fewerlapses) k;
-}
+-- something is in force in all five
+pub record AllInForce (c : Five) : Type 0 where
+  pub base : 0 < c .base .inforce
+  pub more-deaths : 0 < c .moredeaths .inforce
+  pub fewer-deaths : 0 < c .fewerdeaths .inforce
+  pub more-lapses : 0 < c .morelapses .inforce
+  pub fewer-lapses : 0 < c .fewerlapses .inforce

@@ -1,5 +1,7 @@
 -- A table of five hundred numbers: for each of the fifty years ten, for each of the five projections premium and claims. What is added to one.
 use mathlib.Core.List.{List, [], _∷_}
+use mathlib.Core.Logic.{_⊎_}
+use mathlib.Core.Path.{_≡_}
 use Prim.Native.Nat.{ℕ, zero, suc, _+_, _/_, _%_, _≤_}
 use lib.Dec.{ltb, eqb}
 use lib.ListN.{getD, set}
@@ -34,6 +36,22 @@ AtMost m t = (j : ℕ) → getD t j 0 ≤ m
 -- f from number m on, and nothing before
 unfoldable pub late : ℕ → (ℕ → ℕ) → ℕ → ℕ
 late m f j = pick (ltb j m) 0 (f j)
+
+-- of f the years from m to before k of projection s, and nothing else
+unfoldable pub within : (ℕ → ℕ) → ℕ → ℕ → ℕ → ℕ → ℕ
+within f s m k j = pick (eqb (j % 10 / 2) s) (pick (ltb (j / 10) m) 0 (pick (ltb (j / 10) k) (f j) 0)) 0
+
+-- all of f where `which` is 5, and else the fifty years of that projection
+unfoldable pub chosen : ℕ → (ℕ → ℕ) → ℕ → ℕ
+chosen which f j = pick (eqb which 5) (f j) (within f which 0 50 j)
+
+-- projection s is among them
+abbrev pub Among : ℕ → ℕ → Type 0
+Among which s = (which ≡ 5) ⊎ (which ≡ s)
+
+-- what the cell of record i adds there
+unfoldable pub amountIn : List ℕ → ℕ → ℕ → ℕ → ℕ
+amountIn b which i = chosen which (amountAt b i)
 
 -- x more at number j, and y more at the next
 abbrev pub oneMore : List ℕ → ℕ → ℕ → List ℕ

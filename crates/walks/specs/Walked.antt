@@ -1,39 +1,43 @@
--- What the walk of a cell in the five projections makes of a table, and how many years it reckons.
+-- What the walk of a cell makes of a table, in one projection and in all five, and how many years it reckons in each.
 use mathlib.Core.List.{List}
 use mathlib.Core.Path.{_≡_}
-use Prim.Native.Nat.{ℕ, _+_, _-_, _*_, _<_, _≤_}
-use Rattle.cell.specs.States.{cellIn}
-use Rattle.walks.specs.Tables.{added, late, amountBy}
-use Rattle.walks.specs.Ends.{firstZero, yearsInForce, together, yearsTogether}
-use Rattle.walks.specs.Five.{fiveIn, countsIn}
+use Prim.Native.Nat.{ℕ, _*_, _<_, _≤_}
+use Rattle.cell.specs.declared.Cell.{Cell}
+use Rattle.cell.specs.States.{cellIn, stateIn}
+use Rattle.walks.specs.Tables.{added, late, within, amountBy}
+use Rattle.walks.specs.Ends.{yearsInForce, Going}
+use Rattle.walks.specs.Five.{fiveIn}
 use Rattle.walks.specs.declared.Counts.{Counts}
 use Rattle.walks.specs.declared.Five.{Five}
 use Rattle.walks.specs.declared.Stop.{Stop}
 
--- the walk goes on in year m: its end is none of the years before
-abbrev pub Going : List ℕ → ℕ → ℕ → ℕ → Type 0
-Going t r n m = firstZero (together (cellIn t r n)) m (50 - m) ≡ yearsTogether (cellIn t r n)
+-- projection s of the cell that starts at row r of the table t with n contracts has come to year m, with something in force in all years before
+pub record ReachedIn (t : List ℕ) (r n s m : ℕ) (c : Cell) : Type 0 where
+  pub state : c ≡ stateIn t r n s m
+  pub going : Going (cellIn t r n s) m
 
--- the walk of the cell that starts at row r of the table t with n contracts has come to year m
-pub record Reached (t : List ℕ) (r n m : ℕ) (cells : Five) (counts : Counts) : Type 0 where
+-- from there on it makes this of the table u, up to its own first year with nothing in force: so many years it then has in all
+pub record WalkedIn (t : List ℕ) (r n s m years : ℕ) (u v : List ℕ) : Type 0 where
+  pub sums : v ≡ added (within (amountBy (cellIn t r n)) s m 50) 500 u
+  pub years-are : years ≡ yearsInForce (cellIn t r n s)
+
+-- all five have come to year m
+pub record Reached (t : List ℕ) (r n m : ℕ) (cells : Five) : Type 0 where
   pub states : cells ≡ fiveIn t r n m
-  pub counted : counts ≡ countsIn t r n m
-  pub going : Going t r n m
+  pub going : (s : ℕ) → s < 5 → Going (cellIn t r n s) m
 
--- from year m on it makes this of the table u, up to where it stops, at year `to` or before it at the first year with nothing in force
+-- from year m on they make this of the table u, up to where they stop, at year `to` or before it
 pub record WalkedTo (t : List ℕ) (r n m to : ℕ) (s : Stop) (u v : List ℕ) : Type 0 where
   pub sums : v ≡ added (late (10 * m) (amountBy (cellIn t r n))) (10 * s .k) u
   pub since : m ≤ s .k
   pub most : s .k ≤ to
-  pub reached : Reached t r n (s .k) (s .cells) (s .counts)
-  pub ended : s .k < to → together (cellIn t r n) (s .k) ≡ 0
+  pub reached : Reached t r n (s .k) (s .cells)
 
--- from k = 0 on to its end: the years that it reckons, and those of each projection
-pub record Walked (t : List ℕ) (r n : ℕ) (s : Stop) (u v : List ℕ) : Type 0 where
+-- from year 0 on to the end of each: what the fifty years add, and the years of each projection
+pub record Walked (t : List ℕ) (r n : ℕ) (years : Counts) (u v : List ℕ) : Type 0 where
   pub sums : v ≡ added (amountBy (cellIn t r n)) 500 u
-  pub years : s .k ≡ yearsTogether (cellIn t r n)
-  pub base-years : s .counts .base ≡ yearsInForce (cellIn t r n 0)
-  pub more-deaths-years : s .counts .moredeaths ≡ yearsInForce (cellIn t r n 1)
-  pub fewer-deaths-years : s .counts .fewerdeaths ≡ yearsInForce (cellIn t r n 2)
-  pub more-lapses-years : s .counts .morelapses ≡ yearsInForce (cellIn t r n 3)
-  pub fewer-lapses-years : s .counts .fewerlapses ≡ yearsInForce (cellIn t r n 4)
+  pub base-years : years .base ≡ yearsInForce (cellIn t r n 0)
+  pub more-deaths-years : years .moredeaths ≡ yearsInForce (cellIn t r n 1)
+  pub fewer-deaths-years : years .fewerdeaths ≡ yearsInForce (cellIn t r n 2)
+  pub more-lapses-years : years .morelapses ≡ yearsInForce (cellIn t r n 3)
+  pub fewer-lapses-years : years .fewerlapses ≡ yearsInForce (cellIn t r n 4)

@@ -1,16 +1,21 @@
-// The walk of a cell through the fifty years, in the five projections that serve all settings side by side: those of settings 0 to 4. It ends at
-// the first year with nothing in force in any of them, and hands back its years and those of each.
+// The walk of a cell through the fifty years, in the five projections that serve all settings: those of settings 0 to 4. Each ends at its own first
+// year with nothing in force and hands back its years.
 // Internal: the functions ask for rows as `rows` reads them from an accepted book.
+ghost use mathlib.Core.Bool.{true};
 ghost use mathlib.Core.Path.{_≡_};
 ghost use Prim.Native.Nat.{_+_, _*_, _<_, _≤_, _^_};
-ghost use lib.Dec.{eqb, ltb};
 ghost use lib.ListN.{getD, set};
-ghost use Rattle.field.specs.Verdicts.{pick};
-ghost use Rattle.cell.specs.States.{premiumIn, claimsIn, nextYear, Ready, Walkable};
-ghost use Rattle.walks.specs.Tables.{AtMost, twoMore};
-ghost use Rattle.walks.specs.Five.{FiveReady, nextFive, tenMore, inForceOf, countsMore};
-ghost use Rattle.walks.specs.Walked.{Reached, WalkedTo, Walked};
+ghost use Rattle.settings.specs.Settings.{columnsOf, fiveColumns};
+ghost use Rattle.cell.specs.States.{cellIn, premiumIn, claimsIn, nextYear, Ready, Walkable};
+ghost use Rattle.walks.specs.Tables.{amountBy, added, chosen, AtMost, twoMore};
+ghost use Rattle.walks.specs.Five.{FiveReady, nextFive, tenMore, AllInForce};
+ghost use Rattle.walks.specs.Walked.{ReachedIn, WalkedIn, Reached, WalkedTo, Walked};
 use cell::Cell;
+use settings::Columns;
+use settings::FiveColumns;
+
+// In place of a projection: all five.
+pub const ALL: usize = 5;
 
 // Adds x to number j of the table.
 fn add_at(sums: &mut [u64; 500], j: usize, x: u64)
@@ -21,16 +26,47 @@ fn add_at(sums: &mut [u64; 500], j: usize, x: u64)
 }
 
 // Adds premium and claims of a cell in year k of a projection, and hands back its state a year later.
-fn one_year(rows: &[u64; 2720], cell: Cell, setting: usize, k: usize, sums: &mut [u64; 500]) -> Cell
-    requires { ⌜ Ready (now rows) cell × (setting < 5) × (k < 50) × AtMost 4000000000000000 (now sums) ⌝ }
+fn one_year(
+    rows: &[u64; 2720],
+    cell: Cell,
+    columns: Columns,
+    setting: usize,
+    k: usize,
+    sums: &mut [u64; 500],
+) -> Cell
+    requires { ⌜ Ready (now rows) cell × (setting < 5) × (k < 50) × AtMost 4000000000000000 (now sums) × (columns ≡ columnsOf setting) ⌝ }
     ensures { λ r. ⌜ (r ≡ nextYear (now (rows .entry)) setting k cell)
         × (now (sums .exit) ≡ twoMore (now (sums .entry)) (10 * k + 2 * setting) (premiumIn (now (rows .entry)) cell) (claimsIn (now (rows .entry)) cell)) ⌝ }
 {
-    let amounts = cell.amounts(rows);
     let j = 10 * k + 2 * setting;
-    add_at(sums, j, amounts.premium);
-    add_at(sums, j + 1, amounts.claims);
-    cell.next_year(rows, setting, k)
+    add_at(sums, j, cell.premium(rows));
+    add_at(sums, j + 1, cell.claims(rows));
+    cell.next_year(rows, columns, k)
+}
+
+// The years from k on of one projection of the cell that starts at the row `own` with `count` contracts, until nothing is in force. Hands back how
+// many years the projection has in all.
+fn alone(
+    rows: &[u64; 2720],
+    own: usize,
+    count: u64,
+    columns: Columns,
+    setting: usize,
+    start: Cell,
+    from: usize,
+    sums: &mut [u64; 500],
+) -> usize
+    requires { ⌜ Walkable (now rows) own count × (setting < 5) × (from ≤ 50) × ReachedIn (now rows) own count setting from start
+        × AtMost 3000000000000000 (now sums) × (columns ≡ columnsOf setting) ⌝ }
+    ensures { λ years. ⌜ WalkedIn (now (rows .entry)) own count setting from years (now (sums .entry)) (now (sums .exit)) ⌝ }
+{
+    let mut cell = start;
+    let mut k = from;
+    while k < 50 && 0 < cell.inforce {
+        cell = one_year(rows, cell, columns, setting, k, sums);
+        k += 1;
+    }
+    k
 }
 
 // A cell in one year of the five projections: of the base, with more and fewer deaths, with more and fewer lapses.
@@ -43,15 +79,21 @@ pub struct Five {
 }
 
 // One year of all five. None waits for another.
-fn year(rows: &[u64; 2720], cells: Five, k: usize, sums: &mut [u64; 500]) -> Five
-    requires { ⌜ FiveReady (now rows) cells × (k < 50) × AtMost 3000000000000000 (now sums) ⌝ }
+fn year(
+    rows: &[u64; 2720],
+    cells: Five,
+    columns: FiveColumns,
+    k: usize,
+    sums: &mut [u64; 500],
+) -> Five
+    requires { ⌜ FiveReady (now rows) cells × (k < 50) × AtMost 3000000000000000 (now sums) × (columns ≡ fiveColumns) ⌝ }
     ensures { λ r. ⌜ (r ≡ nextFive (now (rows .entry)) k cells) × (now (sums .exit) ≡ tenMore (now (rows .entry)) k cells (now (sums .entry))) ⌝ }
 {
-    let base = one_year(rows, cells.base, 0, k, sums);
-    let moredeaths = one_year(rows, cells.moredeaths, 1, k, sums);
-    let fewerdeaths = one_year(rows, cells.fewerdeaths, 2, k, sums);
-    let morelapses = one_year(rows, cells.morelapses, 3, k, sums);
-    let fewerlapses = one_year(rows, cells.fewerlapses, 4, k, sums);
+    let base = one_year(rows, cells.base, columns.base, 0, k, sums);
+    let moredeaths = one_year(rows, cells.moredeaths, columns.moredeaths, 1, k, sums);
+    let fewerdeaths = one_year(rows, cells.fewerdeaths, columns.fewerdeaths, 2, k, sums);
+    let morelapses = one_year(rows, cells.morelapses, columns.morelapses, 3, k, sums);
+    let fewerlapses = one_year(rows, cells.fewerlapses, columns.fewerlapses, 4, k, sums);
     Five {
         base,
         moredeaths,
@@ -61,23 +103,80 @@ fn year(rows: &[u64; 2720], cells: Five, k: usize, sums: &mut [u64; 500]) -> Fiv
     }
 }
 
-// Whether anything is in force in any of them.
-fn some(cells: Five) -> bool
-    ensures { λ r. ⌜ r ≡ ltb 0 (inForceOf cells) ⌝ }
+// Whether something is in force in all of them.
+fn all(cells: Five) -> bool
+    ensures { λ r. ⌜ (r ≡ true → AllInForce cells) ⌝ }
 {
-    if 0 < cells.base.inforce {
-        return true;
+    if cells.base.inforce == 0 {
+        return false;
     }
-    if 0 < cells.moredeaths.inforce {
-        return true;
+    if cells.moredeaths.inforce == 0 {
+        return false;
     }
-    if 0 < cells.fewerdeaths.inforce {
-        return true;
+    if cells.fewerdeaths.inforce == 0 {
+        return false;
     }
-    if 0 < cells.morelapses.inforce {
-        return true;
+    if cells.morelapses.inforce == 0 {
+        return false;
     }
     0 < cells.fewerlapses.inforce
+}
+
+// Where the years of all five stop: a year, and the states in it.
+pub struct Stop {
+    pub k: usize,
+    pub cells: Five,
+}
+
+// The years of all five side by side, from one to before another, while all have something in force. The cell starts at the row `own` with `count`
+// contracts.
+fn together(
+    rows: &[u64; 2720],
+    own: usize,
+    count: u64,
+    columns: FiveColumns,
+    start: Five,
+    from: usize,
+    to: usize,
+    sums: &mut [u64; 500],
+) -> Stop
+    requires { ⌜ Walkable (now rows) own count × (from ≤ to) × (to ≤ 50) × Reached (now rows) own count from start × AtMost 2500000000000000 (now sums)
+        × (columns ≡ fiveColumns) ⌝ }
+    ensures { λ r. ⌜ WalkedTo (now (rows .entry)) own count from to r (now (sums .entry)) (now (sums .exit)) ⌝ }
+{
+    let mut cells = start;
+    let mut k = from;
+    while k < to && all(cells) {
+        cells = year(rows, cells, columns, k, sums);
+        k += 1;
+    }
+    Stop { k, cells }
+}
+
+// The same from year 0 on. The first five years have a loop of their own: in the later ones one set of weights holds.
+fn side_by_side(
+    rows: &[u64; 2720],
+    own: usize,
+    count: u64,
+    columns: FiveColumns,
+    sums: &mut [u64; 500],
+) -> Stop
+    requires { ⌜ Walkable (now rows) own count × AtMost 2000000000000000 (now sums) × (columns ≡ fiveColumns) ⌝ }
+    ensures { λ r. ⌜ WalkedTo (now (rows .entry)) own count 0 50 r (now (sums .entry)) (now (sums .exit)) ⌝ }
+{
+    let cell = Cell::new(own, count);
+    let start = Five {
+        base: cell,
+        moredeaths: cell,
+        fewerdeaths: cell,
+        morelapses: cell,
+        fewerlapses: cell,
+    };
+    let first = together(rows, own, count, columns, start, 0, 5, sums);
+    if first.k < 5 {
+        return first;
+    }
+    together(rows, own, count, columns, first.cells, 5, 50, sums)
 }
 
 // How many years each of the five has something in force.
@@ -89,95 +188,102 @@ pub struct Counts {
     pub fewerlapses: usize,
 }
 
-// A count of years, with year k where something is in force in it.
-fn counted(count: usize, cell: Cell, k: usize) -> usize
-    requires { ⌜ k < 50 ⌝ }
-    ensures { λ r. ⌜ r ≡ pick (eqb (cell .inforce) 0) count (k + 1) ⌝ }
-{
-    if cell.inforce == 0 { count } else { k + 1 }
-}
-
-// The same of all five.
-fn all_counted(counts: Counts, cells: Five, k: usize) -> Counts
-    requires { ⌜ k < 50 ⌝ }
-    ensures { λ r. ⌜ r ≡ countsMore counts cells k ⌝ }
-{
-    Counts {
-        base: counted(counts.base, cells.base, k),
-        moredeaths: counted(counts.moredeaths, cells.moredeaths, k),
-        fewerdeaths: counted(counts.fewerdeaths, cells.fewerdeaths, k),
-        morelapses: counted(counts.morelapses, cells.morelapses, k),
-        fewerlapses: counted(counts.fewerlapses, cells.fewerlapses, k),
-    }
-}
-
-// Where a walk stops: a year, the states in it, and the years so far.
-pub struct Stop {
-    pub k: usize,
-    pub cells: Five,
-    pub counts: Counts,
-}
-
-// The first five years of a walk. The later ones have a loop of their own, in which one set of weights holds.
-fn first_years(rows: &[u64; 2720], own: usize, count: u64, sums: &mut [u64; 500]) -> Stop
-    requires { ⌜ Walkable (now rows) own count × AtMost 2000000000000000 (now sums) ⌝ }
-    ensures { λ r. ⌜ WalkedTo (now (rows .entry)) own count 0 5 r (now (sums .entry)) (now (sums .exit)) ⌝ }
-{
-    let start = Cell::new(own, count);
-    let mut cells = Five {
-        base: start,
-        moredeaths: start,
-        fewerdeaths: start,
-        morelapses: start,
-        fewerlapses: start,
-    };
-    let mut counts = Counts {
-        base: 0,
-        moredeaths: 0,
-        fewerdeaths: 0,
-        morelapses: 0,
-        fewerlapses: 0,
-    };
-    let mut k = 0usize;
-    while k < 5 && some(cells) {
-        counts = all_counted(counts, cells, k);
-        cells = year(rows, cells, k, sums);
-        k += 1;
-    }
-    Stop { k, cells, counts }
-}
-
-// The later years, from the states and the counts in year 5. The cell starts at the row `own` with `count` contracts.
-fn later_years(
+// The walk of the cell that starts at the row `own` with `count` contracts: all five side by side, and then each alone.
+pub fn walk(
     rows: &[u64; 2720],
     own: usize,
     count: u64,
-    start: Five,
-    before: Counts,
+    columns: FiveColumns,
     sums: &mut [u64; 500],
-) -> Stop
-    requires { ⌜ Walkable (now rows) own count × Reached (now rows) own count 5 start before × AtMost 2500000000000000 (now sums) ⌝ }
-    ensures { λ r. ⌜ WalkedTo (now (rows .entry)) own count 5 50 r (now (sums .entry)) (now (sums .exit)) ⌝ }
-{
-    let mut cells = start;
-    let mut counts = before;
-    let mut k = 5usize;
-    while k < 50 && some(cells) {
-        counts = all_counted(counts, cells, k);
-        cells = year(rows, cells, k, sums);
-        k += 1;
-    }
-    Stop { k, cells, counts }
-}
-
-// The walk of the cell that starts at the row `own` with `count` contracts.
-pub fn walk(rows: &[u64; 2720], own: usize, count: u64, sums: &mut [u64; 500]) -> Stop
-    requires { ⌜ Walkable (now rows) own count × AtMost 2000000000000000 (now sums) ⌝ }
+) -> Counts
+    requires { ⌜ Walkable (now rows) own count × AtMost 2000000000000000 (now sums) × (columns ≡ fiveColumns) ⌝ }
     ensures { λ r. ⌜ Walked (now (rows .entry)) own count r (now (sums .entry)) (now (sums .exit)) ⌝ }
 {
-    let first = first_years(rows, own, count, sums);
-    if first.k < 5 {
-        return first;
+    let stop = side_by_side(rows, own, count, columns, sums);
+    let k = stop.k;
+    let cells = stop.cells;
+    let base = alone(rows, own, count, columns.base, 0, cells.base, k, sums);
+    let moredeaths = alone(
+        rows,
+        own,
+        count,
+        columns.moredeaths,
+        1,
+        cells.moredeaths,
+        k,
+        sums,
+    );
+    let fewerdeaths = alone(
+        rows,
+        own,
+        count,
+        columns.fewerdeaths,
+        2,
+        cells.fewerdeaths,
+        k,
+        sums,
+    );
+    let morelapses = alone(
+        rows,
+        own,
+        count,
+        columns.morelapses,
+        3,
+        cells.morelapses,
+        k,
+        sums,
+    );
+    let fewerlapses = alone(
+        rows,
+        own,
+        count,
+        columns.fewerlapses,
+        4,
+        cells.fewerlapses,
+        k,
+        sums,
+    );
+    Counts {
+        base,
+        moredeaths,
+        fewerdeaths,
+        morelapses,
+        fewerlapses,
     }
-    later_years(rows, own, count, first.cells, first.counts, sums)
+}
+
+// The walk in one projection.
+pub fn walk_in(
+    rows: &[u64; 2720],
+    own: usize,
+    count: u64,
+    columns: Columns,
+    setting: usize,
+    sums: &mut [u64; 500],
+) -> usize
+    requires { ⌜ Walkable (now rows) own count × (setting < 5) × AtMost 2000000000000000 (now sums) × (columns ≡ columnsOf setting) ⌝ }
+    ensures { λ years. ⌜ WalkedIn (now (rows .entry)) own count setting 0 years (now (sums .entry)) (now (sums .exit)) ⌝ }
+{
+    let start = Cell::new(own, count);
+    alone(rows, own, count, columns, setting, start, 0, sums)
+}
+
+// The walk in one projection, or in all five.
+pub fn walk_by(
+    rows: &[u64; 2720],
+    own: usize,
+    count: u64,
+    five: FiveColumns,
+    one: Columns,
+    which: usize,
+    sums: &mut [u64; 500],
+)
+    requires { ⌜ Walkable (now rows) own count × (which ≤ 5) × AtMost 2000000000000000 (now sums) × (five ≡ fiveColumns) × (one ≡ columnsOf which) ⌝ }
+    ensures { λ _. ⌜ now (sums .exit) ≡ added (chosen which (amountBy (cellIn (now (rows .entry)) own count))) 500 (now (sums .entry)) ⌝ }
+{
+    if which == ALL {
+        walk(rows, own, count, five, sums);
+        return;
+    }
+    walk_in(rows, own, count, one, which, sums);
 }

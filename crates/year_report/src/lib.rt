@@ -37,7 +37,8 @@ fn year_table(book: &[u8], setting: usize, w: Shifts, group: usize) -> YearTable
 {
     let mut rows = [0u64; 2720];
     let mut sums = [0u64; 500];
-    projection::group_sums(book, w, group, &mut rows, &mut sums);
+    let projection = projection::projection_of(setting);
+    projection::group_sums(book, w, group, projection, &mut rows, &mut sums);
     let mut numbers = [0u64; 200];
     years::settle(book, setting, group, &sums, &mut numbers);
     YearTable { numbers }

@@ -5,7 +5,7 @@ ghost use Prim.Native.Nat.{_<_, _≤_};
 ghost use lib.ListN.{length};
 ghost use Rattle.book.specs.Reading.{ValidBook};
 ghost use Rattle.settings.specs.Settings.{outgoingsOf, OutgoWeighed};
-ghost use Rattle.projection.specs.Added.{TableOf};
+ghost use Rattle.projection.specs.Added.{TableIn, projectionOf};
 ghost use Rattle.years.specs.Outcome.{CurveOf, Undiscounted, NoneFrom, Settled, SettledIn};
 use settings::Outgoings;
 use settling::Year;
@@ -50,7 +50,7 @@ fn undiscounted(
     from: usize,
     to: usize,
 ) -> Years
-    requires { ⌜ (setting < 8) × (1 ≤ group) × (group ≤ 5) × (from ≤ to) × (to ≤ 50) × ValidBook 1 (now book) × TableOf (now book) group (now numbers) ⌝ }
+    requires { ⌜ (setting < 8) × (1 ≤ group) × (group ≤ 5) × (from ≤ to) × (to ≤ 50) × ValidBook 1 (now book) × TableIn (now book) (projectionOf setting) group (now numbers) ⌝ }
     requires { ⌜ (w ≡ outgoingsOf setting) × OutgoWeighed w ⌝ }
     ensures { λ r. ⌜ Undiscounted (now (book .entry)) setting group from to (r .premium) (r .outgo) ⌝ }
 {
@@ -76,7 +76,7 @@ pub fn settle(
     numbers: &[u64; 500],
     table: &mut [u64],
 ) -> i64
-    requires { ⌜ (setting < 8) × (1 ≤ group) × (group ≤ 5) × (200 ≤ length (now table)) × ValidBook 1 (now book) × TableOf (now book) group (now numbers) ⌝ }
+    requires { ⌜ (setting < 8) × (1 ≤ group) × (group ≤ 5) × (200 ≤ length (now table)) × ValidBook 1 (now book) × TableIn (now book) (projectionOf setting) group (now numbers) ⌝ }
     ensures { λ r. ⌜ Settled (now (book .entry)) setting group (now (table .entry)) (now (table .exit)) r ⌝ }
 {
     let curve = curve_of(book);
@@ -135,7 +135,7 @@ pub fn settle_in(
     from: usize,
     to: usize,
 ) -> Amounts
-    requires { ⌜ (setting < 8) × (1 ≤ group) × (group ≤ 5) × (from ≤ to) × (to ≤ 50) × ValidBook 1 (now book) × TableOf (now book) group (now numbers) ⌝ }
+    requires { ⌜ (setting < 8) × (1 ≤ group) × (group ≤ 5) × (from ≤ to) × (to ≤ 50) × ValidBook 1 (now book) × TableIn (now book) (projectionOf setting) group (now numbers) ⌝ }
     requires { ⌜ (w ≡ outgoingsOf setting) × OutgoWeighed w ⌝ }
     requires { ⌜ CurveOf (now book) (now divisors) (now fractions) ⌝ }
     ensures { λ r. ⌜ SettledIn (now (book .entry)) setting group from to r ⌝ }

@@ -11,7 +11,7 @@ use Rattle.reckoning.specs.Steps.{inForce}
 use Rattle.reckoning.specs.Portfolio.{rowAt, cellOf}
 use Rattle.cell.specs.declared.Cell.{Cell}
 use Rattle.cell.specs.States.{cellIn, stateIn, Walkable}
-use Rattle.cell.proofs.Cells.{state-ready, state-start, state-next, inforce-is}
+use Rattle.cell.proofs.Cells.{state-ready, state-start, state-next, inforce-is, held-low, next-held}
 use Rattle.cell.proofs.Agreement.{walkable, inforce-same}
 use Rattle.inforce.specs.Screen.{firstYears}
 use Rattle.inforce.proofs.Fifty.{years-length, years-more, years-same}
@@ -19,48 +19,52 @@ use Rattle.inforce.proofs.run.Statement.{statement}
 use Rattle.inforce.proofs.run.Tie as tie
 
 abbrev Inv-loop : tie.InvT-loop
-Inv-loop book setting chain i out₀ rows cell₀ k₀ out cell k =
+Inv-loop book setting chain i out₀ columns rows cell₀ k₀ out cell k =
     (k ≤ 50) × Walkable rows 0 (fieldOf book i countOffset) × (cell ≡ stateIn rows 0 (fieldOf book i countOffset) setting k)
     × (out ≡ firstYears (inForce rounded (cellIn rows 0 (fieldOf book i countOffset) setting)) k ++ drop k out₀)
 
 abbrev μ-loop : tie.MeasureT-loop
-μ-loop book setting chain i out₀ rows cell₀ k₀ out cell k = 50 - k
+μ-loop book setting chain i out₀ columns rows cell₀ k₀ out cell k = 50 - k
 
 new-requires : tie.Need-new-requires Inv-loop μ-loop
-new-requires c κs = c .before .before .pre .1
+new-requires c κs = c .before .before .pre .0
+
+new-requires-2 : tie.Need-new-requires-2 Inv-loop μ-loop
+new-requires-2 c κs = c .before .before .before .pre .1
 
 read-rows-requires : tie.Need-read-rows-requires Inv-loop μ-loop
 read-rows-requires c κs =
-    let a = c .before .before .before .before in
-    (c .before .new .ensures, a .pre .1, a .pre .2, a .pre .3)
+    let a = c .before .before .before .before .before in
+    (c .before .new2 .ensures, a .pre .1, a .pre .2, a .pre .3)
 
 field-of-requires : tie.Need-field-of-requires Inv-loop μ-loop
 field-of-requires c κs =
-    let a = c .before .before .before .before .before in
+    let a = c .before .before .before .before .before .before in
     ((a .pre .3 .0 .first, omega (arith, a .pre .3 .0 .inside, a .pre .1 .header .size)), omega arith)
 
-new-requires-2 : tie.Need-new-requires-2 Inv-loop μ-loop
-new-requires-2 c κs = omega (arith, c .field-of .ensures .0, c .before .before .before .before .before .before .pre .3 .0 .count)
+new-requires-3 : tie.Need-new-requires-3 Inv-loop μ-loop
+new-requires-3 c κs = omega (arith, c .field-of .ensures .0, c .before .before .before .before .before .before .before .pre .3 .0 .count)
 
 loop-holds : tie.Need-loop-holds Inv-loop μ-loop
 unfolding firstYears rowAt
 loop-holds c =
-    let a = c .before .before .before .before .before .before .before in
+    let a = c .before .before .before .before .before .before .before .before in
     let g = a .args in
     let e = c .before .field-of .ensures .0 in (
       omega arith,
       walkable (g .book .now) (g .chain) (g .i) (a .pre .3) _ (c .before .before .read-rows .ensures) 0 (omega arith),
-      c .new2 .ensures ∙ rw e (sym (state-start _ 0 _ (g .setting))),
+      c .new3 .ensures ∙ rw e (sym (state-start _ 0 _ (g .setting))),
       refl,
     )
 
 next-year-requires : tie.Need-next-year-requires Inv-loop μ-loop
 next-year-requires c κs =
     let m = c .before .before in
-    rw (m .loop .inv .2) (state-ready _ _ _ _ (m .loop .inv .1) (m .loop .k) (c .before .loop-test .taken))
+    let low = held-low _ (m .loop .k) _ (m .before .before .before .before .before .before .new .ensures) in
+    (rw (m .loop .inv .2) (state-ready _ _ _ _ (m .loop .inv .1) (m .loop .k) (c .before .loop-test .taken)), low .0, low .1)
 
 -- the numbers keep their length
-kept : (m : tie.At-loop Inv-loop μ-loop) → length (m .loop .out) ≡ length (m .before .before .before .before .before .before .before .before .args .out .now)
+kept : (m : tie.At-loop Inv-loop μ-loop) → length (m .loop .out) ≡ length (m .before .before .before .before .before .before .before .before .before .args .out .now)
 kept m = years-length _ (m .loop .k) _ (m .loop .out) (omega arith) (m .loop .inv .3)
 
 mul-out : tie.Need-mul-out Inv-loop μ-loop
@@ -75,8 +79,8 @@ loop-again c =
     let l = m .loop in (
       omega arith,
       l .inv .1,
-      c .next-year .ensures ∙ rw (l .inv .2) (state-next _ _ _ _ (l .k)),
-      years-more _ (l .k) _ (l .out) _ _ (omega (arith, m .before .before .before .before .before .before .before .before .pre .4, c .before .before .loop-test .taken)) (l .inv .3) refl
+      next-held (m .before .before .before .before .before .before .before .before .before .args .setting) (l .k) _ (m .before .before .before .before .before .before .new .ensures) (m .before .before .before .read-rows .last .1 .1 .1 .1 .0) (l .cell) _ (c .next-year .ensures) ∙ rw (l .inv .2) (state-next _ _ _ _ (l .k)),
+      years-more _ (l .k) _ (l .out) _ _ (omega (arith, m .before .before .before .before .before .before .before .before .before .pre .4, c .before .before .loop-test .taken)) (l .inv .3) refl
           (ap (λ (x : Cell). x .inforce) (l .inv .2) ∙ inforce-is _ _ _ _ (l .k)),
     )
 
@@ -88,7 +92,7 @@ unfolding rowAt
 returns c =
     let m = c .before in
     let l = m .loop in
-    let a = m .before .before .before .before .before .before .before .before in
+    let a = m .before .before .before .before .before .before .before .before .before in
     let g = a .args in
     let e : l .k ≡ 50 = omega arith in
     let same = inforce-same (g .book .now) (g .chain) (g .i) (a .pre .3) _ (m .before .before .before .read-rows .ensures) 0 (omega arith) (g .setting) (a .pre .0) in
@@ -97,5 +101,5 @@ returns c =
 pub run-spec : {M : Type 1} → statement M
 run-spec =
     tie.close
-    (tie.spec Inv-loop μ-loop new-requires read-rows-requires field-of-requires new-requires-2 loop-holds next-year-requires mul-out slice-write-out
+    (tie.spec Inv-loop μ-loop new-requires new-requires-2 read-rows-requires field-of-requires new-requires-3 loop-holds next-year-requires mul-out slice-write-out
     (λ c. omega arith) (λ c. omega arith) loop-again same-length returns)

@@ -1,5 +1,6 @@
 -- `liability::group` meets its contract: where a refusal applies it is given and nothing is touched; else reply and table are those of `settle`.
 -- What is promised of both follows from these two equations. Assumes nothing.
+use mathlib.Core.Logic.{inr}
 use mathlib.Core.Path.{refl, sym, ap, _∙_}
 use Prim.Native.Nat.{ℕ}
 use mir.Syntax.{w64}
@@ -10,6 +11,7 @@ use Rattle.reckoning.specs.Replies.{groupLiability, groupReply, groupTable}
 use Rattle.reckoning.specs.declared.GroupReply.the-variants.{Reckoned}
 use Rattle.reckoning.proofs.Accepted.{group-setting, group-table, group-range, group-valid}
 use Rattle.reckoning.proofs.Promised.{promised}
+use Rattle.projection.proofs.Serving.{projection-low}
 use Rattle.liability.proofs.group.Statement.{statement}
 use Rattle.liability.proofs.group.Tie as tie
 
@@ -21,25 +23,25 @@ returns c =
 
 new-requires : tie.Need-new-requires
 new-requires c κs =
-    let e = sym (c .before .before .check-group .ensures) ∙ c .enum-told .given .1 in
+    let e = sym (c .before .before .before .check-group .ensures) ∙ c .before .enum-told .given .1 in
     group-valid _ _ _ _ _ e
 
 group-sums-requires : tie.Need-group-sums-requires
 group-sums-requires c κs =
-    let m = c .before .before .before in
+    let m = c .before .before .before .before in
     let e = sym (m .before .before .check-group .ensures) ∙ m .enum-told .given .1 in
-    (c .before .before .new .ensures, group-valid _ _ _ _ _ e, group-range _ _ _ _ _ e .0, group-range _ _ _ _ _ e .1, refl)
+    (c .before .before .new .ensures, group-valid _ _ _ _ _ e, group-range _ _ _ _ _ e .0, group-range _ _ _ _ _ e .1, omega (arith, c .before .before .before .projection-of .ensures .1), refl)
 
 settle-requires : tie.Need-settle-requires
 settle-requires c κs =
-    let m = c .before .before .before .before .before .before in
+    let m = c .before .before .before .before .before .before .before in
     let e = sym (m .before .before .check-group .ensures) ∙ m .enum-told .given .1 in
-    (omega (arith, group-setting _ _ _ _ _ e), group-range _ _ _ _ _ e .0, group-range _ _ _ _ _ e .1, group-table _ _ _ _ _ e, group-valid _ _ _ _ _ e, c .before .before .group-sums .ensures .table)
+    (omega (arith, group-setting _ _ _ _ _ e), group-range _ _ _ _ _ e .0, group-range _ _ _ _ _ e .1, group-table _ _ _ _ _ e, group-valid _ _ _ _ _ e, c .before .before .group-sums .ensures .table _ (projection-low _) (inr (c .before .before .before .before .before .before .projection-of .ensures .0)))
 
 returns-2 : tie.Need-returns-2
 unfolding groupReply groupTable
 returns-2 c =
-    let m = c .before .before .before .before .before .before .before .before .before in
+    let m = c .before .before .before .before .before .before .before .before .before .before in
     let a = m .before .before .before .before .before .args in
     let b = a .book .now in
     let setting = a .setting in
@@ -53,4 +55,4 @@ returns-2 c =
 pub group-spec : {M : Type 1} → statement M
 group-spec =
     tie.close
-    (tie.spec (search needs) (search needs) returns (search needs) new-requires group-sums-requires settle-requires (search needs) returns-2)
+    (tie.spec (search needs) (search needs) returns (search needs) (search needs) new-requires group-sums-requires settle-requires (search needs) returns-2)

@@ -14,25 +14,25 @@ use Rattle.reckoning.specs.Portfolio.{rowAt, linksFrom}
 use Rattle.reckoning.proofs.Rows.{chain-standing}
 use Rattle.reckoning.proofs.Members.{counted, links-counted}
 use Rattle.cell.specs.States.{cellIn, Walkable}
-use Rattle.walks.specs.Tables.{amountBy, amountAt, added, addedAll}
-use Rattle.walks.proofs.Records.{walkable-here, amounts-added, amount-at-le}
+use Rattle.walks.specs.Tables.{amountBy, amountIn, chosen, added, addedAll}
+use Rattle.walks.proofs.Records.{walkable-here, amounts-added, amount-in-le}
 use Rattle.projection.proofs.Adding.{Carry, carry-start, carry-more, carry-end, cells-more, cells-end, chain-cells, row-next}
 use Rattle.projection.proofs.add_cells.Statement.{statement}
 use Rattle.projection.proofs.add_cells.Tie as tie
 
 abbrev Inv-loop : tie.InvT-loop
-Inv-loop book chain head rows sums₀ i₀ own₀ above₀ n₀ sums i own above n =
+Inv-loop book chain head which rows sums₀ five one i₀ own₀ above₀ n₀ sums i own above n =
     (own + above ≡ above₀) × (above₀ ≡ 120 - classOf book head) × (n ≤ own) × (i ≡ rowAt book head own) × ChainFrom book 120 chain above i
-    × Carry (amountAt book) book above₀ head sums₀ above i sums
+    × Carry (amountIn book which) book above₀ head sums₀ above i sums
     × (n + heldFrom book i (above + 1) ≡ heldFrom book head (above₀ + 1))
 
 abbrev μ-loop : tie.MeasureT-loop
-μ-loop book chain head rows sums₀ i₀ own₀ above₀ n₀ sums i own above n = above
+μ-loop book chain head which rows sums₀ five one i₀ own₀ above₀ n₀ sums i own above n = above
 
 -- what holds at the loop, of the head and of record i
 module _ (m : tie.At-loop Inv-loop μ-loop) where
   abbrev start : tie.Start Inv-loop μ-loop
-  start = m .before .before .before
+  start = m .before .before .before .before .before
 
   abbrev book : List ℕ
   book = start .args .book .now
@@ -72,38 +72,38 @@ module _ (m : tie.At-loop Inv-loop μ-loop) where
     walkable : Walkable (start .args .rows .now) (m .loop .own) count
     walkable = walkable-here book chain head (start .pre .1) _ (start .pre .2) (m .loop .own) (m .loop .i) count fits (m .loop .inv .3) e
 
-    amounts-are : (u v : List ℕ) → v ≡ added (amountBy (cellIn (start .args .rows .now) (m .loop .own) count)) 500 u → v ≡ added (amountAt book (m .loop .i)) 500 u
-    amounts-are u v h = h ∙ amounts-added book chain head (start .pre .1) _ (start .pre .2) (m .loop .own) (m .loop .i) count fits (m .loop .inv .3) e u
+    amounts-are : (u v : List ℕ) → v ≡ added (chosen (start .args .which) (amountBy (cellIn (start .args .rows .now) (m .loop .own) count))) 500 u → v ≡ added (amountIn book (start .args .which) (m .loop .i)) 500 u
+    amounts-are u v h = h ∙ amounts-added book chain head (start .pre .1) _ (start .pre .2) (m .loop .own) (m .loop .i) count fits (m .loop .inv .3) e (start .args .which) u
 
 class-of-requires : tie.Need-class-of-requires Inv-loop μ-loop
 class-of-requires c κs =
-    let a = c .before in
+    let a = c .before .before .before in
     (a .pre .1 .0 .first, omega (arith, a .pre .1 .0 .inside, a .pre .0 .header .size))
 
 sub-above : tie.Need-sub-above Inv-loop μ-loop
-sub-above c = omega (arith, c .before .before .pre .1 .0 .class-high, c .class-of .ensures)
+sub-above c = omega (arith, c .before .before .before .before .pre .1 .0 .class-high, c .class-of .ensures)
 
 loop-holds : tie.Need-loop-holds Inv-loop μ-loop
 unfolding rowAt
 loop-holds c =
-    let a = c .before .before in
+    let a = c .before .before .before .before in
     let e = c .class-of .ensures .0 in (
       omega arith,
       rw e,
       omega arith,
       refl,
       rw e (a .pre .1 .1),
-      carry-start _ _ _ _ _ (a .pre .3),
+      carry-start _ _ _ _ _ (a .pre .4),
       omega arith,
     )
 
 field-of-requires : tie.Need-field-of-requires Inv-loop μ-loop
 field-of-requires c κs = (inside c, omega arith)
 
-walk-requires : tie.Need-walk-requires Inv-loop μ-loop
-walk-requires c κs =
+walk-by-requires : tie.Need-walk-by-requires Inv-loop μ-loop
+walk-by-requires c κs =
     let m = c .before .before in
-    (walkable m _ (c .before .field-of .ensures .0), λ j. omega (arith, m .loop .inv .5 .1 j, few-left m))
+    (walkable m _ (c .before .field-of .ensures .0), start m .pre .3, λ j. omega (arith, m .loop .inv .5 .1 j, few-left m), m .before .before .before .new .ensures, m .before .before .new2 .ensures)
 
 holds-requires : tie.Need-holds-requires Inv-loop μ-loop
 holds-requires c κs = inside (c .before .before .before)
@@ -115,8 +115,8 @@ returns c =
     let b = book m in
     let none : l .above ≡ 0 = c .if1 .taken in
     record {
-      sums = carry-end (amountAt b) b (left m) (head m) _ (l .above) (l .i) (l .sums) _ none (l .inv .5) (amounts-are m _ (c .before .before .before .before .field-of .ensures .0) _ _ (c .before .before .walk .ensures .sums))
-          ∙ ap (λ (x : List ℕ). addedAll (amountAt b) x (start m .args .sums .now)) (links m);
+      sums = carry-end (amountIn b (start m .args .which)) b (left m) (head m) _ (l .above) (l .i) (l .sums) _ none (l .inv .5) (amounts-are m _ (c .before .before .before .before .field-of .ensures .0) _ _ (c .before .before .walk-by .ensures))
+          ∙ ap (λ (x : List ℕ). addedAll (amountIn b (start m .args .which)) x (start m .args .sums .now)) (links m);
       n-is = sym (cells-end b (l .n) (l .above) (l .i) _ none (c .before .holds .ensures .0)) ∙ l .inv .6 ∙ chain-cells b (decrementsOf b 0) (chain m) (left m) (head m) (head-chain m) (few-left m);
       few = omega (arith, l .inv .0, l .inv .2, few-left m, c .before .holds .ensures .1);
     }
@@ -136,13 +136,13 @@ loop-again c =
       omega (arith, l .inv .2, c .before .before .holds .ensures .1),
       rw next (row-next b (chain m) (head m) (l .own) (l .above) (l .i) (l .inv .4) (omega (arith, more)) (l .inv .3)),
       rw next (chain-next b 120 (chain m) (l .above) (l .above - 1) (l .i) more (l .inv .4)),
-      rw next (carry-more (amountAt b) b _ _ _ (l .above) (l .above - 1) (l .i) (l .sums) _ more (omega (arith, l .inv .0)) (l .inv .5) (amount-at-le b (chain m) (l .i) (stands m))
-          (amounts-are m _ (c .before .before .before .before .before .field-of .ensures .0) _ _ (c .before .before .before .walk .ensures .sums))),
+      rw next (carry-more (amountIn b (start m .args .which)) b _ _ _ (l .above) (l .above - 1) (l .i) (l .sums) _ more (omega (arith, l .inv .0)) (l .inv .5) (amount-in-le b (start m .args .which) (chain m) (l .i) (stands m))
+          (amounts-are m _ (c .before .before .before .before .before .field-of .ensures .0) _ _ (c .before .before .before .walk-by .ensures))),
       rw next (sym (cells-more b (l .n) (l .above) (l .above - 1) (l .i) _ more (rules m .first) (c .before .before .holds .ensures .0)) ∙ l .inv .6),
     )
 
 pub add-cells-spec : {M : Type 1} → statement M
 add-cells-spec =
     tie.close
-    (tie.spec Inv-loop μ-loop class-of-requires sub-above loop-holds field-of-requires walk-requires holds-requires (λ c. omega arith) returns
+    (tie.spec Inv-loop μ-loop (λ c κs. tt) (λ c κs. omega (arith, c .before .before .pre .3)) class-of-requires sub-above loop-holds field-of-requires walk-by-requires holds-requires (λ c. omega arith) returns
     next-of-requires (λ c. omega arith) (λ c. omega arith) (λ c. omega arith) loop-again)

@@ -8,7 +8,7 @@ use Rattle.book.specs.Cells.{heldIn, heldFrom}
 use Rattle.book.specs.Reading.{Standing}
 use Rattle.reckoning.specs.Portfolio.{linksFrom}
 use Rattle.reckoning.proofs.Rows.{chain-standing}
-use Rattle.walks.specs.Tables.{amountAt, addedAll}
+use Rattle.walks.specs.Tables.{amountIn, addedAll}
 use Rattle.projection.proofs.Adding.{links-empty, cells-empty, head-chain}
 use Rattle.projection.proofs.add_chain.Statement.{statement}
 use Rattle.projection.proofs.add_chain.Tie as tie
@@ -41,7 +41,7 @@ read-rows-requires c κs =
 add-cells-requires : tie.Need-add-cells-requires
 add-cells-requires c κs =
     let a = c .before .before .before .before .before .before .before in
-    (a .pre .1, stands (c .before .before .before .before), c .before .before .read-rows .ensures, a .pre .3)
+    (a .pre .1, stands (c .before .before .before .before), c .before .before .read-rows .ensures, a .pre .3, a .pre .4)
 
 returns-2 : tie.Need-returns-2
 unfolding heldIn
@@ -51,7 +51,7 @@ returns-2 c =
     let head-is = c .before .before .before .before .before .before .head-of .ensures .0 in
     let e = c .add-cells .ensures in
     record {
-      sums = e .sums ∙ ap (λ (i : ℕ). addedAll (amountAt b) (linksFrom b i 121) (a .args .sums .now)) head-is;
+      sums = e .sums ∙ ap (λ (i : ℕ). addedAll (amountIn b (a .args .which)) (linksFrom b i 121) (a .args .sums .now)) head-is;
       n-is = e .n-is ∙ ap (λ (i : ℕ). heldFrom b i 121) head-is;
       few = e .few;
     }

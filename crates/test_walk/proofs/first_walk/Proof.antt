@@ -48,14 +48,15 @@ field-of-requires c κs =
 walk-requires : tie.Need-walk-requires
 unfolding rowAt
 walk-requires c κs =
-    let m = c .before .before .before .before .before .before in
-    let read = c .before .before .before .read-rows .ensures in (
-      walkable-here _ _ _ (stands m) _ read 0 _ _ (omega arith) refl (c .before .before .field-of .ensures .0),
+    let m = c .before .before .before .before .before .before .before in
+    let read = c .before .before .before .before .read-rows .ensures in (
+      walkable-here _ _ _ (stands m) _ read 0 _ _ (omega arith) refl (c .before .before .before .field-of .ensures .0),
       λ j. omega (arith, zero-most 500 j),
+      c .before .new2 .ensures,
     )
 
 pub first-walk-spec : {M : Type 1} → statement M
 first-walk-spec =
     tie.close
     (tie.spec (search needs) (search needs) (search needs) (search needs) (search needs) (search needs) head-of-requires (search needs)
-    new-requires read-rows-requires field-of-requires walk-requires (search needs) (search needs))
+    new-requires read-rows-requires field-of-requires (λ c κs. tt) walk-requires (search needs) (search needs))

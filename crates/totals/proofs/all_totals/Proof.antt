@@ -1,4 +1,5 @@
 -- `totals::all_totals` meets its contract: the tables of the five product groups, and the curve, made once. Assumes nothing.
+use mathlib.Core.Logic.{inl}
 use mathlib.Core.Path.{refl}
 use native.Mathlib.Omega.{arith}
 use borrow.Author.Needs.{needs}
@@ -8,7 +9,7 @@ use Rattle.totals.proofs.all_totals.Tie as tie
 group-sums-requires-5 : tie.Need-group-sums-requires-5
 group-sums-requires-5 c κs =
     let m = c .before .before .before .before .before .before .before .before .before .before .before .before .before .before in
-    (m .new .ensures, m .before .before .before .before .before .pre, omega arith, omega arith, refl)
+    (m .new .ensures, m .before .before .before .before .before .pre, omega arith, omega arith, omega arith, refl)
 
 eight-totals-requires : tie.Need-eight-totals-requires
 eight-totals-requires c κs =
@@ -20,11 +21,11 @@ eight-totals-requires c κs =
     let curve = first .before .before .before .before .before .before in (
       curve .before .before .pre,
       record {
-        first = first .group-sums .ensures .table;
-        second = second .group-sums2 .ensures .table;
-        third = third .group-sums3 .ensures .table;
-        fourth = fourth .group-sums4 .ensures .table;
-        fifth = fifth .group-sums5 .ensures .table;
+        first = λ s h. first .group-sums .ensures .table s h (inl refl);
+        second = λ s h. second .group-sums2 .ensures .table s h (inl refl);
+        third = λ s h. third .group-sums3 .ensures .table s h (inl refl);
+        fourth = λ s h. fourth .group-sums4 .ensures .table s h (inl refl);
+        fifth = λ s h. fifth .group-sums5 .ensures .table s h (inl refl);
       },
       curve .curve-of .ensures,
     )

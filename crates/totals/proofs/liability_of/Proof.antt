@@ -1,12 +1,13 @@
 -- `totals::liability_of` meets its contract: the first five years and the later ones are all fifty. Assumes nothing.
 use mathlib.Core.Path.{_∙_}
 use native.Mathlib.Omega.{arith}
+use Rattle.projection.proofs.Serving.{projection-low}
 use Rattle.totals.proofs.Laws.{both-parts, parts-most, read-back}
 use Rattle.totals.proofs.liability_of.Statement.{statement}
 use Rattle.totals.proofs.liability_of.Tie as tie
 
 settle-in-requires : tie.Need-settle-in-requires
-settle-in-requires c κs = let a = c .before .pre in ((a .0 .0, a .0 .1, a .0 .2, omega arith, omega arith, a .0 .3, a .0 .4), (a .1, a .0 .6))
+settle-in-requires c κs = let a = c .before .pre in ((a .0 .0, a .0 .1, a .0 .2, omega arith, omega arith, a .0 .3, a .0 .4 _ (projection-low _)), (a .1, a .0 .6))
 
 add-less : tie.Need-add-less
 add-less c = omega (arith, c .before .before .settle-in .ensures .outgo-most, c .before .before .before .before .pre .0 .5 .outgo-most)

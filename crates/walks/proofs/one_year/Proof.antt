@@ -6,7 +6,7 @@ use native.Mathlib.Omega.{arith}
 use borrow.Author.Needs.{needs}
 use lib.ListN.{getD, set}
 use lib.Seq.{getD-set-other}
-use Rattle.cell.proofs.Cells.{premium-in-le, claims-in-le}
+use Rattle.cell.proofs.Cells.{premium-in-le, claims-in-le, held-low, next-held}
 use Rattle.walks.specs.Tables.{AtMost, oneMore, twoMore}
 use Rattle.walks.proofs.one_year.Statement.{statement}
 use Rattle.walks.proofs.one_year.Tie as tie
@@ -14,7 +14,7 @@ use Rattle.walks.proofs.one_year.Tie as tie
 add-at-requires : tie.Need-add-at-requires
 add-at-requires c κs =
     let a = c .before .before in
-    (omega (arith, a .pre .1, a .pre .2), omega (arith, a .pre .3 (10 * a .args .k + 2 * a .args .setting), c .before .amounts .ensures .0, premium-in-le _ _ (a .pre .0)))
+    (omega (arith, a .pre .1, a .pre .2), omega (arith, a .pre .3 (10 * a .args .k + 2 * a .args .setting), c .premium .ensures, premium-in-le _ _ (a .pre .0)))
 
 -- after the first addition every number but its own is as it was, and has room
 room : (t u : List ℕ) (j i x y : ℕ) → u ≡ oneMore t j x → (i ≡ j → ⊥) → AtMost 4000000000000000 t → y ≤ 1000000000000 → getD u i 0 + y < 2 ^ 64
@@ -22,19 +22,26 @@ room t u j i x y e o h l = omega (arith, ap (λ (v : List ℕ). getD v i 0) e, g
 
 add-at-requires-2 : tie.Need-add-at-requires-2
 add-at-requires-2 c κs =
-    let a = c .before .before .before .before in
-    (omega (arith, a .pre .1, a .pre .2), room (a .args .sums .now) _ (10 * a .args .k + 2 * a .args .setting) _ (c .before .before .before .amounts .result .premium) _ (c .before .add-at .ensures) (λ q. omega (arith, q)) (a .pre .3) (omega (arith, c .before .before .before .amounts .ensures .1, claims-in-le _ _ (a .pre .0))))
+    let a = c .before .before .before .before .before in
+    (omega (arith, a .pre .1, a .pre .2), room (a .args .sums .now) _ (10 * a .args .k + 2 * a .args .setting) _ (c .before .before .before .premium .result) _ (c .before .before .add-at .ensures) (λ q. omega (arith, q)) (a .pre .3) (omega (arith, c .claims .ensures, claims-in-le _ _ (a .pre .0))))
 
 -- the two additions
 both : (t u v : List ℕ) (j x y p q : ℕ) → u ≡ oneMore t j x → v ≡ oneMore u (j + 1) y → x ≡ p → y ≡ q → v ≡ twoMore t j p q
 unfolding twoMore
 both t u v j x y p q e f g h = rw (f, e, g, h)
 
+next-year-requires : tie.Need-next-year-requires
+next-year-requires c κs =
+    let a = c .before .before .before .before .before .before in
+    let low = held-low _ (a .args .k) _ (a .pre .4) in
+    (a .pre .0, low .0, low .1)
+
 returns : tie.Need-returns
 returns c =
-    let m = c .before .before .before .before .before .amounts in
-    (c .next-year .ensures, both _ _ _ _ _ _ _ _ (c .before .before .before .add-at .ensures) (c .before .add-at2 .ensures) (m .ensures .0) (m .ensures .1))
+    let m = c .before .before .before .before in
+    let a = m .before .before .before in
+    (next-held _ _ _ (a .pre .4) _ _ _ (c .next-year .ensures), both _ _ _ _ _ _ _ _ (m .add-at .ensures) (c .before .add-at2 .ensures) (m .before .premium .ensures) (c .before .before .claims .ensures))
 
 pub one-year-spec : {M : Type 1} → statement M
 one-year-spec = tie.close
-    (tie.spec (λ c κs. c .pre .0) (search needs) (search needs) (search needs) add-at-requires (search needs) add-at-requires-2 (λ c κs. c .before .before .before .before .before .pre .0) returns)
+    (tie.spec (search needs) (search needs) (search needs) (λ c κs. c .before .pre .0) add-at-requires (search needs) (λ c κs. c .before .before .before .before .pre .0) add-at-requires-2 next-year-requires returns)

@@ -50,8 +50,8 @@ loop-again c =
     let lt : l .k < 50 = omega (arith, c .before .before .before .before .loop-test .taken) in
     let due = getD (a .args .numbers .now) (10 * l .k + 2 * p .result) 0 in
     let claims = getD (a .args .numbers .now) (10 * l .k + 2 * p .result + 1) 0 in
-    let due-is = premium-served b g s (p .result) (l .k) _ t (a .pre .0 .0) (p .ensures .0) (p .ensures .1) lt in
-    let claims-is = claims-served b g s (p .result) (l .k) _ t (a .pre .0 .0) (p .ensures .0) (p .ensures .1) lt in
+    let due-is = premium-served b g s (p .result) (l .k) _ t (a .pre .0 .0) (p .ensures .0) lt in
+    let claims-is = claims-served b g s (p .result) (l .k) _ t (a .pre .0 .0) (p .ensures .0) lt in
     let eo : o .result ≡ outgoBefore b s g (l .k) =
     outgo-of b s g (l .k) (r .result) due claims (o .result) (rw (a .pre .1 .0) at (o .ensures .0)) (r .ensures .0) due-is claims-is in (
       omega arith,

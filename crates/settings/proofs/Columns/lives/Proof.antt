@@ -1,0 +1,13 @@
+-- `settings::Columns::lives` meets its contract: the test on the year picks the same column as the definition. Assumes nothing.
+use borrow.Author.Tests.{lt-ltb, le-ltb}
+use Rattle.settings.proofs.Columns.lives.Statement.{statement}
+use Rattle.settings.proofs.Columns.lives.Tie as tie
+
+returns : tie.Need-returns
+returns c = rw (lt-ltb _ _ (c .if1 .taken))
+
+returns-2 : tie.Need-returns-2
+returns-2 c = rw (le-ltb _ _ (c .if1 .left))
+
+pub lives-spec : {M : Type 1} → statement M
+lives-spec = tie.close (tie.spec returns returns-2)
