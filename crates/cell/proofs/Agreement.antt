@@ -9,7 +9,8 @@ use native.Mathlib.Omega.{arith}
 use lib.Dec.{ltb}
 use Rattle.book.specs.Layout.{chainSex, sexOf, classOf, fieldOf, countOffset, lapseOffset, premiumOffset, claimsOffset}
 use Rattle.book.specs.Reading.{Standing}
-use Rattle.settings.specs.Settings.{weightOf, mortalityWeight, decrementsOf, mortalityIn, lapseIn, livingColumn, stayingColumn}
+use Rattle.settings.specs.Settings.{weightOf, mortalityWeight, decrementsOf, mortalityIn, lapseIn, sameMortality, livingColumn, stayingColumn}
+use Rattle.settings.proofs.Laws.{each-setting}
 use Rattle.settings.proofs.Held.{living-low, staying-low}
 use Rattle.settings.specs.declared.Decrements.{Decrements}
 use Rattle.reckoning.specs.Arithmetic.{rounded}
@@ -17,6 +18,7 @@ use Rattle.reckoning.specs.Steps.{inForce, cellPremium, cellClaims}
 use Rattle.reckoning.specs.Portfolio.{mortalityOf, oneLess, onward, rowAt, cellOf}
 use Rattle.reckoning.proofs.Rows.{row-standing}
 use Rattle.rows.specs.Rows.{rate, rateOf, RowReady, RowOf, RowsOf}
+use Rattle.rows.proofs.Order.{row-ordered}
 use Rattle.cell.specs.States.{cellIn, Walkable, premiumBy, claimsBy, premiumAt, claimsAt}
 use Rattle.cell.proofs.Cells.{share-le}
 
@@ -26,25 +28,13 @@ unfolding rowAt
 row-sum b i j zero = ap (rowAt b i) (add-zero j)
 row-sum b i j (suc k) = rw (add-suc j k) (ap (onward b) (row-sum b i j k))
 
--- what holds of each of the eight settings
-pub each-setting : (P : ℕ → Type 0) → P 0 → P 1 → P 2 → P 3 → P 4 → P 5 → P 6 → P 7 → (setting : ℕ) → setting < 8 → P setting
-each-setting P a b c d e f g h zero l = a
-each-setting P a b c d e f g h (suc zero) l = b
-each-setting P a b c d e f g h (suc (suc zero)) l = c
-each-setting P a b c d e f g h (suc (suc (suc zero))) l = d
-each-setting P a b c d e f g h (suc (suc (suc (suc zero)))) l = e
-each-setting P a b c d e f g h (suc (suc (suc (suc (suc zero))))) l = f
-each-setting P a b c d e f g h (suc (suc (suc (suc (suc (suc zero)))))) l = g
-each-setting P a b c d e f g h (suc (suc (suc (suc (suc (suc (suc zero))))))) l = h
-each-setting P a b c d e f g h (suc (suc (suc (suc (suc (suc (suc (suc n)))))))) l = absurd (omega arith)
-
 -- the column that holds in a year of a setting has the rate at the setting's weight of that year
 module _ (b : List ℕ) (sex i k : ℕ) where
   Lives : ℕ → Type 0
   Lives setting = rateOf b sex i (livingColumn setting k) ≡ oneLess (mortalityOf b sex (classOf b i)) (mortalityIn (decrementsOf b setting) sex k)
 
   column-living : (setting : ℕ) → setting < 8 → Lives setting
-  unfolding Lives rateOf livingColumn decrementsOf mortalityWeight weightOf
+  unfolding Lives rateOf livingColumn sameMortality decrementsOf mortalityWeight weightOf
   column-living = by (ltb k 5) refl
     where
       by : (early : Bool) → ltb k 5 ≡ early → (setting : ℕ) → setting < 8 → Lives setting
@@ -75,7 +65,7 @@ module _ (b : List ℕ) (chain i : ℕ) (s : Standing b 120 chain i) (t : List �
   here k h = rw (row-sum b i own k) at (rows (own + k) (omega (arith, s .0 .class-high)))
 
   pub walkable : Walkable t own contracts
-  walkable = record { rows = λ k h. here k h .ready; fits = omega arith; few = row-standing b chain i s own .0 .count }
+  walkable = record { rows = λ k h. here k h .ready; ordered = λ k h. row-ordered _ _ _ t (own + k) (here k h); fits = omega arith; few = row-standing b chain i s own .0 .count }
 
   sex-is : sexOf b record-of ≡ chainSex chain
   sex-is = row-standing b chain i s own .0 .sex

@@ -10,7 +10,7 @@ use Rattle.reckoning.specs.Arithmetic.{rounded}
 use Rattle.reckoning.specs.Steps as steps
 use Rattle.reckoning.specs.Steps.{inForce, cellPremium, cellClaims}
 use Rattle.reckoning.specs.Portfolio.{cellOf}
-use Rattle.rows.specs.Rows.{rate, RowReady}
+use Rattle.rows.specs.Rows.{rate, RowReady, RowOrdered}
 use Rattle.cell.specs.declared.Cell.{Cell}
 
 -- the cell that starts at row r of the table t with n contracts, in a setting: in year k it has reached row r + k
@@ -26,6 +26,7 @@ cellIn t r n setting = record {
 -- its rows can be walked for fifty years, and its contracts are few enough
 pub record Walkable (t : List ℕ) (r n : ℕ) : Type 0 where
   pub rows : (k : ℕ) → k < 50 → RowReady t (r + k)
+  pub ordered : (k : ℕ) → k < 50 → RowOrdered t (r + k)
   pub fits : r ≤ 120
   pub few : n ≤ 100_000
 

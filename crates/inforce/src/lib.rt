@@ -4,7 +4,8 @@ ghost use mathlib.Core.List.{_++_};
 ghost use Prim.Native.Nat.{_<_, _≤_};
 ghost use lib.ListN.{length, drop};
 ghost use Rattle.book.specs.Reading.{Standing, ValidBook};
-ghost use Rattle.settings.specs.Settings.{decrementsOf};
+ghost use Rattle.settings.specs.Settings.{decrementsOf, livesIn, staysIn};
+ghost use Rattle.cell.specs.States.{Ready, nextBy};
 ghost use Rattle.reckoning.specs.Arithmetic.{rounded};
 ghost use Rattle.reckoning.specs.Steps.{inForce};
 ghost use Rattle.reckoning.specs.Portfolio.{cellOf, chainLinks};
@@ -56,6 +57,20 @@ fn record_of(book: &[u8], k: usize, class: usize) -> usize
     }
 }
 
+// The state a year after year k. Once nothing is in force nothing is computed further: there is nothing in any later year.
+fn year_later(rows: &[u64; 2720], cell: Cell, columns: Columns, k: usize) -> Cell
+    requires { ⌜ Ready (now rows) cell × (livesIn columns k ≤ 5) × (staysIn columns k ≤ 5) ⌝ }
+    ensures { λ r. ⌜ r ≡ nextBy (now (rows .entry)) (livesIn columns k) (staysIn columns k) cell ⌝ }
+{
+    if cell.inforce == 0 {
+        return Cell {
+            row: cell.row + 1,
+            inforce: 0,
+        };
+    }
+    cell.next_year(rows, columns, k)
+}
+
 // Writes what is in force of the cell of record i in a setting, in the years k = 0 to 49.
 fn run(book: &[u8], setting: usize, chain: usize, i: usize, out: &mut [u64])
     requires { ⌜ (setting < 8) × ValidBook 1 (now book) × (chain < 14) × Standing (now book) 120 chain i
@@ -69,7 +84,7 @@ fn run(book: &[u8], setting: usize, chain: usize, i: usize, out: &mut [u64])
     rows::read_rows(book, Shifts::new(book), chain, i, &mut rows);
     let mut cell = Cell::new(0, book::field_of(book, i, book::COUNT_OFFSET));
     for k in 0usize..50 {
-        let next = cell.next_year(&rows, columns, k);
+        let next = year_later(&rows, cell, columns, k);
         out[k] = cell.inforce;
         cell = next;
     }

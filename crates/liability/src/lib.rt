@@ -3,6 +3,7 @@ ghost use mathlib.Core.Path.{_≡_};
 ghost use Rattle.reckoning.specs.Replies.{groupCheck, GroupPromised};
 use field::Verdict;
 use reckoning::GroupReply;
+use settings::Setting;
 use settings::Shifts;
 
 // The refusals of Group, in their order.
@@ -27,14 +28,8 @@ pub fn group(book: &[u8], setting: usize, group: usize, table: &mut [u64]) -> Gr
     }
     let mut rows = [0u64; 2720];
     let mut numbers = [0u64; 500];
-    let projection = projection::projection_of(setting);
-    let n = projection::group_sums(
-        book,
-        Shifts::new(book),
-        group,
-        projection,
-        &mut rows,
-        &mut numbers,
-    );
-    GroupReply::Reckoned(years::settle(book, setting, group, &numbers, table), n)
+    let s = Setting::new(setting);
+    let w = Shifts::new(book);
+    let n = projection::group_sums(book, w, group, s.projection, &mut rows, &mut numbers);
+    GroupReply::Reckoned(years::settle(book, s, group, &numbers, table), n)
 }

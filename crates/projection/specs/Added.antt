@@ -2,9 +2,7 @@
 use mathlib.Core.List.{List}
 use mathlib.Core.Path.{_≡_}
 use Prim.Native.Nat.{ℕ, _+_, _*_, _<_, _≤_}
-use lib.Dec.{ltb}
 use lib.ListN.{getD}
-use Rattle.field.specs.Verdicts.{pick}
 use Rattle.book.specs.Layout.{lastClass}
 use Rattle.book.specs.Cells.{heldFrom, heldIn, heldOfGroup}
 use Rattle.settings.specs.Settings.{decrementsOf}
@@ -39,7 +37,3 @@ TableOf b g t = (s : ℕ) → s < 5 → TableIn b s g t
 pub record SumsOf (b : List ℕ) (which g n : ℕ) (t : List ℕ) : Type 0 where
   pub table : (s : ℕ) → s < 5 → Among which s → TableIn b s g t
   pub n-is : n ≡ heldOfGroup b (lastClass 1) g
-
--- of the five projections, the one that serves a setting: settings 5, 6 and 7 shift costs and claims alone
-unfoldable pub projectionOf : ℕ → ℕ
-projectionOf setting = pick (ltb setting 5) setting 0

@@ -5,10 +5,10 @@ ghost use Prim.Native.Nat.{_+_, _*_, _<_, _≤_};
 ghost use lib.ListN.{replicate};
 ghost use Rattle.book.specs.Cells.{firstChain, chainsOf};
 ghost use Rattle.book.specs.Reading.{Standing, ValidBook};
-ghost use Rattle.settings.specs.Settings.{ShiftsOf};
+ghost use Rattle.settings.specs.Settings.{ShiftsOf, columnsOf};
 ghost use Rattle.rows.specs.Rows.{RowsOf};
 ghost use Rattle.walks.specs.Tables.{AtMost};
-ghost use Rattle.projection.specs.Added.{CellsAdded, ChainAdded, SumsOf, projectionOf};
+ghost use Rattle.projection.specs.Added.{CellsAdded, ChainAdded, SumsOf};
 use settings::Columns;
 use settings::FiveColumns;
 use settings::Shifts;
@@ -24,6 +24,17 @@ fn first_chain(group: usize) -> usize
     if group == 1 { 0 } else { 2 * group + 2 }
 }
 
+// The columns of one projection. Where all are asked for, none is: then the compiler works these out.
+fn columns_in(which: usize) -> Columns
+    requires { ⌜ which ≤ 5 ⌝ }
+    ensures { λ r. ⌜ (which < 5 → r ≡ columnsOf which) ⌝ }
+{
+    if which == ALL {
+        return Columns::new(0);
+    }
+    Columns::new(which)
+}
+
 // Adds the cells of a chain, whose rows are read from its head on, to the table, and hands back how many of them hold contracts.
 fn add_cells(
     book: &[u8],
@@ -37,7 +48,7 @@ fn add_cells(
     ensures { λ n. ⌜ CellsAdded (now (book .entry)) which head n (now (sums .entry)) (now (sums .exit)) ⌝ }
 {
     let five = FiveColumns::new();
-    let one = Columns::new(which);
+    let one = columns_in(which);
     let mut i = head;
     let mut own = 0usize;
     let mut above = book::LAST_CLASS - book::class_of(book, head);
@@ -96,11 +107,4 @@ pub fn group_sums(
         n += add_chain(book, w, k, which, rows, numbers);
     }
     n
-}
-
-// Of the five projections, the one that serves a setting: settings 5, 6 and 7 shift costs and claims alone.
-pub fn projection_of(setting: usize) -> usize
-    ensures { λ r. ⌜ (r ≡ projectionOf setting) × (r < 5) ⌝ }
-{
-    if setting < 5 { setting } else { 0 }
 }

@@ -1,3 +1,4 @@
 pub mod Puts
 pub mod Onward
 pub mod Repeats
+pub mod Order

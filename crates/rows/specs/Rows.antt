@@ -27,6 +27,13 @@ pub record RowReady (t : List ℕ) (r : ℕ) : Type 0 where
   pub premium : rate t r 6 ≤ 10_000_000
   pub claims : rate t r 7 ≤ 10_000_000
 
+-- of what lives on and of what stays, more deaths and more lapses leave the least, fewer the most
+pub record RowOrdered (t : List ℕ) (r : ℕ) : Type 0 where
+  pub more-deaths : rate t r 1 ≤ rate t r 0
+  pub fewer-deaths : rate t r 0 ≤ rate t r 2
+  pub more-lapses : rate t r 4 ≤ rate t r 3
+  pub fewer-lapses : rate t r 3 ≤ rate t r 5
+
 -- of record i of a chain of a sex, what lives on and what stays at the weights that a setting has in year 0
 abbrev pub livingAt : List ℕ → ℕ → ℕ → ℕ → ℕ
 livingAt b sex i setting = oneLess (mortalityOf b sex (classOf b i)) (ofSex sex (decrementsAt b setting 0))

@@ -1,28 +1,31 @@
 -- Laws of the columns: what is picked for the year k is the column of the year k. Assumes nothing.
 use mathlib.Core.Path.{_≡_, refl}
-use mathlib.Core.Bool.{Bool, true, false}
+use mathlib.Core.Bool.{Bool, true, false, _&&_}
 use Prim.Native.Nat.{ℕ, _≤_}
 use native.Mathlib.Omega.{arith}
 use lib.Dec.{ltb, eqb}
 use Rattle.field.specs.Verdicts.{pick}
-use Rattle.settings.specs.Settings.{weightIn, weightOf, livingColumn, stayingColumn, columnsOf, livesIn, staysIn}
+use Rattle.settings.specs.Settings.{weightIn, weightOf, sameMortality, livingColumn, stayingColumn, columnsOf, livesIn, staysIn}
 use Rattle.settings.proofs.Laws.{pick-le}
 
 module _ (setting k : ℕ) where
   pub living-low : livingColumn setting k ≤ 2
   unfolding livingColumn
-  living-low = pick-le (eqb (weightOf setting 0 k) (weightOf 0 0 0)) 2 (omega arith) (pick-le (eqb (weightOf setting 0 k) (weightOf 1 0 0)) 2 (omega arith) (omega arith))
+  living-low = pick-le (sameMortality setting k 0) 2 (omega arith) (pick-le (sameMortality setting k 1) 2 (omega arith) (omega arith))
 
   pub staying-low : stayingColumn setting k ≤ 5
   unfolding stayingColumn
   staying-low = pick-le (eqb (weightOf setting 2 k) (weightOf 0 2 0)) 5 (omega arith) (pick-le (eqb (weightOf setting 2 k) (weightOf 3 2 0)) 5 (omega arith) (omega arith))
 
   pub lives-is : livesIn (columnsOf setting) k ≡ livingColumn setting k
-  unfolding columnsOf livingColumn weightOf
+  unfolding columnsOf livingColumn sameMortality weightOf
   lives-is = by (ltb k 5)
     where
+      same : Bool → ℕ → Bool
+      same t weight = eqb (weightIn t setting 0) weight && eqb (weightIn t setting 1) weight
+
       of : Bool → ℕ
-      of t = pick (eqb (weightIn t setting 0) 10) 0 (pick (eqb (weightIn t setting 0) 12) 1 2)
+      of t = pick (same t 10) 0 (pick (same t 12) 1 2)
 
       by : (t : Bool) → pick t (of true) (of false) ≡ of t
       by true = refl

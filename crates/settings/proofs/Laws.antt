@@ -1,9 +1,9 @@
--- Laws of the weights: their bounds, what the weights of a year are, and which settings have the base's mortality and lapse.
+-- Laws of the weights: their bounds, and what the weights of a year are.
 -- Assumes nothing.
 use mathlib.Core.Path.{_≡_, refl}
 use mathlib.Core.Bool.{Bool, true, false}
 use mathlib.Core.List.{List}
-use Prim.Native.Nat.{ℕ, zero, suc, _*_, _≤_}
+use Prim.Native.Nat.{ℕ, zero, suc, _*_, _<_, _≤_}
 use native.Mathlib.Nat.{le-refl, mul-le-mul, div-le-of-le-mul}
 use native.Mathlib.Omega.{arith}
 use lib.Dec.{ltb, eqb}
@@ -110,28 +110,14 @@ costs-most setting k = omega (arith, costs-is setting k, cost-weight-most settin
 pub claims-most : (setting k : ℕ) → claimsIn (outgoingsOf setting) k ≤ 1050
 claims-most setting k = omega (arith, claims-is setting k, claims-weight-most setting k)
 
--- settings 5, 6 and 7 shift costs and claims alone: they project as the base does
-pub same-decrements-5 : (b : List ℕ) → decrementsOf b 0 ≡ decrementsOf b 5
-unfolding decrementsOf weightOf mortalityWeight
-same-decrements-5 b = refl
-
-pub same-decrements-6 : (b : List ℕ) → decrementsOf b 0 ≡ decrementsOf b 6
-unfolding decrementsOf weightOf mortalityWeight
-same-decrements-6 b = refl
-
-pub same-decrements-7 : (b : List ℕ) → decrementsOf b 0 ≡ decrementsOf b 7
-unfolding decrementsOf weightOf mortalityWeight
-same-decrements-7 b = refl
-
--- and they settle as the base does from year 5 on
-pub same-outgo-5 : outgoingsOf 0 .later ≡ outgoingsOf 5 .later
-unfolding outgoingsOf weightOf
-same-outgo-5 = refl
-
-pub same-outgo-6 : outgoingsOf 0 .later ≡ outgoingsOf 6 .later
-unfolding outgoingsOf weightOf
-same-outgo-6 = refl
-
-pub same-outgo-7 : outgoingsOf 0 .later ≡ outgoingsOf 7 .later
-unfolding outgoingsOf weightOf
-same-outgo-7 = refl
+-- what holds of each of the eight settings
+pub each-setting : (P : ℕ → Type 0) → P 0 → P 1 → P 2 → P 3 → P 4 → P 5 → P 6 → P 7 → (setting : ℕ) → setting < 8 → P setting
+each-setting P a b c d e f g h zero l = a
+each-setting P a b c d e f g h (suc zero) l = b
+each-setting P a b c d e f g h (suc (suc zero)) l = c
+each-setting P a b c d e f g h (suc (suc (suc zero))) l = d
+each-setting P a b c d e f g h (suc (suc (suc (suc zero)))) l = e
+each-setting P a b c d e f g h (suc (suc (suc (suc (suc zero))))) l = f
+each-setting P a b c d e f g h (suc (suc (suc (suc (suc (suc zero)))))) l = g
+each-setting P a b c d e f g h (suc (suc (suc (suc (suc (suc (suc zero))))))) l = h
+each-setting P a b c d e f g h (suc (suc (suc (suc (suc (suc (suc (suc n)))))))) l = absurd (omega arith)

@@ -1,9 +1,9 @@
 -- The weights of the eight settings, in thousandths (paper, section Settings). Assumes nothing.
 -- Kinds: 0 mortality of men, 1 mortality of women, 2 lapse, 3 costs, 4 claims. A weight of mortality is so much for each percent of it.
-use mathlib.Core.Bool.{Bool}
+use mathlib.Core.Bool.{Bool, _&&_}
 use mathlib.Core.List.{List}
 use mathlib.Core.Path.{_≡_}
-use Prim.Native.Nat.{ℕ, _*_, _/_, _≤_}
+use Prim.Native.Nat.{ℕ, _*_, _/_, _<_, _≤_}
 use lib.Dec.{ltb, eqb}
 use Rattle.field.specs.Verdicts.{pick}
 use Rattle.book.specs.Layout.{edition, percentAt}
@@ -13,6 +13,7 @@ use Rattle.settings.specs.declared.DecrementWeights.{DecrementWeights}
 use Rattle.settings.specs.declared.Decrements.{Decrements}
 use Rattle.settings.specs.declared.OutgoWeights.{OutgoWeights}
 use Rattle.settings.specs.declared.Outgoings.{Outgoings}
+use Rattle.settings.specs.declared.Setting.{Setting}
 use Rattle.settings.specs.declared.Shifts.{Shifts}
 
 -- the base, setting 0: for mortality ten for each percent
@@ -107,9 +108,14 @@ pub record OutgoWeighed (w : Outgoings) : Type 0 where
   pub later-costs : w .later .costs ≤ 1200
   pub later-claims : w .later .claims ≤ 1050
 
--- the column of the weight of mortality that holds in year k of a setting: 0 the base's, 1 of more deaths, 2 of fewer
+-- in year k of a setting the weights of mortality, of men and of women, are those of year 0 of another
+unfoldable pub sameMortality : ℕ → ℕ → ℕ → Bool
+sameMortality setting k other =
+    eqb (weightOf setting 0 k) (weightOf other 0 0) && eqb (weightOf setting 1 k) (weightOf other 1 0)
+
+-- the column of the weights of mortality that hold in year k of a setting: 0 the base's, 1 of more deaths, 2 of fewer
 unfoldable pub livingColumn : ℕ → ℕ → ℕ
-livingColumn setting k = pick (eqb (weightOf setting 0 k) (weightOf 0 0 0)) 0 (pick (eqb (weightOf setting 0 k) (weightOf 1 0 0)) 1 2)
+livingColumn setting k = pick (sameMortality setting k 0) 0 (pick (sameMortality setting k 1) 1 2)
 
 -- the column of the weight of the lapse: 3 the base's, 4 of more lapses, 5 of fewer
 unfoldable pub stayingColumn : ℕ → ℕ → ℕ
@@ -139,3 +145,33 @@ fiveColumns = record {
   morelapses = columnsOf 3;
   fewerlapses = columnsOf 4;
 }
+
+-- the columns of a setting, in first and later years, are those of another
+unfoldable pub sameColumns : Columns → Columns → Bool
+sameColumns c d =
+    eqb (c .firstlives) (d .firstlives)
+    && eqb (c .firststays) (d .firststays)
+    && eqb (c .laterlives) (d .laterlives)
+    && eqb (c .laterstays) (d .laterstays)
+
+-- of the five projections, those of the settings 0 to 4, the first that serves a setting: it has the setting's columns
+unfoldable pub projectionOf : ℕ → ℕ
+projectionOf setting =
+    pick (sameColumns (columnsOf setting) (columnsOf 0)) 0
+    (pick (sameColumns (columnsOf setting) (columnsOf 1)) 1
+    (pick (sameColumns (columnsOf setting) (columnsOf 2)) 2
+    (pick (sameColumns (columnsOf setting) (columnsOf 3)) 3 4)))
+
+-- s is the setting of its number
+pub record SettingOf (s : Setting) : Type 0 where
+  pub known : s .number < 8
+  pub projection-is : s .projection ≡ projectionOf (s .number)
+  pub outgo-is : s .outgo ≡ outgoingsOf (s .number)
+  pub weighed : OutgoWeighed (s .outgo)
+
+-- the later years of a setting are those of another: its projection, its weights of costs and claims
+abbrev pub laterAs : Setting → Setting → Bool
+laterAs s t =
+    eqb (s .projection) (t .projection)
+    && eqb (s .outgo .later .costs) (t .outgo .later .costs)
+    && eqb (s .outgo .later .claims) (t .outgo .later .claims)

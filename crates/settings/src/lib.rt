@@ -6,8 +6,13 @@ ghost use Rattle.book.specs.Reading.{ValidBook};
 ghost use Rattle.settings.specs.Settings.{weightOf, percentOf, mortalityWeight, decrementsAt, outgoAt, outgoingsOf};
 ghost use Rattle.settings.specs.Settings.{livingColumn, stayingColumn, columnsOf, livesIn, staysIn, fiveColumns};
 ghost use Rattle.settings.specs.Settings.{ofSex, costsIn, claimsIn, ShiftsOf, OutgoWeighed};
+ghost use Rattle.settings.specs.Settings.{sameMortality, sameColumns, projectionOf, SettingOf, laterAs};
 
-// The kinds of weight. Mortality has the number of its sex, 0 men, 1 women, and its weight is so much for each percent.
+// The kinds of weight. Mortality has the number of its sex, and its weight is so much for each percent.
+const MEN: usize = 0;
+
+const WOMEN: usize = 1;
+
 const LAPSE: usize = 2;
 
 const COSTS: usize = 3;
@@ -78,7 +83,7 @@ const WEIGHTS: [u64; 80] = [
     1000,
     // 5: costs up
     10,
-    10,
+    10, // women of setting 5 as of the base
     1000,
     1200,
     1000,
@@ -98,7 +103,7 @@ const WEIGHTS: [u64; 80] = [
     10,
     10,
     1000,
-    1000,
+    1000, // the shift of the costs ends
     1000,
     // 7: claims up
     10,
@@ -109,7 +114,7 @@ const WEIGHTS: [u64; 80] = [
     // 7, later years
     10,
     10,
-    1000,
+    1000, // the lapse of setting 7 is the base's in all years
     1000,
     1000,
 ];
@@ -267,19 +272,25 @@ impl Outgoings {
     }
 }
 
-// Of the columns of a chain's rows, the one of what lives on in year k of a setting: that of the weight which holds, 0 the base's, 1 of more deaths,
-// 2 of fewer.
+// Whether in year k of a setting the weights of mortality, of men and of women, are those of year 0 of another.
+fn same_mortality(setting: usize, k: usize, other: usize) -> bool
+    requires { ⌜ (setting < 8) × (other < 8) ⌝ }
+    ensures { λ r. ⌜ r ≡ sameMortality setting k other ⌝ }
+{
+    (weight(setting, MEN, k) == weight(other, MEN, 0))
+        & (weight(setting, WOMEN, k) == weight(other, WOMEN, 0))
+}
+
+// Of the columns of a chain's rows, the one of what lives on in year k of a setting: that of the weights which hold, 0 the
+// base's, 1 of more deaths, 2 of fewer.
 fn living_column(setting: usize, k: usize) -> usize
     requires { ⌜ setting < 8 ⌝ }
     ensures { λ r. ⌜ r ≡ livingColumn setting k ⌝ }
 {
-    let held = weight(setting, 0, k);
-    let base = weight(0, 0, 0);
-    let more = weight(1, 0, 0);
-    if held == base {
+    if same_mortality(setting, k, 0) {
         return 0;
     }
-    if held == more { 1 } else { 2 }
+    if same_mortality(setting, k, 1) { 1 } else { 2 }
 }
 
 // The one of what stays: 3 the base's, 4 of more lapses, 5 of fewer.
@@ -338,9 +349,21 @@ impl Columns {
             self.laterstays
         }
     }
+
+    // Whether these are the columns of a setting.
+    fn are_of(self, setting: usize) -> bool
+        requires { ⌜ setting < 8 ⌝ }
+        ensures { λ r. ⌜ r ≡ sameColumns self (columnsOf setting) ⌝ }
+    {
+        let other = Columns::new(setting);
+        (self.firstlives == other.firstlives)
+            & (self.firststays == other.firststays)
+            & (self.laterlives == other.laterlives)
+            & (self.laterstays == other.laterstays)
+    }
 }
 
-// Those of the five settings that serve all.
+// Those of the five settings whose projections serve all.
 pub struct FiveColumns {
     pub base: Columns,
     pub moredeaths: Columns,
@@ -365,5 +388,56 @@ impl FiveColumns {
             morelapses,
             fewerlapses,
         }
+    }
+}
+
+// Of the five projections, those of the settings 0 to 4, the one that serves a setting: it has the setting's columns.
+pub fn projection_of(setting: usize) -> usize
+    requires { ⌜ setting < 8 ⌝ }
+    ensures { λ r. ⌜ (r ≡ projectionOf setting) × (r < 5) ⌝ }
+{
+    let own = Columns::new(setting);
+    if own.are_of(0) {
+        return 0;
+    }
+    if own.are_of(1) {
+        return 1;
+    }
+    if own.are_of(2) {
+        return 2;
+    }
+    if own.are_of(3) { 3 } else { 4 }
+}
+
+// A setting as the years of a group are valued in it: its number, the projection that serves it, its weights of costs
+// and claims.
+pub struct Setting {
+    pub number: usize,
+    pub projection: usize,
+    pub outgo: Outgoings,
+}
+
+impl Setting {
+    pub fn new(number: usize) -> Setting
+        requires { ⌜ number < 8 ⌝ }
+        ensures { λ r. ⌜ (r .number ≡ number) × SettingOf r ⌝ }
+    {
+        let projection = projection_of(number);
+        let outgo = Outgoings::new(number);
+        Setting {
+            number,
+            projection,
+            outgo,
+        }
+    }
+
+    // Whether its years from k = 5 on are those of another setting: the same projection, and the same weights of costs
+    // and claims.
+    pub fn later_as(self, other: Setting) -> bool
+        ensures { λ r. ⌜ r ≡ laterAs self other ⌝ }
+    {
+        (self.projection == other.projection)
+            & (self.outgo.later.costs == other.outgo.later.costs)
+            & (self.outgo.later.claims == other.outgo.later.claims)
     }
 }

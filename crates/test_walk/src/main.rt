@@ -1,5 +1,6 @@
 // The walk on a stream: each entry is a setting and a chain in eight bytes each, the book's length in four, and the book.
 // A line has how many years the walk of the chain's first cell reckons, or the word none where there is no such cell.
+ghost use Prim.Native.Nat.{_<_};
 use field::Verdict;
 use libc::STDIN_FILENO;
 use libc::STDOUT_FILENO;
@@ -13,8 +14,10 @@ pub enum Years {
 }
 
 // The years of the projection that serves a setting.
-fn years_of(counts: Counts, setting: usize) -> usize {
-    let projection = projection::projection_of(setting);
+fn years_of(counts: Counts, setting: usize) -> usize
+    requires { ⌜ setting < 8 ⌝ }
+{
+    let projection = settings::projection_of(setting);
     if projection == 1 {
         return counts.moredeaths;
     }

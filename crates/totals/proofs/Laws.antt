@@ -1,20 +1,23 @@
--- Laws of sums and differences with a sign, of what the five groups' later years give in a row, and of years that settings share. Assumes nothing.
+-- Laws of sums and differences with a sign, of the eight totals group by group, and of years that settings share. Assumes nothing.
 use mathlib.Core.Path.{_≡_, refl, ap, _∙_}
 use mathlib.Core.List.{List, [], _∷_}
 use mathlib.Core.Bool.{Bool, true, false, cond}
 use Prim.Native.Nat.{ℕ, zero, suc, _+_, _-_, _*_, _<_, _≤_, _^_}
-use native.Mathlib.Nat.{suc-add}
+use mathlib.Core.Logic.{⊎-elim}
+use native.Mathlib.Nat.{suc-add, eq-or-lt-of-le}
 use native.Mathlib.Omega.{arith}
 use native.Mathlib.Numerals.{add-one}
 use lib.Dec.{ltb}
 use lib.IntN.{ℤ, pos, negsuc, negℤ, subℕ, _+ℤ_, _-ℤ_}
-use lib.ListN.{getD}
+use lib.ListN.{length, getD, set, replicate, length-set, getD-replicate, List·getD-eq-default}
+use lib.Seq.{getD-set-same, getD-set-other, ext-getD}
 use lib.Signed.{mag}
 use mir.Syntax.{w64}
 use mir.Val.{toZ, ofZ, hbits}
 use mir.ValLaws.{toZ-ofZ}
-use borrow.Author.Tests.{le-ltb}
+use borrow.Author.Tests.{le-ltb, ltb-true, ltb-false}
 use Rattle.settings.specs.Settings.{decrementsOf, outgoingsOf}
+use Rattle.settings.proofs.Laws.{each-setting}
 use Rattle.years.specs.declared.Amounts.{Amounts}
 use Rattle.settling.proofs.Settling.{liability-is, less-mag}
 use Rattle.years.specs.Outcome.{SettledIn, outgoIn, premiumIn}
@@ -23,7 +26,7 @@ use Rattle.reckoning.specs.Steps.{outgo, countedPremium, discountedOutgo, disco
 use Rattle.reckoning.specs.Portfolio.{termsOf}
 use Rattle.reckoning.specs.Replies.{groupLiability}
 use Rattle.reckoning.specs.Totals.{sumGroups, totalOf, totalsOf}
-use Rattle.totals.specs.Sums.{AllLater, Sizes}
+use Rattle.totals.specs.Sums.{Sum, Sums, Sizes}
 
 sub-mag : (a b m : ℕ) → a ≤ m → b ≤ m → mag (subℕ a b) ≤ m
 sub-mag a b m p q = by (ltb a b) (b - suc a) (a - b) (omega arith) (omega arith)
@@ -50,15 +53,6 @@ minus-mag a b = omega (arith, plus-mag a (negℤ b), neg-mag b)
 pub sum-more : (f : ℕ → ℤ) (n : ℕ) (x y z : ℤ) → x ≡ sumGroups f n → y ≡ f (n + 1) → z ≡ x +ℤ y → z ≡ sumGroups f (n + 1)
 unfolding sumGroups
 sum-more f n x y z ex ey ez = ez ∙ ap (λ (t : ℤ). t +ℤ y) ex ∙ ap (λ (t : ℤ). sumGroups f n +ℤ t) ey ∙ rw (add-one n)
-
-pub five-later : (b : List ℕ) (setting : ℕ) (p q r s t : Amounts) → SettledIn b setting 1 5 50 p → SettledIn b setting 2 5 50 q → SettledIn b setting 3 5 50 r
-    → SettledIn b setting 4 5 50 s → SettledIn b setting 5 5 50 t → AllLater b setting (p ∷ q ∷ r ∷ s ∷ t ∷ [])
-five-later b setting p q r s t hp hq hr hs ht zero h = hp
-five-later b setting p q r s t hp hq hr hs ht (suc zero) h = hq
-five-later b setting p q r s t hp hq hr hs ht (suc (suc zero)) h = hr
-five-later b setting p q r s t hp hq hr hs ht (suc (suc (suc zero))) h = hs
-five-later b setting p q r s t hp hq hr hs ht (suc (suc (suc (suc zero)))) h = ht
-five-later b setting p q r s t hp hq hr hs ht (suc (suc (suc (suc (suc n))))) h = absurd (omega arith)
 
 no-years : (f : ℕ → ℕ) → sumYears rounded 0 f ≡ 0
 unfolding sumYears
@@ -90,20 +84,20 @@ same-from f g h (suc m) = rw (suc-add m 5) (more (m + 5) (omega arith) (same-fro
         → sumYears rounded (suc n) f + sumYears rounded 5 g ≡ sumYears rounded (suc n) g + sumYears rounded 5 f
     more n l e = omega (arith, h n l, e, year-more f n, year-more g n)
 
--- settings with the same projection and the same weights from year 5 on
-module _ (b : List ℕ) (s : ℕ) (same : decrementsOf b 0 ≡ decrementsOf b s) (weights : outgoingsOf 0 .later ≡ outgoingsOf s .later) (g : ℕ) where
-  outgo-same : (k : ℕ) → 5 ≤ k → outgoIn b 0 g k ≡ outgoIn b s g k
+-- settings with the same weights of mortality and lapse, and the same weights of costs and claims from year 5 on
+module _ (b : List ℕ) (o s : ℕ) (same : decrementsOf b o ≡ decrementsOf b s) (weights : outgoingsOf o .later ≡ outgoingsOf s .later) (g : ℕ) where
+  outgo-same : (k : ℕ) → 5 ≤ k → outgoIn b o g k ≡ outgoIn b s g k
   unfolding discountedOutgo outgo termsOf
   outgo-same k h = rw (le-ltb k 5 h, same, weights)
 
-  premium-same : (k : ℕ) → 5 ≤ k → premiumIn b 0 g k ≡ premiumIn b s g k
+  premium-same : (k : ℕ) → 5 ≤ k → premiumIn b o g k ≡ premiumIn b s g k
   unfolding discountedPremium countedPremium outgo termsOf
   premium-same k h = rw (le-ltb k 5 h, same, weights)
 
-  pub later-same : (l : Amounts) → SettledIn b 0 g 5 50 l → SettledIn b s g 5 50 l
+  pub later-same : (l : Amounts) → SettledIn b o g 5 50 l → SettledIn b s g 5 50 l
   later-same l r = record {
-    outgo-is = omega (arith, r .outgo-is, same-from (outgoIn b 0 g) (outgoIn b s g) outgo-same 45);
-    premium-is = omega (arith, r .premium-is, same-from (premiumIn b 0 g) (premiumIn b s g) premium-same 45);
+    outgo-is = omega (arith, r .outgo-is, same-from (outgoIn b o g) (outgoIn b s g) outgo-same 45);
+    premium-is = omega (arith, r .premium-is, same-from (premiumIn b o g) (premiumIn b s g) premium-same 45);
     outgo-most = r .outgo-most;
     premium-most = r .premium-most;
   }
@@ -121,48 +115,70 @@ pub liability-read : (b : List ℕ) (setting g : ℕ) (r : ℤ) → mag r < 2 ^ 
     → Liability b setting g (toZ w64 (ofZ w64 r))
 liability-read b setting g r ok h = rw (read-back r ok) (record { is = h .0; most = h .1 })
 
--- z is the sum of the first n groups' liabilities, and not too large
-pub record Partial (b : List ℕ) (setting n : ℕ) (z : ℤ) : Type 0 where
-  pub is : z ≡ sumGroups (groupLiability b setting) n
-  pub most : mag z ≤ 495_000_000_000_000_001 * n
-
-pub partial-none : (b : List ℕ) (setting : ℕ) → Partial b setting 0 (pos 0)
+pub sum-none : (b : List ℕ) (setting : ℕ) → Sum b setting 0 (pos 0)
 unfolding sumGroups
-partial-none b setting = record { is = refl; most = omega arith }
+sum-none b setting = record { is = refl; most = omega arith }
 
-pub partial-more : (b : List ℕ) (setting n : ℕ) (x y z : ℤ) → mag z < 2 ^ hbits w64 → Partial b setting n x → Liability b setting (n + 1) y
-    → (z ≡ x +ℤ y) × (mag z ≤ mag x + mag y + 1) → Partial b setting (n + 1) (toZ w64 (ofZ w64 z))
-partial-more b setting n x y z ok p l h =
-    rw (read-back z ok) (record { is = sum-more (groupLiability b setting) n x y z (p .is) (l .is) (h .0); most = omega (arith, h .1, p .most, l .most) })
+-- a sum, as it is read from the totals
+pub sum-read : (b : List ℕ) (setting n : ℕ) (z : ℤ) → n ≤ 5 → Sum b setting n z → Sum b setting n (toZ w64 (ofZ w64 z))
+sum-read b setting n z h p = rw (read-back z (omega (arith, p .most))) p
 
--- so two of them can be added
-pub partial-room : (b : List ℕ) (setting n : ℕ) (x y : ℤ) → n ≤ 4 → Partial b setting n x → Liability b setting (n + 1) y → mag x + mag y < 9223372036854775807
-partial-room b setting n x y h p l = omega (arith, p .most, l .most)
+-- a sum with one group more, as it is stored
+pub sum-stored : (b : List ℕ) (setting g : ℕ) (x y z : ℤ) → 1 ≤ g → mag z < 2 ^ hbits w64 → Sum b setting (g - 1) x → Liability b setting g y
+    → (z ≡ x +ℤ y) × (mag z ≤ mag x + mag y + 1) → Sum b setting g (toZ w64 (ofZ w64 z))
+sum-stored b setting g x y z low ok p l h =
+    let e : g - 1 + 1 ≡ g = omega arith in
+    rw (read-back z ok) (record {
+      is = rw e at (sum-more (groupLiability b setting) (g - 1) x y z (p .is) (rw e (l .is)) (h .0));
+      most = omega (arith, h .1, p .most, l .most);
+    })
 
--- z is the total of a setting, and not too large
-pub record Total (b : List ℕ) (setting : ℕ) (z : ℤ) : Type 0 where
-  pub is : z ≡ totalOf b setting
-  pub most : mag z ≤ 2_475_000_000_000_000_005
+-- so both can be added
+pub sum-room : (b : List ℕ) (setting g : ℕ) (x y : ℤ) → 1 ≤ g → g ≤ 5 → Sum b setting (g - 1) x → Liability b setting g y → mag x + mag y < 9223372036854775807
+sum-room b setting g x y low high p l = omega (arith, p .most, l .most)
 
-pub total-read : (b : List ℕ) (setting : ℕ) (r : ℤ) → mag r < 2 ^ hbits w64 → (r ≡ totalOf b setting) × (mag r ≤ 2_475_000_000_000_000_005)
-    → Total b setting (toZ w64 (ofZ w64 r))
-total-read b setting r ok h = rw (read-back r ok) (record { is = h .0; most = h .1 })
+-- no group yet
+pub sums-none : (b : List ℕ) → Sums b 0 (replicate 8 (pos 0))
+sums-none b = record { size = refl; each = λ j h. rw (getD-replicate 8 j (pos 0) (pos 0) h) (sum-none b j) }
 
--- the eight in a row
-pub eight : (b : List ℕ) (z0 z1 z2 z3 z4 z5 z6 z7 : ℤ) → Total b 0 z0 → Total b 1 z1 → Total b 2 z2 → Total b 3 z3 → Total b 4 z4 → Total b 5 z5 → Total b 6 z6 → Total b 7 z7
-    → _≡_ {A = List ℤ} (z0 ∷ z1 ∷ z2 ∷ z3 ∷ z4 ∷ z5 ∷ z6 ∷ z7 ∷ []) (totalsOf b) × Sizes (z0 ∷ z1 ∷ z2 ∷ z3 ∷ z4 ∷ z5 ∷ z6 ∷ z7 ∷ [])
-eight b z0 z1 z2 z3 z4 z5 z6 z7 h0 h1 h2 h3 h4 h5 h6 h7 = (rw (h0 .is, h1 .is, h2 .is, h3 .is, h4 .is, h5 .is, h6 .is, h7 .is), each)
+-- the first j sums have the group, the others not yet
+pub record Growing (b : List ℕ) (g j : ℕ) (totals : List ℤ) : Type 0 where
+  pub size : length totals ≡ 8
+  pub done : (i : ℕ) → i < j → Sum b i g (getD totals i (pos 0))
+  pub due : (i : ℕ) → j ≤ i → i < 8 → Sum b i (g - 1) (getD totals i (pos 0))
+
+pub growing-start : (b : List ℕ) (g : ℕ) (totals : List ℤ) → Sums b (g - 1) totals → Growing b g 0 totals
+growing-start b g totals s = record { size = s .size; done = λ i h. absurd (omega arith); due = λ i l h. s .each i h }
+
+pub growing-more : (b : List ℕ) (g j : ℕ) (totals : List ℤ) (z : ℤ) → j < 8 → Growing b g j totals → Sum b j g z → Growing b g (j + 1) (set totals j z)
+growing-more b g j totals z few s h = record {
+  size = length-set totals j z ∙ s .size;
+  done = λ i l.
+      let le : i ≤ j = omega arith in
+      ⊎-elim (λ (q : i ≡ j). rw (q, getD-set-same totals j z (pos 0) (omega (arith, s .size))) h)
+      (λ (q : i < j). rw (getD-set-other totals j i z (pos 0) (λ e. omega (arith, e))) (s .done i q)) (eq-or-lt-of-le le);
+  due = λ i l u. rw (getD-set-other totals j i z (pos 0) (λ e. omega (arith, e))) (s .due i (omega arith) u);
+}
+
+pub growing-end : (b : List ℕ) (g j : ℕ) (totals : List ℤ) → 8 ≤ j → Growing b g j totals → Sums b g totals
+growing-end b g j totals h s = record { size = s .size; each = λ i l. s .done i (omega arith) }
+
+-- the eight sums over all five groups are the totals
+pub eight : (b : List ℕ) (t : List ℤ) → Sums b 5 t → (t ≡ totalsOf b) × Sizes t
+unfolding totalOf
+eight b t s = (
+  ext-getD (pos 0) t (totalsOf b) (s .size) (λ i h. at i (omega (arith, s .size))),
+  λ j. sizes j (ltb j 8) refl,
+)
   where
-    each : (j : ℕ) → mag (getD (z0 ∷ z1 ∷ z2 ∷ z3 ∷ z4 ∷ z5 ∷ z6 ∷ z7 ∷ []) j (pos 0)) ≤ 2_475_000_000_000_000_005
-    each zero = h0 .most
-    each (suc zero) = h1 .most
-    each (suc (suc zero)) = h2 .most
-    each (suc (suc (suc zero))) = h3 .most
-    each (suc (suc (suc (suc zero)))) = h4 .most
-    each (suc (suc (suc (suc (suc zero))))) = h5 .most
-    each (suc (suc (suc (suc (suc (suc zero)))))) = h6 .most
-    each (suc (suc (suc (suc (suc (suc (suc zero))))))) = h7 .most
-    each (suc (suc (suc (suc (suc (suc (suc (suc n)))))))) = omega arith
+    sizes : (j : ℕ) (low : Bool) → ltb j 8 ≡ low → mag (getD t j (pos 0)) ≤ 2_475_000_000_000_000_005
+    sizes j true e = omega (arith, s .each j (ltb-true j 8 e) .most)
+    sizes j false e = rw (List·getD-eq-default t (pos 0) {n = j} (omega (arith, s .size, ltb-false j 8 e))) (omega arith)
+
+    at : (i : ℕ) → i < 8 → getD t i (pos 0) ≡ getD (totalsOf b) i (pos 0)
+    at = each-setting (λ i. getD t i (pos 0) ≡ getD (totalsOf b) i (pos 0))
+        (s .each 0 (omega arith) .is) (s .each 1 (omega arith) .is) (s .each 2 (omega arith) .is) (s .each 3 (omega arith) .is)
+        (s .each 4 (omega arith) .is) (s .each 5 (omega arith) .is) (s .each 6 (omega arith) .is) (s .each 7 (omega arith) .is)
 
 -- one of them, read from the row
 module _ (b : List ℕ) (t : List ℤ) (h : (t ≡ totalsOf b) × Sizes t) (j : ℕ) where

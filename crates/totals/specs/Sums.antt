@@ -1,27 +1,48 @@
--- The tables of the five product groups, what their later years give, and the size of the eight totals.
+-- The table of a product group, the eight settings, and the eight totals as they grow group by group.
 use mathlib.Core.List.{List}
-use Prim.Native.Nat.{ℕ, _+_, _<_, _≤_}
+use mathlib.Core.Path.{_≡_}
+use Prim.Native.Nat.{ℕ, _*_, _<_, _≤_}
 use lib.IntN.{ℤ, pos}
 use lib.Signed.{mag}
-use lib.ListN.{getD}
+use lib.ListN.{length, getD}
+use Rattle.book.specs.Reading.{ValidBook}
+use Rattle.settings.specs.Settings.{SettingOf}
+use Rattle.settings.specs.declared.OutgoWeights.{OutgoWeights}
+use Rattle.settings.specs.declared.Setting.{Setting}
+use Rattle.reckoning.specs.Replies.{groupLiability}
+use Rattle.reckoning.specs.Totals.{sumGroups}
 use Rattle.projection.specs.Added.{TableOf}
-use Rattle.years.specs.declared.Amounts.{Amounts}
-use Rattle.years.specs.Outcome.{SettledIn}
 
--- p to t are the tables of the product groups 1 to 5
-pub record AllTables (b p q r s t : List ℕ) : Type 0 where
-  pub first : TableOf b 1 p
-  pub second : TableOf b 2 q
-  pub third : TableOf b 3 r
-  pub fourth : TableOf b 4 s
-  pub fifth : TableOf b 5 t
+-- t is the table of product group g of an accepted book
+pub record GroupTable (b : List ℕ) (g : ℕ) (t : List ℕ) : Type 0 where
+  pub valid : ValidBook 1 b
+  pub low : 1 ≤ g
+  pub high : g ≤ 5
+  pub table : TableOf b g t
 
--- what the years from k = 5 on give to product group j + 1 stands at place j
-abbrev pub nothing : Amounts
-nothing = record { premium = 0; outgo = 0 }
+-- the setting of number j stands at place j
+abbrev none : OutgoWeights
+none = record { costs = 0; claims = 0 }
 
-abbrev pub AllLater : List ℕ → ℕ → List Amounts → Type 0
-AllLater b setting later = (j : ℕ) → j < 5 → SettledIn b setting (j + 1) 5 50 (getD later j nothing)
+abbrev pub numbered : List Setting → ℕ → Setting
+numbered settings j = getD settings j (record { number = 0; projection = 0; outgo = record { first = none; later = none } })
+
+pub record Numbered (settings : List Setting) (j : ℕ) : Type 0 where
+  pub number-is : numbered settings j .number ≡ j
+  pub setting-is : SettingOf (numbered settings j)
+
+abbrev pub EightSettings : List Setting → Type 0
+EightSettings settings = (j : ℕ) → j < 8 → Numbered settings j
+
+-- z is the sum of the first n product groups' liabilities in a setting, and not too large
+pub record Sum (b : List ℕ) (setting n : ℕ) (z : ℤ) : Type 0 where
+  pub is : z ≡ sumGroups (groupLiability b setting) n
+  pub most : mag z ≤ 495_000_000_000_000_001 * n
+
+-- the sums of all eight settings
+pub record Sums (b : List ℕ) (n : ℕ) (totals : List ℤ) : Type 0 where
+  pub size : length totals ≡ 8
+  pub each : (j : ℕ) → j < 8 → Sum b j n (getD totals j (pos 0))
 
 -- no total is too large for a difference
 abbrev pub Sizes : List ℤ → Type 0

@@ -1,20 +1,19 @@
 // The call Totals: the eight totals of a book, n over all groups, and four differences.
 ghost use mathlib.Core.Path.{_≡_};
 ghost use mathlib.Core.List.{[]};
-ghost use Prim.Native.Nat.{_+_, _<_, _≤_};
+ghost use Prim.Native.Nat.{_+_, _-_, _<_, _≤_};
 ghost use lib.IntN.{_+ℤ_, _-ℤ_};
 ghost use lib.Signed.{mag};
 ghost use Rattle.field.specs.declared.Verdict.the-variants.{Accepted, Refused};
 ghost use Rattle.book.specs.Reading.{ValidBook};
-ghost use Rattle.settings.specs.Settings.{outgoingsOf, OutgoWeighed};
+ghost use Rattle.settings.specs.Settings.{SettingOf};
 ghost use Rattle.reckoning.specs.Totals.{totalOf, totalsOf, differencesOf, totalsFor, TotalsPromised};
 ghost use Rattle.reckoning.specs.Replies.{groupLiability};
-ghost use Rattle.projection.specs.Added.{TableOf};
 ghost use Rattle.years.specs.Outcome.{CurveOf, SettledIn};
-ghost use Rattle.totals.specs.Sums.{AllTables, AllLater, Sizes};
+ghost use Rattle.totals.specs.Sums.{EightSettings, GroupTable, Sums, Sizes};
 use field::Verdict;
 use reckoning::TotalsReply;
-use settings::Outgoings;
+use settings::Setting;
 use settings::Shifts;
 use years::Amounts;
 
@@ -32,133 +31,89 @@ fn minus(a: i64, b: i64) -> i64
     a - b
 }
 
-// What the years from k = 5 on give to the five product groups, whose tables are p to t. Their weights of costs and claims are the same in every
-// setting.
-fn all_later(
-    book: &[u8],
-    divisors: &[u64; 50],
-    fractions: &[u64; 50],
-    setting: usize,
-    w: Outgoings,
-    p: &[u64; 500],
-    q: &[u64; 500],
-    r: &[u64; 500],
-    s: &[u64; 500],
-    t: &[u64; 500],
-) -> [Amounts; 5]
-    requires { ⌜ (setting < 8) × ValidBook 1 (now book) × AllTables (now book) (now p) (now q) (now r) (now s) (now t) × CurveOf (now book) (now divisors) (now fractions) ⌝ }
-    requires { ⌜ (w ≡ outgoingsOf setting) × OutgoWeighed w ⌝ }
-    ensures { λ a. ⌜ AllLater (now (book .entry)) setting a ⌝ }
+// The eight settings. Each is made from a number, so that the compiler works them out.
+fn eight_settings() -> [Setting; 8]
+    ensures { λ r. ⌜ EightSettings r ⌝ }
 {
     [
-        years::settle_in(book, divisors, fractions, setting, w, 1, p, 5, 50),
-        years::settle_in(book, divisors, fractions, setting, w, 2, q, 5, 50),
-        years::settle_in(book, divisors, fractions, setting, w, 3, r, 5, 50),
-        years::settle_in(book, divisors, fractions, setting, w, 4, s, 5, 50),
-        years::settle_in(book, divisors, fractions, setting, w, 5, t, 5, 50),
+        Setting::new(0),
+        Setting::new(1),
+        Setting::new(2),
+        Setting::new(3),
+        Setting::new(4),
+        Setting::new(5),
+        Setting::new(6),
+        Setting::new(7),
     ]
 }
 
-// The liability of a product group: from its first five years, and from what its later ones give.
+// What the years from k = 5 on give to a product group in a setting. Those of the base are at hand: they serve every
+// setting whose later years are the base's.
+fn later_years(
+    book: &[u8],
+    divisors: &[u64; 50],
+    fractions: &[u64; 50],
+    s: Setting,
+    group: usize,
+    numbers: &[u64; 500],
+    base: Setting,
+    shared: Amounts,
+) -> Amounts
+    requires { ⌜ SettingOf s × SettingOf base × GroupTable (now book) group (now numbers) × CurveOf (now book) (now divisors) (now fractions)
+        × SettledIn (now book) (base .number) group 5 50 shared ⌝ }
+    ensures { λ r. ⌜ SettledIn (now (book .entry)) (s .number) group 5 50 r ⌝ }
+{
+    if s.later_as(base) {
+        return shared;
+    }
+    years::settle_in(book, divisors, fractions, s, group, numbers, 5, 50)
+}
+
+// The liability of a product group in a setting: its first five years, and its later ones.
 fn liability_of(
     book: &[u8],
     divisors: &[u64; 50],
     fractions: &[u64; 50],
-    setting: usize,
-    w: Outgoings,
+    s: Setting,
     group: usize,
     numbers: &[u64; 500],
-    later: Amounts,
+    base: Setting,
+    shared: Amounts,
 ) -> i64
-    requires { ⌜ (setting < 8) × (1 ≤ group) × (group ≤ 5) × ValidBook 1 (now book)
-        × TableOf (now book) group (now numbers) × SettledIn (now book) setting group 5 50 later × CurveOf (now book) (now divisors) (now fractions) ⌝ }
-    requires { ⌜ (w ≡ outgoingsOf setting) × OutgoWeighed w ⌝ }
-    ensures { λ r. ⌜ (r ≡ groupLiability (now (book .entry)) setting group) × (mag r ≤ 495000000000000000) ⌝ }
+    requires { ⌜ SettingOf s × SettingOf base × GroupTable (now book) group (now numbers) × CurveOf (now book) (now divisors) (now fractions)
+        × SettledIn (now book) (base .number) group 5 50 shared ⌝ }
+    ensures { λ r. ⌜ (r ≡ groupLiability (now (book .entry)) (s .number) group) × (mag r ≤ 495000000000000000) ⌝ }
 {
-    let first = years::settle_in(book, divisors, fractions, setting, w, group, numbers, 0, 5);
+    let first = years::settle_in(book, divisors, fractions, s, group, numbers, 0, 5);
+    let later = later_years(book, divisors, fractions, s, group, numbers, base, shared);
     settling::less(first.outgo + later.outgo, first.premium + later.premium)
 }
 
-// The total of a setting: the five groups' liabilities added.
-fn total(
+// Adds a product group's liabilities to the eight totals. The later years of the base are settled once.
+fn add_group(
     book: &[u8],
     divisors: &[u64; 50],
     fractions: &[u64; 50],
-    setting: usize,
-    p: &[u64; 500],
-    q: &[u64; 500],
-    r: &[u64; 500],
-    s: &[u64; 500],
-    t: &[u64; 500],
-    later: [Amounts; 5],
-) -> i64
-    requires { ⌜ (setting < 8) × ValidBook 1 (now book) × AllTables (now book) (now p) (now q) (now r) (now s) (now t) × AllLater (now book) setting later × CurveOf (now book) (now divisors) (now fractions) ⌝ }
-    ensures { λ x. ⌜ (x ≡ totalOf (now (book .entry)) setting) × (mag x ≤ 2475000000000000005) ⌝ }
+    settings: [Setting; 8],
+    group: usize,
+    numbers: &[u64; 500],
+    totals: &mut [i64; 8],
+)
+    requires { ⌜ EightSettings settings × GroupTable (now book) group (now numbers) × CurveOf (now book) (now divisors) (now fractions)
+        × Sums (now book) (group - 1) (now totals) ⌝ }
+    ensures { λ _. ⌜ Sums (now (book .entry)) group (now (totals .exit)) ⌝ }
 {
-    let w = Outgoings::new(setting);
-    let a = later[0];
-    let b = later[1];
-    let c = later[2];
-    let d = later[3];
-    let e = later[4];
-    let one = liability_of(book, divisors, fractions, setting, w, 1, p, a);
-    let two = liability_of(book, divisors, fractions, setting, w, 2, q, b);
-    let three = liability_of(book, divisors, fractions, setting, w, 3, r, c);
-    let four = liability_of(book, divisors, fractions, setting, w, 4, s, d);
-    let five = liability_of(book, divisors, fractions, setting, w, 5, t, e);
-    plus(plus(plus(plus(plus(0, one), two), three), four), five)
+    let base = settings[0];
+    let shared = years::settle_in(book, divisors, fractions, base, group, numbers, 5, 50);
+    for j in 0usize..8 {
+        let s = settings[j];
+        let liability = liability_of(book, divisors, fractions, s, group, numbers, base, shared);
+        totals[j] = plus(totals[j], liability);
+    }
 }
 
-// The total of a setting whose later years no other setting shares.
-fn total_of(
-    book: &[u8],
-    divisors: &[u64; 50],
-    fractions: &[u64; 50],
-    setting: usize,
-    p: &[u64; 500],
-    q: &[u64; 500],
-    r: &[u64; 500],
-    s: &[u64; 500],
-    t: &[u64; 500],
-) -> i64
-    requires { ⌜ (setting < 8) × ValidBook 1 (now book) × AllTables (now book) (now p) (now q) (now r) (now s) (now t) × CurveOf (now book) (now divisors) (now fractions) ⌝ }
-    ensures { λ x. ⌜ (x ≡ totalOf (now (book .entry)) setting) × (mag x ≤ 2475000000000000005) ⌝ }
-{
-    let w = Outgoings::new(setting);
-    let later = all_later(book, divisors, fractions, setting, w, p, q, r, s, t);
-    total(book, divisors, fractions, setting, p, q, r, s, t, later)
-}
-
-// The eight totals. Settings 5, 6 and 7 shift costs and claims alone, and these in the first five years: the base's later years serve them too.
-fn eight_totals(
-    book: &[u8],
-    divisors: &[u64; 50],
-    fractions: &[u64; 50],
-    p: &[u64; 500],
-    q: &[u64; 500],
-    r: &[u64; 500],
-    s: &[u64; 500],
-    t: &[u64; 500],
-) -> [i64; 8]
-    requires { ⌜ ValidBook 1 (now book) × AllTables (now book) (now p) (now q) (now r) (now s) (now t) × CurveOf (now book) (now divisors) (now fractions) ⌝ }
-    ensures { λ a. ⌜ (a ≡ totalsOf (now (book .entry))) × Sizes a ⌝ }
-{
-    let w = Outgoings::new(0);
-    let later = all_later(book, divisors, fractions, 0, w, p, q, r, s, t);
-    [
-        total(book, divisors, fractions, 0, p, q, r, s, t, later),
-        total_of(book, divisors, fractions, 1, p, q, r, s, t),
-        total_of(book, divisors, fractions, 2, p, q, r, s, t),
-        total_of(book, divisors, fractions, 3, p, q, r, s, t),
-        total_of(book, divisors, fractions, 4, p, q, r, s, t),
-        total(book, divisors, fractions, 5, p, q, r, s, t, later),
-        total(book, divisors, fractions, 6, p, q, r, s, t, later),
-        total(book, divisors, fractions, 7, p, q, r, s, t, later),
-    ]
-}
-
-// The same: the curve and the weights are read once for all settings, and the year sums of a product group are made once. All groups work in the same
-// rows.
+// The eight totals, group by group. The curve and the weights are read once for all groups, which work in the same rows
+// and in the same table of sums.
 fn all_totals(book: &[u8]) -> [i64; 8]
     requires { ⌜ ValidBook 1 (now book) ⌝ }
     ensures { λ a. ⌜ (a ≡ totalsOf (now (book .entry))) × Sizes a ⌝ }
@@ -167,18 +122,15 @@ fn all_totals(book: &[u8]) -> [i64; 8]
     let divisors = curve.divisors;
     let fractions = curve.fractions;
     let w = Shifts::new(book);
+    let settings = eight_settings();
     let mut rows = [0u64; 2720];
-    let mut p = [0u64; 500];
-    projection::group_sums(book, w, 1, projection::ALL, &mut rows, &mut p);
-    let mut q = [0u64; 500];
-    projection::group_sums(book, w, 2, projection::ALL, &mut rows, &mut q);
-    let mut r = [0u64; 500];
-    projection::group_sums(book, w, 3, projection::ALL, &mut rows, &mut r);
-    let mut s = [0u64; 500];
-    projection::group_sums(book, w, 4, projection::ALL, &mut rows, &mut s);
-    let mut t = [0u64; 500];
-    projection::group_sums(book, w, 5, projection::ALL, &mut rows, &mut t);
-    eight_totals(book, &divisors, &fractions, &p, &q, &r, &s, &t)
+    let mut totals = [0i64; 8];
+    for group in 1usize..6 {
+        let mut numbers = [0u64; 500];
+        projection::group_sums(book, w, group, projection::ALL, &mut rows, &mut numbers);
+        add_group(book, &divisors, &fractions, settings, group, &numbers, &mut totals);
+    }
+    totals
 }
 
 // The reply of an accepted book.

@@ -16,10 +16,11 @@ use Rattle.cell.specs.States.{cellIn, stateIn, Walkable}
 use Rattle.cell.proofs.Cells.{state-ready, state-start, state-next, premium-is, claims-is}
 use Rattle.walks.specs.Tables.{amountBy, added, late, within, AtMost}
 use Rattle.walks.specs.Ends.{Going}
-use Rattle.walks.specs.Five.{fiveIn, FiveReady, AllInForce, nextFive, tenMore, yearMore}
-use Rattle.walks.specs.Walked.{Reached}
+use Rattle.walks.specs.Five.{fiveIn, startOf, FiveReady, AllInForce, nextFive, tenMore, yearMore}
+use Rattle.walks.specs.Walked.{Reached, WalkedTo}
 use Rattle.walks.specs.declared.Five.{Five}
-use Rattle.walks.proofs.Years.{two-added, amount-premium, amount-claims, added-most, added-rest, added-same, added-join, late-low, late-high}
+use Rattle.walks.specs.declared.Stop.{Stop}
+use Rattle.walks.proofs.Years.{two-added, amount-premium, amount-claims, added-most, added-rest, added-same, added-join, late-low, late-high, late-start, from-start, joined}
 use Rattle.walks.proofs.Ends.{going-start, going-on, each-five}
 use Rattle.walks.proofs.Single.{amount-le, within-other, within-early, within-own}
 
@@ -124,9 +125,29 @@ module _ (t : List ℕ) (r n m k : ℕ) (cells : Five) (u v : List ℕ) (run : R
     ev ∙ rw (run .2 .states) (ten-added t r n k _ (λ j l. late-high (10 * m) _ j (omega (arith, run .0, l))) v u (run .3)),
   )
 
--- a run from number 0 on has no numbers before it
-pub from-start : (f : ℕ → ℕ) (n : ℕ) (u v : List ℕ) → v ≡ added (late 0 f) n u → v ≡ added f n u
-from-start f n u v e = e ∙ added-same (late 0 f) f n u (λ j l. late-high 0 f j (omega arith))
+-- year 0, in which contracts are in force
+module _ (t : List ℕ) (r n : ℕ) (some : 0 < n) where
+  start-in-force : AllInForce (startOf r n)
+  start-in-force = record {
+    base = omega arith;
+    more-deaths = omega arith;
+    fewer-deaths = omega arith;
+    more-lapses = omega arith;
+    fewer-lapses = omega arith;
+  }
+
+  pub first-run : (cells : Five) (u v : List ℕ) → cells ≡ nextFive t 0 (startOf r n) → v ≡ tenMore t 0 (startOf r n) u → Run t r n 0 1 cells u v
+  first-run cells u v ec ev =
+      run-more t r n 0 0 (startOf r n) u u (omega arith, omega arith, reached-start t r n _ refl, late-start _ _ _) (omega arith) start-in-force cells v ec ev
+
+-- one run, and then what comes after it
+pub run-then : (t : List ℕ) (r n m to : ℕ) (cells : Five) (s : Stop) (u v w : List ℕ) → Run t r n 0 m cells u v → WalkedTo t r n m to s v w → WalkedTo t r n 0 to s u w
+run-then t r n m to cells s u v w run e = record {
+  sums = joined _ m (s .k) u v w (e .since) (run .3) (e .sums);
+  since = omega arith;
+  most = e .most;
+  reached = e .reached;
+}
 
 -- f before number m, and nothing from there on
 unfoldable early : ℕ → (ℕ → ℕ) → ℕ → ℕ

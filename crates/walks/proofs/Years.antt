@@ -3,7 +3,7 @@ use mathlib.Core.Path.{_≡_, refl, sym, ap, _∙_}
 use mathlib.Core.Bool.{Bool, true, false}
 use mathlib.Core.Logic.{⊎-elim}
 use mathlib.Core.List.{List, [], _∷_}
-use Prim.Native.Nat.{ℕ, zero, suc, _+_, _-_, _*_, _/_, _%_, _≤_, _<_}
+use Prim.Native.Nat.{ℕ, zero, suc, _+_, _-_, _*_, _/_, _%_, _≤_, _<_, _^_}
 use native.Mathlib.Nat.{eq-or-lt-of-le, le-of-suc-le-suc, add-zero, zero-add, suc-add}
 use native.Mathlib.Omega.{arith}
 use native.Mathlib.Numerals.{add-one}
@@ -14,7 +14,7 @@ use lib.Seq.{getD-set-same, getD-set-other, set-getD, set-comm}
 use Rattle.field.specs.Verdicts.{pick}
 use Rattle.reckoning.specs.Steps.{Cell}
 use Rattle.cell.specs.States.{premiumBy, claimsBy}
-use Rattle.walks.specs.Tables.{amountBy, added, late, twoMore, AtMost}
+use Rattle.walks.specs.Tables.{amountBy, added, late, oneMore, twoMore, AtMost}
 
 pub length-added : (f : ℕ → ℕ) (n : ℕ) (t : List ℕ) → length (added f n t) ≡ length t
 unfolding added
@@ -171,3 +171,22 @@ amount-each P c j p q = by (eqb (j % 2) 0)
     by : (even : Bool) → P (pick even (premiumBy (c (j % 10 / 2)) (j / 10)) (claimsBy (c (j % 10 / 2)) (j / 10)))
     by true = p
     by false = q
+
+-- after one addition every number but its own is as it was, and has room
+pub room : (t u : List ℕ) (j i x y : ℕ) → u ≡ oneMore t j x → (i ≡ j → ⊥) → AtMost 4000000000000000 t → y ≤ 1000000000000 → getD u i 0 + y < 2 ^ 64
+room t u j i x y e o h l = omega (arith, ap (λ (v : List ℕ). getD v i 0) e, getD-set-other t j i (getD t j 0 + x) 0 o, h i)
+
+-- two additions
+pub both : (t u v : List ℕ) (j x y p q : ℕ) → u ≡ oneMore t j x → v ≡ oneMore u (j + 1) y → x ≡ p → y ≡ q → v ≡ twoMore t j p q
+unfolding twoMore
+both t u v j x y p q e f g h = rw (f, e, g, h)
+
+-- runs that follow each other, the first from year 0 on
+pub from-start : (f : ℕ → ℕ) (n : ℕ) (u v : List ℕ) → v ≡ added (late 0 f) n u → v ≡ added f n u
+from-start f n u v e = e ∙ added-same (late 0 f) f n u (λ j l. late-high 0 f j (omega arith))
+
+pub joined : (f : ℕ → ℕ) (m n : ℕ) (u v w : List ℕ) → m ≤ n → v ≡ added (late 0 f) (10 * m) u → w ≡ added (late (10 * m) f) (10 * n) v
+    → w ≡ added (late 0 f) (10 * n) u
+joined f m n u v w h ev ew =
+    ew ∙ ap (added (late (10 * m) f) (10 * n)) (from-start f (10 * m) u v ev)
+    ∙ late-join f (10 * m) (10 * n) u (omega arith) ∙ added-same f (late 0 f) (10 * n) u (λ j l. sym (late-high 0 f j (omega arith)))

@@ -16,6 +16,16 @@ fiveIn t r n k = record {
   fewerlapses = stateIn t r n 4 k;
 }
 
+-- its states in year 0: the same in all five
+abbrev pub startOf : ℕ → ℕ → Five
+startOf r n = record {
+  base = record { row = r; inforce = n * 1_000_000_000 };
+  moredeaths = record { row = r; inforce = n * 1_000_000_000 };
+  fewerdeaths = record { row = r; inforce = n * 1_000_000_000 };
+  morelapses = record { row = r; inforce = n * 1_000_000_000 };
+  fewerlapses = record { row = r; inforce = n * 1_000_000_000 };
+}
+
 -- states that can go on
 pub record FiveReady (t : List ℕ) (c : Five) : Type 0 where
   pub base : Ready t (c .base)
@@ -42,6 +52,15 @@ yearMore t setting k c u = twoMore u (10 * k + 2 * setting) (premiumIn t c) (cla
 unfoldable pub tenMore : List ℕ → ℕ → Five → List ℕ → List ℕ
 tenMore t k c u =
     yearMore t 4 k (c .fewerlapses) (yearMore t 3 k (c .morelapses) (yearMore t 2 k (c .fewerdeaths) (yearMore t 1 k (c .moredeaths) (yearMore t 0 k (c .base) u))))
+
+-- x more at the place of each projection's premium in year 0, and y more at that of its claims
+unfoldable pub fiveTimesMore : List ℕ → ℕ → ℕ → List ℕ
+fiveTimesMore u x y = twoMore (twoMore (twoMore (twoMore (twoMore u 0 x y) 2 x y) 4 x y) 6 x y) 8 x y
+
+-- something is in force with more deaths and with more lapses, which leave the least
+pub record LeastInForce (c : Five) : Type 0 where
+  pub more-deaths : 0 < c .moredeaths .inforce
+  pub more-lapses : 0 < c .morelapses .inforce
 
 -- something is in force in all five
 pub record AllInForce (c : Five) : Type 0 where

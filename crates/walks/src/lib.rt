@@ -8,7 +8,7 @@ ghost use lib.ListN.{getD, set};
 ghost use Rattle.settings.specs.Settings.{columnsOf, fiveColumns};
 ghost use Rattle.cell.specs.States.{cellIn, premiumIn, claimsIn, nextYear, Ready, Walkable};
 ghost use Rattle.walks.specs.Tables.{amountBy, added, chosen, AtMost, twoMore};
-ghost use Rattle.walks.specs.Five.{FiveReady, nextFive, tenMore, AllInForce};
+ghost use Rattle.walks.specs.Five.{FiveReady, startOf, nextFive, tenMore, fiveTimesMore, LeastInForce};
 ghost use Rattle.walks.specs.Walked.{ReachedIn, WalkedIn, Reached, WalkedTo, Walked};
 use cell::Cell;
 use settings::Columns;
@@ -103,23 +103,63 @@ fn year(
     }
 }
 
-// Whether something is in force in all of them.
-fn all(cells: Five) -> bool
-    ensures { λ r. ⌜ (r ≡ true → AllInForce cells) ⌝ }
+// Adds x to number j of the table, and y to the next.
+fn add_two(sums: &mut [u64; 500], j: usize, x: u64, y: u64)
+    requires { ⌜ (j < 499) × (x ≤ 1000000000000) × (y ≤ 1000000000000) × AtMost 4000000000000000 (now sums) ⌝ }
+    ensures { λ _. ⌜ now (sums .exit) ≡ twoMore (now (sums .entry)) j x y ⌝ }
 {
-    if cells.base.inforce == 0 {
-        return false;
+    add_at(sums, j, x);
+    add_at(sums, j + 1, y);
+}
+
+// Adds premium and claims to year 0 of each of the five.
+fn add_year_0(sums: &mut [u64; 500], premium: u64, claims: u64)
+    requires { ⌜ (premium ≤ 1000000000000) × (claims ≤ 1000000000000) × AtMost 2000000000000000 (now sums) ⌝ }
+    ensures { λ _. ⌜ now (sums .exit) ≡ fiveTimesMore (now (sums .entry)) premium claims ⌝ }
+{
+    add_two(sums, 0, premium, claims);
+    add_two(sums, 2, premium, claims);
+    add_two(sums, 4, premium, claims);
+    add_two(sums, 6, premium, claims);
+    add_two(sums, 8, premium, claims);
+}
+
+// Year 0 of all five. A whole number of contracts is in force, so premium and claims are so many times those of one: no
+// share of them is taken.
+fn year_0(
+    rows: &[u64; 2720],
+    own: usize,
+    count: u64,
+    columns: FiveColumns,
+    sums: &mut [u64; 500],
+) -> Five
+    requires { ⌜ Walkable (now rows) own count × AtMost 2000000000000000 (now sums) × (columns ≡ fiveColumns) ⌝ }
+    ensures { λ r. ⌜ (r ≡ nextFive (now (rows .entry)) 0 (startOf own count))
+        × (now (sums .exit) ≡ tenMore (now (rows .entry)) 0 (startOf own count) (now (sums .entry))) ⌝ }
+{
+    let premium = count * rows[16 * own + 6 + 8];
+    let claims = count * rows[16 * own + 7 + 8];
+    add_year_0(sums, premium, claims);
+    let cell = Cell::new(own, count);
+    let base = cell.next_year(rows, columns.base, 0);
+    let moredeaths = cell.next_year(rows, columns.moredeaths, 0);
+    let fewerdeaths = cell.next_year(rows, columns.fewerdeaths, 0);
+    let morelapses = cell.next_year(rows, columns.morelapses, 0);
+    let fewerlapses = cell.next_year(rows, columns.fewerlapses, 0);
+    Five {
+        base,
+        moredeaths,
+        fewerdeaths,
+        morelapses,
+        fewerlapses,
     }
-    if cells.moredeaths.inforce == 0 {
-        return false;
-    }
-    if cells.fewerdeaths.inforce == 0 {
-        return false;
-    }
-    if cells.morelapses.inforce == 0 {
-        return false;
-    }
-    0 < cells.fewerlapses.inforce
+}
+
+// Whether something is in force in the two that leave the least, with more deaths and with more lapses: then it is in all.
+fn all(cells: Five) -> bool
+    ensures { λ r. ⌜ (r ≡ true → LeastInForce cells) ⌝ }
+{
+    0 < cells.moredeaths.inforce && 0 < cells.morelapses.inforce
 }
 
 // Where the years of all five stop: a year, and the states in it.
@@ -153,7 +193,8 @@ fn together(
     Stop { k, cells }
 }
 
-// The same from year 0 on. The first five years have a loop of their own: in the later ones one set of weights holds.
+// The same from year 0 on, which has a rule of its own. The first five years have a loop of their own: in the later ones
+// one set of weights holds.
 fn side_by_side(
     rows: &[u64; 2720],
     own: usize,
@@ -172,11 +213,15 @@ fn side_by_side(
         morelapses: cell,
         fewerlapses: cell,
     };
-    let first = together(rows, own, count, columns, start, 0, 5, sums);
-    if first.k < 5 {
-        return first;
+    if count == 0 {
+        return Stop { k: 0, cells: start };
     }
-    together(rows, own, count, columns, first.cells, 5, 50, sums)
+    let next = year_0(rows, own, count, columns, sums);
+    let mut stop = together(rows, own, count, columns, next, 1, 5, sums);
+    if stop.k == 5 {
+        stop = together(rows, own, count, columns, stop.cells, 5, 50, sums);
+    }
+    stop
 }
 
 // How many years each of the five has something in force.
@@ -278,7 +323,7 @@ pub fn walk_by(
     which: usize,
     sums: &mut [u64; 500],
 )
-    requires { ⌜ Walkable (now rows) own count × (which ≤ 5) × AtMost 2000000000000000 (now sums) × (five ≡ fiveColumns) × (one ≡ columnsOf which) ⌝ }
+    requires { ⌜ Walkable (now rows) own count × (which ≤ 5) × AtMost 2000000000000000 (now sums) × (five ≡ fiveColumns) × (which < 5 → one ≡ columnsOf which) ⌝ }
     ensures { λ _. ⌜ now (sums .exit) ≡ added (chosen which (amountBy (cellIn (now (rows .entry)) own count))) 500 (now (sums .entry)) ⌝ }
 {
     if which == ALL {

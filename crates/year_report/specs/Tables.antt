@@ -4,7 +4,8 @@ use mathlib.Core.Path.{_≡_}
 use Prim.Native.Nat.{ℕ, _+_, _*_, _<_, _≤_}
 use lib.ListN.{getD}
 use Rattle.book.specs.Reading.{ValidBook}
-use Rattle.settings.specs.Settings.{ShiftsOf, decrementsOf}
+use Rattle.settings.specs.Settings.{ShiftsOf, SettingOf, decrementsOf}
+use Rattle.settings.specs.declared.Setting.{Setting}
 use Rattle.settings.specs.declared.Shifts.{Shifts}
 use Rattle.reckoning.specs.Arithmetic.{rounded}
 use Rattle.reckoning.specs.Steps.{outgo, countedPremium}
@@ -16,8 +17,8 @@ use Rattle.year_report.specs.declared.YearTable.{YearTable}
 use Rattle.year_report.specs.declared.Measured.{Measured}
 
 -- what settling one product group of an accepted book asks: the weights w are the book's
-pub record Asked (b : List ℕ) (setting : ℕ) (w : Shifts) (g : ℕ) : Type 0 where
-  pub setting-is : setting < 8
+pub record Asked (b : List ℕ) (s : Setting) (w : Shifts) (g : ℕ) : Type 0 where
+  pub setting-is : SettingOf s
   pub lo : 1 ≤ g
   pub hi : g ≤ 5
   pub book : ValidBook 1 b

@@ -7,6 +7,7 @@ ghost use Rattle.text.specs.Text.{Wrote};
 ghost use Rattle.year_report.specs.Report.{reportCheck, ReportPromised, RoomPromised};
 ghost use Rattle.year_report.specs.Tables.{Asked, Years, Measures, reportFrom};
 use field::Verdict;
+use settings::Setting;
 use settings::Shifts;
 
 // What both calls answer: the length written or the buffer wanted, or the refusal and its place.
@@ -31,16 +32,15 @@ struct YearTable {
     numbers: [u64; 200],
 }
 
-fn year_table(book: &[u8], setting: usize, w: Shifts, group: usize) -> YearTable
-    requires { ⌜ Asked (now book) setting w group ⌝ }
-    ensures { λ r. ⌜ Years (now (book .entry)) setting group (r .numbers) ⌝ }
+fn year_table(book: &[u8], s: Setting, w: Shifts, group: usize) -> YearTable
+    requires { ⌜ Asked (now book) s w group ⌝ }
+    ensures { λ r. ⌜ Years (now (book .entry)) (s .number) group (r .numbers) ⌝ }
 {
     let mut rows = [0u64; 2720];
     let mut sums = [0u64; 500];
-    let projection = projection::projection_of(setting);
-    projection::group_sums(book, w, group, projection, &mut rows, &mut sums);
+    projection::group_sums(book, w, group, s.projection, &mut rows, &mut sums);
     let mut numbers = [0u64; 200];
-    years::settle(book, setting, group, &sums, &mut numbers);
+    years::settle(book, s, group, &sums, &mut numbers);
     YearTable { numbers }
 }
 
@@ -54,13 +54,14 @@ fn measured_years(book: &[u8], setting: usize) -> Measured
     requires { ⌜ (setting < 8) × ValidBook 1 (now book) ⌝ }
     ensures { λ r. ⌜ Measures (now (book .entry)) setting r ⌝ }
 {
+    let s = Setting::new(setting);
     let w = Shifts::new(book);
     let mut years = Measured {
         tables: [YearTable { numbers: [0; 200] }; 5],
         bytes: 25,
     };
     for j in 0usize..5 {
-        let table = year_table(book, setting, w, j + 1);
+        let table = year_table(book, s, w, j + 1);
         let numbers = table.numbers;
         years.bytes = years.bytes + sheet::lines_length(j as u64 + 1, numbers);
         years.tables[j] = table;

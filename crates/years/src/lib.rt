@@ -4,10 +4,10 @@ ghost use mathlib.Core.Path.{_≡_};
 ghost use Prim.Native.Nat.{_<_, _≤_};
 ghost use lib.ListN.{length};
 ghost use Rattle.book.specs.Reading.{ValidBook};
-ghost use Rattle.settings.specs.Settings.{outgoingsOf, OutgoWeighed};
-ghost use Rattle.projection.specs.Added.{TableIn, projectionOf};
+ghost use Rattle.settings.specs.Settings.{projectionOf, SettingOf};
+ghost use Rattle.projection.specs.Added.{TableIn};
 ghost use Rattle.years.specs.Outcome.{CurveOf, Undiscounted, NoneFrom, Settled, SettledIn};
-use settings::Outgoings;
+use settings::Setting;
 use settling::Year;
 
 // The divisor of each year, and the fraction by which an amount goes a year back: the divisions, made once for all groups and settings.
@@ -40,22 +40,22 @@ struct Years {
     outgo: [u64; 50],
 }
 
-// The years from `from` to before `to`, before discounting, at the weights of the setting: whoever settles many groups makes them once.
+// The years from `from` to before `to`, before discounting, in a setting: whoever settles many groups makes it once.
 fn undiscounted(
     book: &[u8],
-    setting: usize,
-    w: Outgoings,
+    s: Setting,
     group: usize,
     numbers: &[u64; 500],
     from: usize,
     to: usize,
 ) -> Years
-    requires { ⌜ (setting < 8) × (1 ≤ group) × (group ≤ 5) × (from ≤ to) × (to ≤ 50) × ValidBook 1 (now book) × TableIn (now book) (projectionOf setting) group (now numbers) ⌝ }
-    requires { ⌜ (w ≡ outgoingsOf setting) × OutgoWeighed w ⌝ }
-    ensures { λ r. ⌜ Undiscounted (now (book .entry)) setting group from to (r .premium) (r .outgo) ⌝ }
+    requires { ⌜ SettingOf s × (1 ≤ group) × (group ≤ 5) × (from ≤ to) × (to ≤ 50) × ValidBook 1 (now book) × TableIn (now book) (projectionOf (s .number)) group (now numbers) ⌝ }
+    ensures { λ r. ⌜ Undiscounted (now (book .entry)) (s .number) group from to (r .premium) (r .outgo) ⌝ }
 {
+    let setting = s.number;
+    let projection = s.projection;
     let rate = settling::cost_rate_of(book, group);
-    let projection = projection::projection_of(setting);
+    let w = s.outgo;
     let mut premium = [0u64; 50];
     let mut outgo = [0u64; 50];
     for k in from..to {
@@ -71,19 +71,19 @@ fn undiscounted(
 // The liability of a product group from its year sums; the first 200 numbers of the table become the fifty years'.
 pub fn settle(
     book: &[u8],
-    setting: usize,
+    s: Setting,
     group: usize,
     numbers: &[u64; 500],
     table: &mut [u64],
 ) -> i64
-    requires { ⌜ (setting < 8) × (1 ≤ group) × (group ≤ 5) × (200 ≤ length (now table)) × ValidBook 1 (now book) × TableIn (now book) (projectionOf setting) group (now numbers) ⌝ }
-    ensures { λ r. ⌜ Settled (now (book .entry)) setting group (now (table .entry)) (now (table .exit)) r ⌝ }
+    requires { ⌜ SettingOf s × (1 ≤ group) × (group ≤ 5) × (200 ≤ length (now table)) × ValidBook 1 (now book) × TableIn (now book) (projectionOf (s .number)) group (now numbers) ⌝ }
+    ensures { λ r. ⌜ Settled (now (book .entry)) (s .number) group (now (table .entry)) (now (table .exit)) r ⌝ }
 {
     let curve = curve_of(book);
     let divisors = curve.divisors;
     let fractions = curve.fractions;
-    let w = Outgoings::new(setting);
-    let years = undiscounted(book, setting, w, group, numbers, 0, 50);
+    let setting = s.number;
+    let years = undiscounted(book, s, group, numbers, 0, 50);
     let due = years.premium;
     let spent = years.outgo;
     let mut premium = due;
@@ -128,19 +128,18 @@ pub fn settle_in(
     book: &[u8],
     divisors: &[u64; 50],
     fractions: &[u64; 50],
-    setting: usize,
-    w: Outgoings,
+    s: Setting,
     group: usize,
     numbers: &[u64; 500],
     from: usize,
     to: usize,
 ) -> Amounts
-    requires { ⌜ (setting < 8) × (1 ≤ group) × (group ≤ 5) × (from ≤ to) × (to ≤ 50) × ValidBook 1 (now book) × TableIn (now book) (projectionOf setting) group (now numbers) ⌝ }
-    requires { ⌜ (w ≡ outgoingsOf setting) × OutgoWeighed w ⌝ }
+    requires { ⌜ SettingOf s × (1 ≤ group) × (group ≤ 5) × (from ≤ to) × (to ≤ 50) × ValidBook 1 (now book) × TableIn (now book) (projectionOf (s .number)) group (now numbers) ⌝ }
     requires { ⌜ CurveOf (now book) (now divisors) (now fractions) ⌝ }
-    ensures { λ r. ⌜ SettledIn (now (book .entry)) setting group from to r ⌝ }
+    ensures { λ r. ⌜ SettledIn (now (book .entry)) (s .number) group from to r ⌝ }
 {
-    let years = undiscounted(book, setting, w, group, numbers, from, to);
+    let setting = s.number;
+    let years = undiscounted(book, s, group, numbers, from, to);
     let mut premium = years.premium;
     let mut outgo = years.outgo;
     let end = end_of(&premium, &outgo, from, to);

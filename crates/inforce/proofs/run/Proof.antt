@@ -57,8 +57,8 @@ loop-holds c =
       refl,
     )
 
-next-year-requires : tie.Need-next-year-requires Inv-loop μ-loop
-next-year-requires c κs =
+year-later-requires : tie.Need-year-later-requires Inv-loop μ-loop
+year-later-requires c κs =
     let m = c .before .before in
     let low = held-low _ (m .loop .k) _ (m .before .before .before .before .before .before .new .ensures) in
     (rw (m .loop .inv .2) (state-ready _ _ _ _ (m .loop .inv .1) (m .loop .k) (c .before .loop-test .taken)), low .0, low .1)
@@ -79,7 +79,7 @@ loop-again c =
     let l = m .loop in (
       omega arith,
       l .inv .1,
-      next-held (m .before .before .before .before .before .before .before .before .before .args .setting) (l .k) _ (m .before .before .before .before .before .before .new .ensures) (m .before .before .before .read-rows .last .1 .1 .1 .1 .0) (l .cell) _ (c .next-year .ensures) ∙ rw (l .inv .2) (state-next _ _ _ _ (l .k)),
+      next-held (m .before .before .before .before .before .before .before .before .before .args .setting) (l .k) _ (m .before .before .before .before .before .before .new .ensures) (m .before .before .before .read-rows .last .1 .1 .1 .1 .0) (l .cell) _ (c .year-later .ensures) ∙ rw (l .inv .2) (state-next _ _ _ _ (l .k)),
       years-more _ (l .k) _ (l .out) _ _ (omega (arith, m .before .before .before .before .before .before .before .before .before .pre .4, c .before .before .loop-test .taken)) (l .inv .3) refl
           (ap (λ (x : Cell). x .inforce) (l .inv .2) ∙ inforce-is _ _ _ _ (l .k)),
     )
@@ -101,5 +101,5 @@ returns c =
 pub run-spec : {M : Type 1} → statement M
 run-spec =
     tie.close
-    (tie.spec Inv-loop μ-loop new-requires new-requires-2 read-rows-requires field-of-requires new-requires-3 loop-holds next-year-requires mul-out slice-write-out
+    (tie.spec Inv-loop μ-loop new-requires new-requires-2 read-rows-requires field-of-requires new-requires-3 loop-holds year-later-requires mul-out slice-write-out
     (λ c. omega arith) (λ c. omega arith) loop-again same-length returns)

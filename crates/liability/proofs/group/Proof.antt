@@ -11,7 +11,7 @@ use Rattle.reckoning.specs.Replies.{groupLiability, groupReply, groupTable}
 use Rattle.reckoning.specs.declared.GroupReply.the-variants.{Reckoned}
 use Rattle.reckoning.proofs.Accepted.{group-setting, group-table, group-range, group-valid}
 use Rattle.reckoning.proofs.Promised.{promised}
-use Rattle.projection.proofs.Serving.{projection-low}
+use Rattle.settings.proofs.Serving.{projection-low}
 use Rattle.liability.proofs.group.Statement.{statement}
 use Rattle.liability.proofs.group.Tie as tie
 
@@ -23,6 +23,11 @@ returns c =
 
 new-requires : tie.Need-new-requires
 new-requires c κs =
+    let e = sym (c .before .before .check-group .ensures) ∙ c .enum-told .given .1 in
+    omega (arith, group-setting _ _ _ _ _ e)
+
+new-requires-2 : tie.Need-new-requires-2
+new-requires-2 c κs =
     let e = sym (c .before .before .before .check-group .ensures) ∙ c .before .enum-told .given .1 in
     group-valid _ _ _ _ _ e
 
@@ -30,13 +35,15 @@ group-sums-requires : tie.Need-group-sums-requires
 group-sums-requires c κs =
     let m = c .before .before .before .before in
     let e = sym (m .before .before .check-group .ensures) ∙ m .enum-told .given .1 in
-    (c .before .before .new .ensures, group-valid _ _ _ _ _ e, group-range _ _ _ _ _ e .0, group-range _ _ _ _ _ e .1, omega (arith, c .before .before .before .projection-of .ensures .1), refl)
+    let s = c .before .before .before .new .ensures .1 in
+    (c .before .before .new2 .ensures, group-valid _ _ _ _ _ e, group-range _ _ _ _ _ e .0, group-range _ _ _ _ _ e .1, omega (arith, s .projection-is, projection-low (c .before .before .before .new .result .number)), refl)
 
 settle-requires : tie.Need-settle-requires
 settle-requires c κs =
     let m = c .before .before .before .before .before .before .before in
     let e = sym (m .before .before .check-group .ensures) ∙ m .enum-told .given .1 in
-    (omega (arith, group-setting _ _ _ _ _ e), group-range _ _ _ _ _ e .0, group-range _ _ _ _ _ e .1, group-table _ _ _ _ _ e, group-valid _ _ _ _ _ e, c .before .before .group-sums .ensures .table _ (projection-low _) (inr (c .before .before .before .before .before .before .projection-of .ensures .0)))
+    let s = c .before .before .before .before .before .before .new .ensures .1 in
+    (s, group-range _ _ _ _ _ e .0, group-range _ _ _ _ _ e .1, group-table _ _ _ _ _ e, group-valid _ _ _ _ _ e, c .before .before .group-sums .ensures .table _ (projection-low _) (inr (s .projection-is)))
 
 returns-2 : tie.Need-returns-2
 unfolding groupReply groupTable
@@ -48,11 +55,12 @@ returns-2 c =
     let g = a .group in
     let e = sym (m .before .before .check-group .ensures) ∙ m .enum-told .given .1 in
     let s = c .before .before .settle in
-    let l = toZ-ofZ w64 (s .result) (record { sfits = s .ok }) ∙ s .ensures .liability-is in
+    let own = c .before .before .before .before .before .before .before .before .before .new .ensures .0 in
+    let l = toZ-ofZ w64 (s .result) (record { sfits = s .ok }) ∙ rw own at (s .ensures .liability-is) in
     let n = c .before .before .before .before .before .group-sums .ensures .n-is in
-    promised _ _ _ _ _ _ (rw (e, l) (ap (λ (m : ℕ). Reckoned (groupLiability b setting g) m) n)) (rw e (s .ensures .table-is))
+    promised _ _ _ _ _ _ (rw (e, l) (ap (λ (m : ℕ). Reckoned (groupLiability b setting g) m) n)) (rw e (rw own at (s .ensures .table-is)))
 
 pub group-spec : {M : Type 1} → statement M
 group-spec =
     tie.close
-    (tie.spec (search needs) (search needs) returns (search needs) (search needs) new-requires group-sums-requires settle-requires (search needs) returns-2)
+    (tie.spec (search needs) (search needs) returns (search needs) new-requires new-requires-2 group-sums-requires settle-requires (search needs) returns-2)

@@ -103,7 +103,7 @@ field-of-requires c κs = (inside c, omega arith)
 walk-by-requires : tie.Need-walk-by-requires Inv-loop μ-loop
 walk-by-requires c κs =
     let m = c .before .before in
-    (walkable m _ (c .before .field-of .ensures .0), start m .pre .3, λ j. omega (arith, m .loop .inv .5 .1 j, few-left m), m .before .before .before .new .ensures, m .before .before .new2 .ensures)
+    (walkable m _ (c .before .field-of .ensures .0), start m .pre .3, λ j. omega (arith, m .loop .inv .5 .1 j, few-left m), m .before .before .before .new .ensures, m .before .before .columns-in .ensures)
 
 holds-requires : tie.Need-holds-requires Inv-loop μ-loop
 holds-requires c κs = inside (c .before .before .before)
@@ -144,5 +144,5 @@ loop-again c =
 pub add-cells-spec : {M : Type 1} → statement M
 add-cells-spec =
     tie.close
-    (tie.spec Inv-loop μ-loop (λ c κs. tt) (λ c κs. omega (arith, c .before .before .pre .3)) class-of-requires sub-above loop-holds field-of-requires walk-by-requires holds-requires (λ c. omega arith) returns
+    (tie.spec Inv-loop μ-loop (λ c κs. tt) (λ c κs. c .before .before .pre .3) class-of-requires sub-above loop-holds field-of-requires walk-by-requires holds-requires (λ c. omega arith) returns
     next-of-requires (λ c. omega arith) (λ c. omega arith) (λ c. omega arith) loop-again)

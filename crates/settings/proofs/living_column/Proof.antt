@@ -1,28 +1,26 @@
 -- `settings::living_column` meets its contract: the tests on the weights pick as the definition does. Assumes nothing.
+use mathlib.Core.Path.{sym, _∙_}
 use native.Mathlib.Omega.{arith}
 use borrow.Author.Needs.{needs}
-use borrow.Author.Tests.{eq-eqb, ne-eqb}
 use Rattle.settings.specs.Settings.{livingColumn}
 use Rattle.settings.proofs.living_column.Statement.{statement}
 use Rattle.settings.proofs.living_column.Tie as tie
 
 returns : tie.Need-returns
 unfolding livingColumn
-returns c =
-    let m = c .before in
-    rw (← m .before .before .weight .ensures .0, ← m .before .weight2 .ensures .0, ← m .weight3 .ensures .0, eq-eqb _ _ (c .if1 .taken))
+returns c = rw (sym (c .before .same-mortality .ensures) ∙ c .if1 .taken)
 
 returns-2 : tie.Need-returns-2
 unfolding livingColumn
 returns-2 c =
     let m = c .before .before in
-    rw (← m .before .before .weight .ensures .0, ← m .before .weight2 .ensures .0, ← m .weight3 .ensures .0, ne-eqb _ _ (c .before .if1 .left), eq-eqb _ _ (c .if2 .taken))
+    rw (sym (m .before .same-mortality .ensures) ∙ m .if1 .left, sym (c .before .same-mortality2 .ensures) ∙ c .if2 .taken)
 
 returns-3 : tie.Need-returns-3
 unfolding livingColumn
 returns-3 c =
     let m = c .before .before in
-    rw (← m .before .before .weight .ensures .0, ← m .before .weight2 .ensures .0, ← m .weight3 .ensures .0, ne-eqb _ _ (c .before .if1 .left), ne-eqb _ _ (c .if2 .left))
+    rw (sym (m .before .same-mortality .ensures) ∙ m .if1 .left, sym (c .before .same-mortality2 .ensures) ∙ c .if2 .left)
 
 pub living-column-spec : {M : Type 1} → statement M
-living-column-spec = tie.close (tie.spec (search needs) (search needs) (search needs) returns returns-2 returns-3)
+living-column-spec = tie.close (tie.spec (λ c κs. (c .pre, omega arith)) returns (λ c κs. (c .before .before .pre, omega arith)) returns-2 returns-3)

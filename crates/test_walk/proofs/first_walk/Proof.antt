@@ -55,8 +55,11 @@ walk-requires c κs =
       c .before .new2 .ensures,
     )
 
+years-of-requires : tie.Need-years-of-requires
+years-of-requires c κs = omega (arith, c .before .before .before .before .before .before .before .before .before .before .before .before .before .before .if1 .left)
+
 pub first-walk-spec : {M : Type 1} → statement M
 first-walk-spec =
     tie.close
     (tie.spec (search needs) (search needs) (search needs) (search needs) (search needs) (search needs) head-of-requires (search needs)
-    new-requires read-rows-requires field-of-requires (λ c κs. tt) walk-requires (search needs) (search needs))
+    new-requires read-rows-requires field-of-requires (λ c κs. tt) walk-requires years-of-requires (search needs))

@@ -1,19 +1,14 @@
--- `walks::all` meets its contract: each of the five is asked. Assumes nothing.
-use mathlib.Core.Bool.{true≢false}
-use mathlib.Core.Path.{_≡_, sym}
+-- `walks::all` meets its contract: each of the two is asked. Assumes nothing.
 use native.Mathlib.Omega.{arith}
 use borrow.Author.Tests.{ltb-true}
 use Rattle.walks.proofs.all.Statement.{statement}
 use Rattle.walks.proofs.all.Tie as tie
 
-returns-5 : tie.Need-returns-5
-returns-5 c = λ e. record {
-  base = omega (arith, c .before .before .before .before .before .before .before .if1 .left);
-  more-deaths = omega (arith, c .before .before .before .before .before .if2 .left);
-  fewer-deaths = omega (arith, c .before .before .before .if3 .left);
-  more-lapses = omega (arith, c .before .if4 .left);
-  fewer-lapses = ltb-true 0 _ e;
-}
+returns : tie.Need-returns
+returns c = λ e. record { more-deaths = c .before .if1 .taken; more-lapses = ltb-true 0 _ e }
+
+returns-2 : tie.Need-returns-2
+returns-2 c e = absurd (omega (arith, ltb-true 0 (c .before .before .args .cells .moredeaths .inforce) e, c .if1 .left))
 
 pub all-spec : {M : Type 1} → statement M
-all-spec = tie.close (tie.spec (λ c e. absurd (true≢false (sym e))) (λ c e. absurd (true≢false (sym e))) (λ c e. absurd (true≢false (sym e))) (λ c e. absurd (true≢false (sym e))) returns-5)
+all-spec = tie.close (tie.spec returns returns-2)

@@ -1,13 +1,9 @@
 -- `walks::one_year` meets its contract: two additions, and the state a year later. Assumes nothing.
-use mathlib.Core.Path.{_≡_, ap, _∙_}
-use mathlib.Core.List.{List}
-use Prim.Native.Nat.{ℕ, _+_, _*_, _≤_, _<_, _^_}
+use Prim.Native.Nat.{_+_, _*_}
 use native.Mathlib.Omega.{arith}
 use borrow.Author.Needs.{needs}
-use lib.ListN.{getD, set}
-use lib.Seq.{getD-set-other}
 use Rattle.cell.proofs.Cells.{premium-in-le, claims-in-le, held-low, next-held}
-use Rattle.walks.specs.Tables.{AtMost, oneMore, twoMore}
+use Rattle.walks.proofs.Years.{room, both}
 use Rattle.walks.proofs.one_year.Statement.{statement}
 use Rattle.walks.proofs.one_year.Tie as tie
 
@@ -16,19 +12,10 @@ add-at-requires c κs =
     let a = c .before .before in
     (omega (arith, a .pre .1, a .pre .2), omega (arith, a .pre .3 (10 * a .args .k + 2 * a .args .setting), c .premium .ensures, premium-in-le _ _ (a .pre .0)))
 
--- after the first addition every number but its own is as it was, and has room
-room : (t u : List ℕ) (j i x y : ℕ) → u ≡ oneMore t j x → (i ≡ j → ⊥) → AtMost 4000000000000000 t → y ≤ 1000000000000 → getD u i 0 + y < 2 ^ 64
-room t u j i x y e o h l = omega (arith, ap (λ (v : List ℕ). getD v i 0) e, getD-set-other t j i (getD t j 0 + x) 0 o, h i)
-
 add-at-requires-2 : tie.Need-add-at-requires-2
 add-at-requires-2 c κs =
     let a = c .before .before .before .before .before in
     (omega (arith, a .pre .1, a .pre .2), room (a .args .sums .now) _ (10 * a .args .k + 2 * a .args .setting) _ (c .before .before .before .premium .result) _ (c .before .before .add-at .ensures) (λ q. omega (arith, q)) (a .pre .3) (omega (arith, c .claims .ensures, claims-in-le _ _ (a .pre .0))))
-
--- the two additions
-both : (t u v : List ℕ) (j x y p q : ℕ) → u ≡ oneMore t j x → v ≡ oneMore u (j + 1) y → x ≡ p → y ≡ q → v ≡ twoMore t j p q
-unfolding twoMore
-both t u v j x y p q e f g h = rw (f, e, g, h)
 
 next-year-requires : tie.Need-next-year-requires
 next-year-requires c κs =

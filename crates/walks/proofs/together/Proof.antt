@@ -4,6 +4,7 @@ use Prim.Native.Nat.{ℕ, _-_, _≤_, _<_}
 use native.Mathlib.Omega.{arith}
 use Rattle.walks.proofs.Years.{late-start}
 use Rattle.walks.proofs.Fives.{Run, run-ready, run-room, run-more}
+use Rattle.walks.proofs.Least.{all-in-force}
 use Rattle.walks.proofs.together.Statement.{statement}
 use Rattle.walks.proofs.together.Tie as tie
 
@@ -29,7 +30,7 @@ loop-again c =
     let m = c .before .before .before .before .before in
     let year = c .before .before .before .before .loop-test .taken in (
       omega (arith, year),
-      run-more _ _ _ _ _ _ _ _ (m .loop .inv .1) (omega (arith, year, m .before .pre .2)) (c .before .before .before .all .ensures (c .before .before .if1 .taken)) _ _ (c .year .ensures .0) (c .year .ensures .1),
+      run-more _ _ _ _ _ _ _ _ (m .loop .inv .1) (omega (arith, year, m .before .pre .2)) (all-in-force _ _ _ (m .before .pre .0) _ (omega (arith, m .loop .inv .1 .1)) _ (m .loop .inv .1 .2 .states) (c .before .before .before .all .ensures (c .before .before .if1 .taken))) _ _ (c .year .ensures .0) (c .year .ensures .1),
     )
 
 returns : tie.Need-returns Inv-loop μ-loop

@@ -1,5 +1,6 @@
 -- `walks::walk_by` meets its contract, by what is asked for. Assumes nothing.
 use mathlib.Core.Path.{sym, _∙_}
+use Prim.Native.Nat.{_<_}
 use native.Mathlib.Omega.{arith}
 use Rattle.walks.proofs.Years.{added-same}
 use Rattle.walks.proofs.Single.{chosen-all, chosen-one}
@@ -13,7 +14,7 @@ returns : tie.Need-returns
 returns c = c .walk .ensures .sums ∙ added-same _ _ 500 _ (λ j l. sym (chosen-all _ _ (c .before .before .if1 .taken) j))
 
 walk-in-requires : tie.Need-walk-in-requires
-walk-in-requires c κs = let a = c .before .before in (a .pre .0, omega (arith, a .pre .1, c .before .if1 .left), a .pre .2, a .pre .4)
+walk-in-requires c κs = let a = c .before .before in let low : a .args .which < 5 = omega (arith, a .pre .1, c .before .if1 .left) in (a .pre .0, low, a .pre .2, a .pre .4 low)
 
 returns-2 : tie.Need-returns-2
 returns-2 c = c .walk-in .ensures .sums ∙ added-same _ _ 500 _ (λ j l. sym (chosen-one _ _ (c .before .before .if1 .left) j))

@@ -27,7 +27,7 @@ abbrev cells : List ℕ → ℕ → ℕ → List Cell
 cells b s g = groupCells b (decrementsOf b s) g
 
 abbrev Inv-loop : tie.InvT-loop
-Inv-loop book setting group numbers table₀ due spent premium outgo paid₀ earned₀ k₀ table paid earned k =
+Inv-loop book group numbers table₀ setting due spent premium outgo paid₀ earned₀ k₀ table paid earned k =
     (k ≤ 50) × (table ≡ yearTable (terms book setting group) (cells book setting group) k ++ drop (4 * k) table₀)
     × (paid ≡ sumYears rounded k (outgoIn book setting group)) × (earned ≡ sumYears rounded k (premiumIn book setting group))
     × (paid ≤ 9000000000000000 * k) × (earned ≤ 9000000000000000 * k)
@@ -35,30 +35,30 @@ Inv-loop book setting group numbers table₀ due spent premium outgo paid₀ ear
     × InYears (premiumIn book setting group) 9000000000000000 0 50 premium × InYears (outgoIn book setting group) 9000000000000000 0 50 outgo
 
 abbrev μ-loop : tie.MeasureT-loop
-μ-loop book setting group numbers table₀ due spent premium outgo paid₀ earned₀ k₀ table paid earned k = 50 - k
+μ-loop book group numbers table₀ setting due spent premium outgo paid₀ earned₀ k₀ table paid earned k = 50 - k
 
 curve-of-requires : tie.Need-curve-of-requires Inv-loop μ-loop
 curve-of-requires c κs = c .before .before .pre .4
 
 undiscounted-requires : tie.Need-undiscounted-requires Inv-loop μ-loop
 undiscounted-requires c κs =
-    let a = c .before .before .before .before .before .before .pre in
-    ((a .0, a .1, a .2, omega arith, omega arith, a .4, a .5), c .new .ensures)
+    let a = c .before .before .before .before .before .pre in
+    (a .0, a .1, a .2, omega arith, omega arith, a .4, a .5)
 
 discount-requires : tie.Need-discount-requires Inv-loop μ-loop
 discount-requires c κs =
     let u = c .before .before .before .before .before .before in
     let y = u .undiscounted .ensures in
-    (omega arith, omega arith, curve-divisors _ _ _ (u .before .before .before .before .curve-of .ensures), y .premium-in .most, y .outgo-in .most)
+    (omega arith, omega arith, curve-divisors _ _ _ (u .before .before .before .curve-of .ensures), y .premium-in .most, y .outgo-in .most)
 
 loop-holds : tie.Need-loop-holds Inv-loop μ-loop
 unfolding yearTable sumYears
 loop-holds c =
     let u = c .before .before .before .before .before .before .before in
-    let v = u .before .before .before .before in
+    let v = u .before .before .before in
     let a = v .before .before .before in
     let b = a .args .book .now in
-    let s = a .args .setting in
+    let s = a .args .s .number in
     let g = a .args .group in
     let y = u .undiscounted .ensures in
     let d = c .discount .ensures in (
@@ -75,7 +75,7 @@ loop-holds c =
     )
 
 abbrev start : tie.At-loop Inv-loop μ-loop → tie.Start Inv-loop μ-loop
-start m = m .before .before .before .before .before .before .before .before .before .before .before .before .before .before .before
+start m = m .before .before .before .before .before .before .before .before .before .before .before .before .before .before
 
 -- the table keeps its length
 long : (m : tie.At-loop Inv-loop μ-loop) → length (m .loop .table) ≡ length (start m .args .table .now)
@@ -83,7 +83,7 @@ long m =
     let l = m .loop in
     let a = start m .args in
     let s : 200 ≤ length (a .table .now) = start m .pre .3 in
-    years-length (terms (a .book .now) (a .setting) (a .group)) (cells (a .book .now) (a .setting) (a .group)) (l .k) (a .table .now) (l .table) (omega arith) (l .inv .1)
+    years-length (terms (a .book .now) (a .s .number) (a .group)) (cells (a .book .now) (a .s .number) (a .group)) (l .k) (a .table .now) (l .table) (omega arith) (l .inv .1)
 
 put-year-requires : tie.Need-put-year-requires Inv-loop μ-loop
 put-year-requires c κs =
@@ -108,8 +108,8 @@ loop-again c =
     let m = c .before .before .before .before .before in
     let l = m .loop in
     let a = start m .args in
-    let t = terms (a .book .now) (a .setting) (a .group) in
-    let cs = cells (a .book .now) (a .setting) (a .group) in
+    let t = terms (a .book .now) (a .s .number) (a .group) in
+    let cs = cells (a .book .now) (a .s .number) (a .group) in
     let w = c .before .before .put-year in
     let lt : l .k < 50 = c .before .before .before .before .loop-test .taken in
     let size : 200 ≤ length (a .table .now) = start m .pre .3 in
@@ -138,7 +138,7 @@ returns c =
     let e : l .k ≡ 50 = omega arith in
     let r = toZ-ofZ w64 (c .less .result) (record { sfits = c .less .ok }) ∙ c .less .ensures in
     record {
-      liability-is = r ∙ liability-is (a .book .now) (a .setting) (a .group) (l .k) (l .paid) (l .earned) e (l .inv .2) (l .inv .3);
+      liability-is = r ∙ liability-is (a .book .now) (a .s .number) (a .group) (l .k) (l .paid) (l .earned) e (l .inv .2) (l .inv .3);
       table-is = rw e at (l .inv .1);
       size = rw r (less-mag (l .paid) (l .earned) 450_000_000_000_000_000 (omega arith) (omega arith));
     }
@@ -146,6 +146,6 @@ returns c =
 pub settle-spec : {M : Type 1} → statement M
 settle-spec =
     tie.close
-    (tie.spec Inv-loop μ-loop curve-of-requires (search needs) undiscounted-requires discount-requires loop-holds (λ c. omega arith) (λ c. omega arith) (λ c. omega arith)
+    (tie.spec Inv-loop μ-loop curve-of-requires undiscounted-requires discount-requires loop-holds (λ c. omega arith) (λ c. omega arith) (λ c. omega arith)
     (λ c. omega arith) (λ c. omega arith) (λ c. omega arith) (λ c. omega arith) (λ c. omega arith) put-year-requires (λ c. omega arith) (λ c. omega arith) add-paid
     (λ c. omega arith) (λ c. omega arith) add-earned (λ c. omega arith) (λ c. omega arith) loop-again (search needs) same-length returns)

@@ -13,7 +13,7 @@ use Rattle.years.proofs.settle_in.Statement.{statement}
 use Rattle.years.proofs.settle_in.Tie as tie
 
 abbrev Inv-loop : tie.InvT-loop
-Inv-loop book divisors fractions setting group numbers from to premium outgo end paid₀ earned₀ k₀ paid earned k =
+Inv-loop book divisors fractions group numbers from to setting premium outgo end paid₀ earned₀ k₀ paid earned k =
     (from ≤ k) × (k ≤ end)
     × (sumYears rounded from (outgoIn book setting group) + paid ≡ sumYears rounded k (outgoIn book setting group))
     × (sumYears rounded from (premiumIn book setting group) + earned ≡ sumYears rounded k (premiumIn book setting group))
@@ -21,10 +21,10 @@ Inv-loop book divisors fractions setting group numbers from to premium outgo end
     × InYears (outgoIn book setting group) 9000000000000000 from end outgo × InYears (premiumIn book setting group) 9000000000000000 from end premium
 
 abbrev μ-loop : tie.MeasureT-loop
-μ-loop book divisors fractions setting group numbers from to premium outgo end paid₀ earned₀ k₀ paid earned k = end - k
+μ-loop book divisors fractions group numbers from to setting premium outgo end paid₀ earned₀ k₀ paid earned k = end - k
 
 undiscounted-requires : tie.Need-undiscounted-requires Inv-loop μ-loop
-undiscounted-requires c κs = let a = c .before .pre in (a .0, a .1 .0)
+undiscounted-requires c κs = c .before .pre .0
 
 end-of-requires : tie.Need-end-of-requires Inv-loop μ-loop
 end-of-requires c κs = let a = c .before .before .before .before .before .before in (a .pre .0 .3, a .pre .0 .4)
@@ -32,24 +32,24 @@ end-of-requires c κs = let a = c .before .before .before .before .before .befor
 -- the years from the end on give nothing
 outgo-to-end : (c : tie.After-end-of Inv-loop μ-loop) →
     let a = c .before .before .before .before .before .before .before in
-    let f = outgoIn (a .args .book .now) (a .args .setting) (a .args .group) in
+    let f = outgoIn (a .args .book .now) (a .args .s .number) (a .args .group) in
     sumYears rounded (c .end-of .result) f ≡ sumYears rounded (a .args .to) f
 outgo-to-end c =
     let u = c .before .before .before .before .before in
     let a = u .before .before in
     let n = c .end-of .ensures in
-    sum-to-end (divisorOf (a .args .book .now)) _ _ _ _ _ _ _ (outgo-discounted _ (a .args .setting) (a .args .group)) (u .undiscounted .ensures .outgo-in)
+    sum-to-end (divisorOf (a .args .book .now)) _ _ _ _ _ _ _ (outgo-discounted _ (a .args .s .number) (a .args .group)) (u .undiscounted .ensures .outgo-in)
     (n .least) (n .most) (n .no-outgo)
 
 premium-to-end : (c : tie.After-end-of Inv-loop μ-loop) →
     let a = c .before .before .before .before .before .before .before in
-    let f = premiumIn (a .args .book .now) (a .args .setting) (a .args .group) in
+    let f = premiumIn (a .args .book .now) (a .args .s .number) (a .args .group) in
     sumYears rounded (c .end-of .result) f ≡ sumYears rounded (a .args .to) f
 premium-to-end c =
     let u = c .before .before .before .before .before in
     let a = u .before .before in
     let n = c .end-of .ensures in
-    sum-to-end (divisorOf (a .args .book .now)) _ _ _ _ _ _ _ (premium-discounted _ (a .args .setting) (a .args .group)) (u .undiscounted .ensures .premium-in)
+    sum-to-end (divisorOf (a .args .book .now)) _ _ _ _ _ _ _ (premium-discounted _ (a .args .s .number) (a .args .group)) (u .undiscounted .ensures .premium-in)
     (n .least) (n .most) (n .no-premium)
 
 discount-requires : tie.Need-discount-requires Inv-loop μ-loop
@@ -61,7 +61,7 @@ discount-requires c κs =
     let n = e .end-of .ensures in (
       omega arith,
       omega (arith, n .most, a .pre .0 .4),
-      curve-divisors _ _ _ (a .pre .1 .1),
+      curve-divisors _ _ _ (a .pre .1),
       λ k h. y .premium-in .most k (omega (arith, n .most)),
       λ k h. y .outgo-in .most k (omega (arith, n .most)),
     )
@@ -72,7 +72,7 @@ loop-holds c =
     let u = e .before .before .before .before .before in
     let a = u .before .before in
     let b = a .args .book .now in
-    let s = a .args .setting in
+    let s = a .args .s .number in
     let g = a .args .group in
     let y = u .undiscounted .ensures in
     let n = e .end-of .ensures in
@@ -85,8 +85,8 @@ loop-holds c =
       omega arith,
       omega arith,
       omega arith,
-      in-discounted b _ _ _ _ _ _ _ _ _ (a .pre .1 .1) (outgo-discounted b s g) last few (in-fewer _ _ _ _ _ _ (n .most) (y .outgo-in)) (d .1),
-      in-discounted b _ _ _ _ _ _ _ _ _ (a .pre .1 .1) (premium-discounted b s g) last few (in-fewer _ _ _ _ _ _ (n .most) (y .premium-in)) (d .0),
+      in-discounted b _ _ _ _ _ _ _ _ _ (a .pre .1) (outgo-discounted b s g) last few (in-fewer _ _ _ _ _ _ (n .most) (y .outgo-in)) (d .1),
+      in-discounted b _ _ _ _ _ _ _ _ _ (a .pre .1) (premium-discounted b s g) last few (in-fewer _ _ _ _ _ _ (n .most) (y .premium-in)) (d .0),
     )
 
 add-paid : tie.Need-add-paid Inv-loop μ-loop
