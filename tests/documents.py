@@ -13,6 +13,7 @@ from pathlib import Path
 from second.check import check
 from tests import ROOT
 from tests.books.trial import PAPER_LISTING
+from tests.checker import IDENTITY, checker_line, tried
 from tests.gate import PARTS
 from tests.report import Report, read_no_words
 
@@ -267,6 +268,15 @@ def decisions():
         yield where, int(match[1]) in known[1:], f"there is no decision {match[0]}"
 
 
+def checkers():
+    """Checkers in docs/CHECKERS.txt stand as `rt version` prints them, and the gate points out any other."""
+    for identity in tried():
+        holds = IDENTITY.fullmatch(identity) is not None and tried().count(identity) == 1
+        yield "docs/CHECKERS.txt", holds, f"{identity!r} is no identity, or stands twice"
+        yield "tests/checker.py", "note:" not in checker_line(identity), f"does not know {identity!r}"
+    yield "tests/checker.py", "note:" in checker_line("another"), "passes over a checker that was not tried"
+
+
 def shown():
     """What README shows of the samples is what is printed of them."""
     refused = ROOT / "samples" / "lapse_too_large.book"
@@ -316,7 +326,7 @@ def machines():
 
 
 RULES = [paths, links, edits, notes, names, functions, calls, parts, widths, shown, targets, decisions,
-         machines]
+         checkers, machines]
 
 
 def main():

@@ -31,7 +31,8 @@ class Parser(argparse.ArgumentParser):
 def all_verbs() -> argparse.ArgumentParser:
     """The parser of the whole command."""
     parser = Parser(prog="xaropinto", epilog=ENDS, description="Checks, lists and writes parameter books of the Swiss "
-                    "solvency test's long-term health liabilities. Every figure comes from a proved call.")
+                    "solvency test's long-term health liabilities. Verdicts, totals and liabilities come from proved "
+                    "calls; the command reads, counts by class, words and draws.")
     parser.add_argument("--version", action="version", version=f"xaropinto {VERSION}")
     verbs = parser.add_subparsers(metavar="VERB", required=True)
     for module in (figures, portfolio, desks, tools):
