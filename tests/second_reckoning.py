@@ -330,7 +330,7 @@ class Distance(unittest.TestCase):
         self.assertEqual(int(off_by_all(trials.loss_in_every_cell_book(range(6, 14)))), 27_674)
 
     def test_a_curve_below_zero_comes_near_half_the_distance(self):
-        # 1,675 is half the distance: no book is known that passes it, nor can one (docs/landings/W-213.md).
+        # 1,675 is half the distance: no book is known that passes it, nor can one (docs/RECKONING.md).
         self.assertEqual(int(off_by(trials.loss_at_every_rounding_book(-9_999), 2)), 1_594)
 
     def hold_book(self, book, setting):
