@@ -6,6 +6,7 @@ from tests import ROOT
 
 TRIED = ROOT / "docs" / "CHECKERS.txt"
 IDENTITY = re.compile(r"[\w.-]+ logic [0-9a-f]{16}")
+NOT_TRIED = "note: docs/CHECKERS.txt does not name this checker; see docs/ASSUMPTIONS.md"
 
 
 def tried():
@@ -15,9 +16,6 @@ def tried():
 
 
 def checker_line(identity):
-    """The gate's line for the present checker. One that was not tried is no fault, and is pointed out."""
-    identity = identity.strip()
-    told = f"checker: {identity}"
-    if identity in tried():
-        return told
-    return f"{told}\nnote: not among the checkers that were tried, docs/CHECKERS.txt; see docs/ASSUMPTIONS.md"
+    """The gate's first line; below it a note, which is no failure, where the checker was not tried."""
+    line = f"checker: {identity.strip()}"
+    return line if identity.strip() in tried() else f"{line}\n{NOT_TRIED}"

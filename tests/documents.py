@@ -13,7 +13,7 @@ from pathlib import Path
 from second.check import check
 from tests import ROOT
 from tests.books.trial import PAPER_LISTING
-from tests.checker import IDENTITY, checker_line, tried
+from tests.checker import IDENTITY, NOT_TRIED, checker_line, tried
 from tests.gate import PARTS
 from tests.report import Report, read_no_words
 
@@ -179,12 +179,13 @@ def edits():
 
 def notes():
     """Every request has a short note, with the time of the check before and after it."""
-    yield "docs/landings", [note.stem for note in NOTES] == REQUESTS, "does not have a note for each request"
+    noted = [note.stem for note in NOTES]
+    yield "docs/landings", noted == REQUESTS, "does not have a note for each request"
     for note in NOTES:
         where, text = f"docs/landings/{note.name}", text_of(note)
         length = len(text.splitlines())
         yield where, length <= LONGEST_NOTE, f"has {length} lines, more than {LONGEST_NOTE}"
-        yield where, TIME.search(text) is not None, "does not say the time of the check before and after"
+        yield where, TIME.search(text) is not None, "lacks the check's time before and after"
 
 
 def names():
@@ -269,12 +270,13 @@ def decisions():
 
 
 def checkers():
-    """Checkers in docs/CHECKERS.txt stand as `rt version` prints them, and the gate points out any other."""
+    """Checkers are named as `rt version` prints them, and the gate points out one that is not."""
+    where = "docs/CHECKERS.txt"
     for identity in tried():
         holds = IDENTITY.fullmatch(identity) is not None and tried().count(identity) == 1
-        yield "docs/CHECKERS.txt", holds, f"{identity!r} is no identity, or stands twice"
-        yield "tests/checker.py", "note:" not in checker_line(identity), f"does not know {identity!r}"
-    yield "tests/checker.py", "note:" in checker_line("another"), "passes over a checker that was not tried"
+        yield where, holds, f"{identity!r} is no identity, or stands twice"
+        yield where, NOT_TRIED not in checker_line(identity), f"the gate does not know {identity!r}"
+    yield where, NOT_TRIED in checker_line("another"), "the gate passes over one that was not tried"
 
 
 def shown():
@@ -325,8 +327,8 @@ def machines():
             yield where, not MACHINE.search(line), "names a path of a machine"
 
 
-RULES = [paths, links, edits, notes, names, functions, calls, parts, widths, shown, targets, decisions,
-         checkers, machines]
+RULES = [paths, links, edits, notes, names, functions, calls, parts, widths, shown, targets,
+         decisions, checkers, machines]
 
 
 def main():
