@@ -13,6 +13,7 @@ from pathlib import Path
 from second.check import check
 from tests import ROOT
 from tests.books.trial import PAPER_LISTING
+from tests.checker import IDENTITY, NOT_TRIED, checker_line, tried
 from tests.gate import PARTS
 from tests.report import Report, read_no_words
 
@@ -21,8 +22,10 @@ sys.path.insert(0, str(ROOT / "python"))
 from xaropinto.words import explain  # noqa: E402
 
 README, DOCS = ROOT / "README.md", ROOT / "docs"
-# The notes in docs/landings speak of the tree as it was on their day, and are not held against it.
-PAGES = [README, *sorted(DOCS.glob("*.md")), ROOT / "callers" / "README.md"]
+# The notes in docs/landings name paths and edits as they are now, and say where one has moved.
+NOTES = sorted((DOCS / "landings").glob("W-*.md"))
+PAGES = [README, *sorted(DOCS.glob("*.md")), *sorted((DOCS / "landings").glob("*.md")),
+         ROOT / "callers" / "README.md"]
 PROMISES, REVIEW, DECISIONS = DOCS / "PROMISES.md", DOCS / "REVIEW.md", DOCS / "DECISIONS.md"
 # In the tables of these pages a name stands after the path or the crate that has it.
 NAMING = [PROMISES, DOCS / "RECKONING.md"]
@@ -33,7 +36,7 @@ OUTSIDE = {word for _, needs in LISTED for word in needs.split()} - set(CRATES)
 WRAPPER = "xaropinto"
 
 # A path from the root, or below crates/ where it leads to definitions, proofs, code or edits.
-PATH = (r"(?<![\w./-])(?:(?:crates|docs|second|tests|tools|samples|include|callers)/"
+PATH = (r"(?<![\w./-])(?:(?:crates|docs|second|tests|tools|samples|include|callers|python|install)/"
         r"|[a-z]\w*/(?:specs|proofs|src|must-fail)\b)[\w+./-]*")
 # A folder and after a colon files in it.
 LISTING = r"`([\w/]+/(?:specs|proofs))`: ([A-Z]\w+(?:, [A-Z]\w+)*)"
@@ -51,6 +54,10 @@ NOT_READ = {".git", "target", "differing", "samples", "__pycache__"}
 ENVIRONMENT = "pyvenv.cfg"
 # A table with longer cells is no table.
 WIDEST_CELL = 240
+# The requests of document 02, and what the note of each has.
+REQUESTS = [f"W-{number}" for number in range(201, 215)]
+LONGEST_NOTE = 30
+TIME = re.compile(r"^\*\*Time of the check\.\*\* \d+ s before, \d+ s after", re.M)
 
 
 @functools.cache
@@ -170,6 +177,17 @@ def edits():
         yield "docs/PROMISES.md", label in told, f"does not name the edit {label}"
 
 
+def notes():
+    """Every request has a short note, with the time of the check before and after it."""
+    noted = [note.stem for note in NOTES]
+    yield "docs/landings", noted == REQUESTS, "does not have a note for each request"
+    for note in NOTES:
+        where, text = f"docs/landings/{note.name}", text_of(note)
+        length = len(text.splitlines())
+        yield where, length <= LONGEST_NOTE, f"has {length} lines, more than {LONGEST_NOTE}"
+        yield where, TIME.search(text) is not None, "lacks the check's time before and after"
+
+
 def names():
     """Names beside a path or a crate are defined there."""
     for where, match in matches(BRACKETED):
@@ -251,6 +269,16 @@ def decisions():
         yield where, int(match[1]) in known[1:], f"there is no decision {match[0]}"
 
 
+def checkers():
+    """Checkers are named as `rt version` prints them, and the gate points out one that is not."""
+    where = "docs/CHECKERS.txt"
+    for identity in tried():
+        holds = IDENTITY.fullmatch(identity) is not None and tried().count(identity) == 1
+        yield where, holds, f"{identity!r} is no identity, or stands twice"
+        yield where, NOT_TRIED not in checker_line(identity), f"the gate does not know {identity!r}"
+    yield where, NOT_TRIED in checker_line("another"), "the gate passes over one that was not tried"
+
+
 def shown():
     """What README shows of the samples is what is printed of them."""
     refused = ROOT / "samples" / "lapse_too_large.book"
@@ -299,7 +327,8 @@ def machines():
             yield where, not MACHINE.search(line), "names a path of a machine"
 
 
-RULES = [paths, links, edits, names, functions, calls, parts, widths, shown, targets, decisions, machines]
+RULES = [paths, links, edits, notes, names, functions, calls, parts, widths, shown, targets,
+         decisions, checkers, machines]
 
 
 def main():

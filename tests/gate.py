@@ -5,6 +5,7 @@ import sys
 import time
 from typing import NamedTuple
 
+from tests.checker import checker_line
 from tests.command import run, run_beside
 from tests.report import read_no_words
 
@@ -103,7 +104,7 @@ def tell_part(part, code, text, seconds):
 def main():
     """All parts; the outside tests run on what was proved, so not where the proofs fail."""
     read_no_words(__doc__)
-    print("checker:", run(["rt", "version"], MOST_SECONDS)[1].strip(), flush=True)
+    print(checker_line(run(["rt", "version"], MOST_SECONDS)[1]), flush=True)
     tallies = [try_part(PROOFS)]
     if not tallies[0][1]:
         tallies += [*try_beside(PROGRAMS), try_part(CALLERS), *try_beside(CALLS)]

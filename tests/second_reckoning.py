@@ -13,6 +13,7 @@ from second.layout import (CHAINS, CLASSES, CURVE, EDITION, HEADER_SPARE, OLDEST
                            PRODUCT_GROUPS, SETTINGS, changed)
 from second.reckoning import (capped, discounted, group, in_force_by_year, listing, next_in_force, outgo_of,
                               percentage_of, totals, weighted, weights_of)
+from tests import ROOT
 from tests.books import trial as trials
 from tests.report import run_unit_tests
 
@@ -221,6 +222,15 @@ class Steps(unittest.TestCase):
             self.assertEqual(in_force(book, k), contracts)
             self.assertEqual(year(book, k), (0, contracts // 100) * 2)
 
+    def test_years_in_force_of_the_worked_example(self):
+        # The table of docs/RECKONING.md: the first year with nothing in force, for settings 0 to 4.
+        values = read_values((ROOT / "samples" / "worked_example.book").read_bytes())
+        worked = ((10, 9, 8), (3, 2, 1), (11, 10, 10), (9, 8, 7), (11, 10, 9))
+        for setting, ends in enumerate(worked):
+            by_year = list(in_force_by_year(values, PG2_MEN, setting))
+            for cell, end in enumerate(ends):
+                self.assertEqual([k for k in range(50) if by_year[k][cell]], list(range(end)))
+
     def test_the_very_old_have_the_exact_value_of_fifty_years(self):
         exact = sum(10**7 * Fraction(452, 1_000) * Fraction(86_735, 100_000)**years for years in range(49))
         self.assertEqual(exact_liability(trials.very_old_book(), 0, 2), exact - 10**7)
@@ -330,7 +340,7 @@ class Distance(unittest.TestCase):
         self.assertEqual(int(off_by_all(trials.loss_in_every_cell_book(range(6, 14)))), 27_674)
 
     def test_a_curve_below_zero_comes_near_half_the_distance(self):
-        # 1,675 is half the distance: no book is known that passes it, nor can one (docs/landings/W-213.md).
+        # 1,675 is half the distance: no book is known that passes it (docs/RECKONING.md).
         self.assertEqual(int(off_by(trials.loss_at_every_rounding_book(-9_999), 2)), 1_594)
 
     def hold_book(self, book, setting):

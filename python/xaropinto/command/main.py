@@ -14,6 +14,9 @@ from xaropinto.version import VERSION
 
 ENDS = "Exit codes: 0 done; 1 refused; 2 wrong use, or a file that cannot be read or written. `-` is standard input."
 
+PURPOSE = ("Checks, lists and writes parameter books of the Swiss solvency test's long-term health "
+           "liabilities. Verdicts, totals and liabilities come from proved calls; the command "
+           "reads, counts by class, words and draws.")
 INTERRUPTED = 130
 
 
@@ -30,8 +33,7 @@ class Parser(argparse.ArgumentParser):
 
 def all_verbs() -> argparse.ArgumentParser:
     """The parser of the whole command."""
-    parser = Parser(prog="xaropinto", epilog=ENDS, description="Checks, lists and writes parameter books of the Swiss "
-                    "solvency test's long-term health liabilities. Every figure comes from a proved call.")
+    parser = Parser(prog="xaropinto", epilog=ENDS, description=PURPOSE)
     parser.add_argument("--version", action="version", version=f"xaropinto {VERSION}")
     verbs = parser.add_subparsers(metavar="VERB", required=True)
     for module in (figures, portfolio, desks, tools):
