@@ -1,14 +1,22 @@
-"""The gate: proves every crate from nothing, then runs the outside tests. Its last line is the tally of both."""
+"""The gate: proves every crate from nothing, then runs the outside tests; last comes the tally.
 
+`quick` proves only what is not proved as it stands, runs the same tests and tries no must-fail
+edit. `callers` and `fuzz` run some of the tests, one after the other.
+"""
+
+import argparse
 import re
+import subprocess
 import sys
-import time
 from typing import NamedTuple
 
+from tests import ROOT
 from tests.command import run, run_beside
-from tests.report import read_no_words
+from tests.progress import Line, Work, crates_listed, edits_listed
 
 TALLY = re.compile(r"^(\d+) passed, (\d+) failed$")
+# The last line of `rt check`, which counts no failures and names them instead.
+PROVED = re.compile(r"^rt: ok, (\d+) crates proved$")
 # What the whole gate may take at the most: a part that takes longer hangs.
 MOST_SECONDS = 90 * 60
 INTERRUPTED = 130
@@ -30,6 +38,8 @@ def script(name, module, least, *words):
 
 
 PROOFS = Part("proofs, must-fail edits and programs", ["rt", "ci"], 330)
+# The proofs of `quick`: a crate that is as it was when it was proved is not proved again.
+QUICK_PROOFS = Part("proofs and programs", ["rt", "check"], 48)
 # What runs on the proved programs, two parts at once.
 PROGRAMS = [
     script("must-fail edits fit the proof files", "tests.must_fail_reasons", 2),
@@ -67,49 +77,111 @@ CALLS = [
     script("what is installed", "tests.front_door.installed", 8),
 ]
 PARTS = [PROOFS, *PROGRAMS, CALLERS, *CALLS]
+# The module that reads what the prover said of each edit; and those whose inputs are drawn.
+OF_EDITS = "tests.must_fail_reasons"
+DRAWN = ("tests.random_books.", "tests.calls.")
 
 
-def try_part(part):
-    """Run one part by itself; how many tests passed and failed."""
-    began = time.monotonic()
-    code, text = run(part.command, MOST_SECONDS)
-    return tell_part(part, code, text, time.monotonic() - began)
+def module_of(part):
+    """The module of a part that is one of our scripts."""
+    return part.command[2]
 
 
-def try_beside(parts):
-    """Run parts two at once; how many tests of each passed and failed, in their order."""
-    ended = run_beside([part.command for part in parts], MOST_SECONDS)
-    return [tell_part(part, *told) for part, told in zip(parts, ended)]
+def drawn(parts):
+    """Those whose inputs are drawn at random."""
+    return [part for part in parts if module_of(part).startswith(DRAWN)]
 
 
-def tell_part(part, code, text, seconds):
-    """Print the line of a part that has ended, and what it wrote where it failed; how many tests passed and failed."""
-    lines = text.rstrip().splitlines()
-    tally = TALLY.match(lines[-1]) if lines else None
-    passed, failed = (int(tally[1]), int(tally[2])) if tally else (0, 0)
+def try_parts(parts, work, line):
+    """Run parts, two at once; how many tests of each passed and failed, in their order."""
+    def watch(written):
+        work.read(each for lines in written.values() for each in lines)
+        line.show(lambda: work.words([parts[number].name for number in written]))
+
+    ended = run_beside([part.command for part in parts], MOST_SECONDS, watch)
+    return [tell_part(part, work, line, *told) for part, told in zip(parts, ended)]
+
+
+def count_tests(part, code, lines):
+    """How many tests of a part passed and failed, by its last line and its exit code."""
+    last = lines[-1] if lines else ""
+    tally = TALLY.match(last) or PROVED.match(last)
+    passed, failed = map(int, (*tally.groups(), 0)[:2]) if tally else (0, 0)
     # A part that ends badly, or with fewer tests than it has, has failed whatever it counted.
     if failed == 0 and (code != 0 or passed < part.least):
-        failed = 1
         lines.append(f"ended with {code}; {passed} tests, at least {part.least} are due")
+        return passed, 1
+    return passed, failed
+
+
+def tell_part(part, work, line, code, text, seconds):
+    """Print the line of a part that has ended, and what it wrote where it failed; its tally."""
+    lines = text.rstrip().splitlines()
+    work.read(lines)
+    work.ended[part.name] = seconds
+    passed, failed = count_tests(part, code, lines)
+    line.clear()
     if failed:
         print("\n".join(lines))
     else:
-        print("".join(line + "\n" for line in lines if line.startswith(TOLD)), end="")
+        print("".join(each + "\n" for each in lines if each.startswith(TOLD)), end="")
     print(f"{'ok' if not failed else 'FAILED'} {part.name}: {passed} passed, {failed} failed"
           f" ({seconds:.0f} s)", flush=True)
     return passed, failed
 
 
-def main():
+def run_gate(proofs, programs, edits):
     """All parts; the outside tests run on what was proved, so not where the proofs fail."""
-    read_no_words(__doc__)
-    print("checker:", run(["rt", "version"], MOST_SECONDS)[1].strip(), flush=True)
-    tallies = [try_part(PROOFS)]
-    if not tallies[0][1]:
-        tallies += [*try_beside(PROGRAMS), try_part(CALLERS), *try_beside(CALLS)]
+    groups = [programs, [CALLERS], CALLS]
+    names = [proofs.name, *(part.name for parts in groups for part in parts)]
+    work, line = Work(crates_listed(), edits, names), Line(sys.stdout)
+    try:
+        tallies = try_parts([proofs], work, line)
+        if not tallies[0][1]:
+            tallies += [tally for parts in groups for tally in try_parts(parts, work, line)]
+    finally:
+        line.clear()
+    print("".join(each + "\n" for each in work.slowest()), end="")
+    if not edits:
+        print(f"no must-fail edit was tried, and {len(work.unchanged)} crates, unchanged since they"
+              " were proved, were not proved again: make test does both")
     passed, failed = (sum(counts) for counts in zip(*tallies))
     print(f"{passed} passed, {failed} failed")
     return 1 if failed else 0
+
+
+def run_one_by_one(parts, words=()):
+    """Run parts by themselves up to the first that fails; its exit code."""
+    for part in parts:
+        code = subprocess.run([*part.command, *words], cwd=ROOT, check=False).returncode
+        if code:
+            return code
+    return 0
+
+
+def read_words():
+    """What is to be run."""
+    parser = argparse.ArgumentParser(description=__doc__)
+    parser.add_argument("what", nargs="?", choices=("all", "quick", "callers", "fuzz"),
+                        default="all", help="the gate (all), or what is said above")
+    parser.add_argument("--number", default="2000", help="for fuzz: how many inputs are drawn")
+    parser.add_argument("--seed", default="1", help="for fuzz: what they are drawn with")
+    return parser.parse_args()
+
+
+def main():
+    """Run what is wanted; the exit code."""
+    wanted = read_words()
+    if wanted.what == "callers":
+        return run_one_by_one([CALLERS, *drawn(CALLS)])
+    if wanted.what == "fuzz":
+        words = ["--number", wanted.number, "--seed", wanted.seed]
+        return run_one_by_one(drawn([*PROGRAMS, *CALLS]), words)
+    print("checker:", run(["rt", "version"], MOST_SECONDS)[1].strip(), flush=True)
+    if wanted.what == "quick":
+        programs = [part for part in PROGRAMS if module_of(part) != OF_EDITS]
+        return run_gate(QUICK_PROOFS, programs, ())
+    return run_gate(PROOFS, PROGRAMS, edits_listed())
 
 
 if __name__ == "__main__":
