@@ -73,7 +73,7 @@ class Work:
             for form, done in ((CRATE, self.proved), (EDIT, self.tried), (BAD, self.bad)):
                 ended = form.match(line)
                 if ended:
-                    done[ended[1]] = int(took[1]) if took else 0
+                    done[ended[1]] = max(done.get(ended[1], 0), int(took[1]) if took else 0)
             if line.endswith(UNCHANGED):
                 self.unchanged.add(CRATE.match(line)[1])
 

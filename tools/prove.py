@@ -1,15 +1,28 @@
-"""Runs `rt` on one crate and shows how far it is; keeps what it printed, and shows it on a failure."""
+"""Runs `rt` on one crate and shows how far it is; what it prints is kept, and shown if it fails."""
 
 import argparse
 import sys
 from pathlib import Path
 
+from tests import ROOT
 from tests.command import run_beside
-from tests.progress import Line, Work, crates_needed
+from tests.progress import Line, Work, crates_listed, crates_needed
 
 # For the crate and all that it needs, on a slow machine.
 MOST_SECONDS = 90 * 60
 INTERRUPTED = 130
+
+
+def commands_of(verb, crate):
+    """What is run, one after the other.
+
+    `rt staticlib` proves one crate at a time: those that it needs are proved first, two at once.
+    """
+    stamps = ROOT / "target" / "stamp"
+    needed = crates_needed(crate) - {crate}
+    unproved = [each for each in needed if not (stamps / each).is_file()]
+    before = [["rt", "check", *crates_listed()[crate]]] if verb == "staticlib" and unproved else []
+    return [*before, ["rt", verb, crate]]
 
 
 def prove(verb, crate):
@@ -21,11 +34,16 @@ def prove(verb, crate):
             work.read(lines)
         line.show(lambda: f"proving {crate}: {work.words()}")
 
+    printed, code = "", 0
     try:
-        [(code, text, _)] = run_beside([["rt", verb, crate]], MOST_SECONDS, watch)
+        for command in commands_of(verb, crate):
+            [(code, text, _)] = run_beside([command], MOST_SECONDS, watch)
+            printed += text
+            if code:
+                break
     finally:
         line.clear()
-    return code, text
+    return code, printed
 
 
 def main():

@@ -1,0 +1,161 @@
+"""Holds every number of the promises and trial figures against the list of the order's figures.
+
+tests/order_figures.tsv says for each number which paper and section has it, and in which definition
+of the specifications it stands. A promise may stay provable with a weaker number; here that differs
+from the list. The test also changes each number in memory and looks whether it notices.
+"""
+
+import argparse
+import re
+import sys
+from collections import defaultdict
+from typing import NamedTuple
+
+from tests import ROOT
+from tests.report import Report
+
+LIST = ROOT / "tests" / "order_figures.tsv"
+# Steps of the code, as docs/REVIEW.md names them: no caller depends on these.
+STEPS = {
+    "accounts/specs/Usable", "arith/specs/Fractions", "book/specs/Reading", "cell/specs/States",
+    "conversion/specs/Steps", "factors/specs/Sizes", "funds/specs/Reckoned",
+    "projection/specs/Added", "rows/specs/Puts", "rows/specs/Rows", "settling/specs/Settling",
+    "spread/specs/Accepted", "totals/specs/Sums", "walks/specs/Five", "walks/specs/Tables",
+    "walks/specs/Walked", "year_report/specs/Tables", "years/specs/Outcome",
+}
+
+# What is no part of a definition, and levels of types; both are blanked, so that places stay.
+NOT_READ = re.compile(r"(?<!\S)--.*|^(?:use|pub mod|infix\w*|module) .*"
+                      r"|\bType \d+|\bUnit \{\d+\}", re.M)
+# A definition, a record of statements or fields, and a field of one.
+BEGINNING = re.compile(r"^ *(?:(?:abbrev|unfoldable) )+(?:pub )?(?P<name>\S+) :"
+                       r"|^pub (?P<plain>\S+) :"
+                       r"|^pub record (?P<record>[^\s:(){}]+)"
+                       r"|^  pub (?P<field>\S+) :", re.M)
+EDGE = r"[\s(){};,]"
+NUMBER = re.compile(rf"(?:(?<={EDGE})|^)\d[\d_]*(?={EDGE}|$)")
+ANY_DIGITS = re.compile(r"(?<![\w′.-])\d[\d_]*")
+
+
+class Definition(NamedTuple):
+    """Where a definition stands in the text of its file; a field of a record is RECORD.FIELD."""
+
+    name: str
+    start: int
+    end: int
+
+    def numbers(self, text):
+        """Its numbers in their order."""
+        return [int(found[0]) for found in NUMBER.finditer(text, self.start, self.end)]
+
+    def is_statement(self):
+        """Whether it is a field of a record."""
+        return "." in self.name
+
+
+def read_text(spec):
+    """The text of a specification, with all that is not read blanked."""
+    text = (ROOT / "crates" / f"{spec}.antt").read_text(encoding="utf-8")
+    return NOT_READ.sub(lambda found: " " * len(found[0]), text)
+
+
+def definitions(text):
+    """The definitions of a text by name; a record's head is one too."""
+    found, record = [], ""
+    for each in BEGINNING.finditer(text):
+        name = each["name"] or each["plain"] or each["record"] or f"{record}.{each['field']}"
+        record = each["record"] or (record if each["field"] else "")
+        found.append((name, each.start()))
+    ends = [start for _, start in found[1:]] + [len(text)]
+    return {name: Definition(name, start, end) for (name, start), end in zip(found, ends)}
+
+
+def read_list():
+    """The numbers due, by specification and definition."""
+    due = defaultdict(lambda: defaultdict(list))
+    lines = LIST.read_text(encoding="utf-8").splitlines()
+    rows = [line.split("\t") for line in lines if not line.startswith("#")]
+    for _, _, _, spec, definition, numbers in rows[1:]:
+        due[spec][definition] += [int(number) for number in numbers.split()]
+    return due
+
+
+def must_be_listed(definition, numbers):
+    """Every number of a statement, and of a definition with a number above 1."""
+    return bool(numbers) and (definition.is_statement() or max(numbers) > 1)
+
+
+def differences(text, due):
+    """What differs between a specification and the list: the definition, its numbers, those due."""
+    there = definitions(text)
+    for name, definition in there.items():
+        numbers = definition.numbers(text)
+        if (name in due or must_be_listed(definition, numbers)) and numbers != due.get(name):
+            yield name, numbers, due.get(name)
+    for name in due.keys() - there.keys():
+        yield name, None, due[name]
+
+
+def changed_numbers(text, due):
+    """The text with one number of the listed definitions one higher, for each number."""
+    for name, definition in definitions(text).items():
+        if name not in due:
+            continue
+        for found in ANY_DIGITS.finditer(text, definition.start, definition.end):
+            yield name, text[:found.start()] + str(int(found[0]) + 1) + text[found.end():]
+
+
+def specifications():
+    """All that there are, each as CRATE/specs/FILE."""
+    paths = sorted((ROOT / "crates").glob("*/specs/*.antt"))
+    return [f"{path.parent.parent.name}/specs/{path.stem}" for path in paths]
+
+
+def test_specification(report, spec, due):
+    """Its numbers are those of the list, and each change is noticed; how many were tried."""
+    text = read_text(spec)
+    wrong = [f"{name} has {numbers}, due are {numbers_due}" for name, numbers, numbers_due
+             in differences(text, due)]
+    inside = sum(len(each.numbers(text)) for each in definitions(text).values())
+    if inside != len(ANY_DIGITS.findall(text)):
+        wrong.append("a number stands in no definition")
+    tried = 0
+    for name, changed in changed_numbers(text, due):
+        tried += 1
+        if name not in [each for each, _, _ in differences(changed, due)]:
+            wrong.append(f"a change in {name} is not noticed")
+    if due or wrong:
+        report.test(f"numbers of {spec}: {tried}", not wrong, "; ".join(wrong))
+    return tried
+
+
+def print_unlisted(due):
+    """Rows for what differs from the list; paper, section and figure are to be filled in."""
+    for spec in sorted(set(specifications()) - STEPS):
+        for name, numbers, _ in differences(read_text(spec), due[spec]):
+            if numbers is not None:
+                print("", "", "", spec, name, " ".join(map(str, numbers)), sep="\t")
+
+
+def main():
+    """One test for each specification, and for the list as a whole."""
+    parser = argparse.ArgumentParser(description=__doc__)
+    parser.add_argument("--unlisted", action="store_true",
+                        help="print rows for what differs from the list")
+    due = read_list()
+    if parser.parse_args().unlisted:
+        print_unlisted(due)
+        return 0
+    report = Report()
+    found = specifications()
+    tried = sum(test_specification(report, spec, due[spec]) for spec in found if spec not in STEPS)
+    report.covers("every step of the code is there", STEPS, found)
+    listed = {spec for spec, rows in due.items() if rows}
+    report.covers("every specification of the list is there", listed, found)
+    numbers = sum(len(each) for rows in due.values() for each in rows.values())
+    report.test(f"each of the {numbers} numbers was changed", tried == numbers > 0, f"{tried} were")
+    return report.finish()
+
+
+if __name__ == "__main__":
+    sys.exit(main())
