@@ -44,6 +44,7 @@ QUICK_PROOFS = Part("proofs and programs", ["rt", "check"], 48)
 PROGRAMS = [
     script("must-fail edits fit the proof files", "tests.must_fail_reasons", 2),
     script("documents", "tests.documents", 13),
+    script("the gate's own habits", "tests.gate_habits", 12),
     script("numbers of the promises, against the order", "tests.order_figures", 48),
     script("declarations of the calls in four languages", "tests.struct_layouts", 20),
     script("refusals, from one table", "tools.refusals", 4, "test"),
@@ -62,7 +63,7 @@ PROGRAMS = [
     script("random books against the second check", "tests.random_books.check", 17),
     script("random listings against the second reckoning and the fractions", "tests.random_books.listing", 25),
 ]
-# What builds the archive and the shared library, and what runs on these, two parts at once again.
+# What builds the archive and the shared library, and what runs on these once they are built.
 CALLERS = script("callers in C and Rust", "tests.callers", 278)
 CALLS = [
     script("calls from Python, on random books", "tests.calls.base", 26),
@@ -80,14 +81,17 @@ CALLS = [
     script("what is installed", "tests.front_door.installed", 8),
 ]
 PARTS = [PROOFS, *PROGRAMS, CALLERS, *CALLS]
-# The module that reads what the prover said of each edit; and those whose inputs are drawn.
+# The module that reads what the prover said of each edit; those whose inputs are drawn; and those
+# that take longest: started first, none of them runs on alone at the end.
 OF_EDITS = "tests.must_fail_reasons"
 DRAWN = ("tests.random_books.", "tests.calls.")
+LONG = ("tests.random_books.listing", "tests.callers", "tests.streams.listing",
+        "tests.front_door.", "tests.calls.funds", "tests.calls.base")
 
 
 def module_of(part):
-    """The module of a part that is one of our scripts."""
-    return part.command[2]
+    """The module of a part that is one of our scripts; empty for any other."""
+    return "".join(part.command[2:3])
 
 
 def drawn(parts):
@@ -96,7 +100,9 @@ def drawn(parts):
 
 
 def try_parts(parts, work, line):
-    """Run parts, two at once; how many tests of each passed and failed, in their order."""
+    """Run parts, two at once; how many tests of each passed and failed."""
+    parts = sorted(parts, key=lambda part: not module_of(part).startswith(LONG))
+
     def watch(written):
         work.read(each for lines in written.values() for each in lines)
         line.show(lambda: work.words([parts[number].name for number in written]))
@@ -135,13 +141,13 @@ def tell_part(part, work, line, code, text, seconds):
 
 def run_gate(proofs, programs, edits):
     """All parts; the outside tests run on what was proved, so not where the proofs fail."""
-    groups = [programs, [CALLERS], CALLS]
-    names = [proofs.name, *(part.name for parts in groups for part in parts)]
+    before, after = [*programs, CALLERS], CALLS
+    names = [part.name for part in (proofs, *before, *after)]
     work, line = Work(crates_listed(), edits, names), Line(sys.stdout)
     try:
         tallies = try_parts([proofs], work, line)
         if not tallies[0][1]:
-            tallies += [tally for parts in groups for tally in try_parts(parts, work, line)]
+            tallies += [*try_parts(before, work, line), *try_parts(after, work, line)]
     finally:
         line.clear()
     print("".join(each + "\n" for each in work.slowest()), end="")

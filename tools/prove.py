@@ -1,16 +1,34 @@
-"""Runs `rt` on one crate and shows how far it is; what it prints is kept, and shown if it fails."""
+"""Proves and builds one crate and shows how far it is; what `rt` prints is kept, and shown if it fails.
+
+An archive is built again only where something that it is made of has changed since.
+"""
 
 import argparse
+import hashlib
 import sys
 from pathlib import Path
 
 from tests import ROOT
-from tests.command import run_beside
+from tests.command import run, run_beside
 from tests.progress import Line, Work, crates_listed, crates_needed
 
 # For the crate and all that it needs, on a slow machine.
 MOST_SECONDS = 90 * 60
 INTERRUPTED = 130
+ARCHIVES, STAMPS = ROOT / "target" / "staticlib", ROOT / "target" / "stamp"
+
+
+def state_of(crate):
+    """What an archive is made of, in one sum: the checker, and all files of the crates in it."""
+    state = hashlib.sha256(repr(run(["rt", "version"], MOST_SECONDS)).encode())
+    listed = crates_listed()
+    for each in sorted(crates_needed(crate)):
+        state.update(f"{each}: {listed[each]}\n".encode())
+        for folder in ("src", "specs", "proofs"):
+            for path in sorted((ROOT / "crates" / each / folder).rglob("*.*")):
+                held = path.read_bytes()
+                state.update(f"{path.relative_to(ROOT)} {len(held)}\n".encode() + held)
+    return state.hexdigest()
 
 
 def commands_of(verb, crate):
@@ -18,9 +36,8 @@ def commands_of(verb, crate):
 
     `rt staticlib` proves one crate at a time: those that it needs are proved first, two at once.
     """
-    stamps = ROOT / "target" / "stamp"
     needed = crates_needed(crate) - {crate}
-    unproved = [each for each in needed if not (stamps / each).is_file()]
+    unproved = [each for each in needed if not (STAMPS / each).is_file()]
     before = [["rt", "check", *crates_listed()[crate]]] if verb == "staticlib" and unproved else []
     return [*before, ["rt", verb, crate]]
 
@@ -34,7 +51,7 @@ def prove(verb, crate):
             work.read(lines)
         line.show(lambda: f"proving {crate}: {work.words()}")
 
-    printed, code = "", 0
+    code, printed = 0, ""
     try:
         for command in commands_of(verb, crate):
             [(code, text, _)] = run_beside([command], MOST_SECONDS, watch)
@@ -46,6 +63,20 @@ def prove(verb, crate):
     return code, printed
 
 
+def build_archive(crate):
+    """The archive of a crate, unless it stands there as it would be built: exit code and writing."""
+    archive, built_of = ARCHIVES / f"lib{crate}.a", ARCHIVES / f"lib{crate}.state"
+    state = state_of(crate)
+    if archive.is_file() and built_of.is_file() and built_of.read_text(encoding="ascii") == state:
+        return 0, f"{archive.name} is built of what stands here\n"
+    built_of.unlink(missing_ok=True)
+    code, text = prove("staticlib", crate)
+    # What was changed meanwhile may not be in it.
+    if not code and state_of(crate) == state:
+        built_of.write_text(state, encoding="ascii")
+    return code, text
+
+
 def main():
     """Prove; the exit code."""
     parser = argparse.ArgumentParser(description=__doc__)
@@ -54,7 +85,8 @@ def main():
     parser.add_argument("log", type=Path, help="the file for what `rt` prints")
     wanted = parser.parse_args()
     wanted.log.parent.mkdir(parents=True, exist_ok=True)
-    code, text = prove(wanted.verb, wanted.crate)
+    staticlib = wanted.verb == "staticlib"
+    code, text = build_archive(wanted.crate) if staticlib else prove(wanted.verb, wanted.crate)
     wanted.log.write_text(text, encoding="utf-8")
     if code:
         print(text, end="")
