@@ -108,7 +108,7 @@ def try_parts(parts, work, line):
         line.show(lambda: work.words([parts[number].name for number in written]))
 
     ended = run_beside([part.command for part in parts], MOST_SECONDS, watch)
-    return [tell_part(part, work, line, *told) for part, told in zip(parts, ended)]
+    return [tell_part(part, work, line, *each) for part, each in zip(parts, ended)]
 
 
 def count_tests(part, code, lines):

@@ -59,25 +59,25 @@ class Tally(unittest.TestCase):
 
     def test_all_passes(self):
         code, lines = self.run_gate(part("proofs", "3 passed, 0 failed"),
-                                    part("one", "told\nseed 7\n2 passed, 0 failed"))
+                                    part("one", "detail\nseed 7\n2 passed, 0 failed"))
         self.assertEqual((code, lines[-1]), (0, "10 passed, 0 failed"))
         self.assertIn("seed 7", lines)
-        self.assertNotIn("told", lines)
+        self.assertNotIn("detail", lines)
 
     def test_quick_proofs(self):
         code, lines = self.run_gate(part("proofs", "rt: ok, 48 crates proved", least=48))
         self.assertEqual((code, lines[-1]), (0, "53 passed, 0 failed"))
 
     def test_part_fails(self):
-        for each in (part("one", "told\n1 passed, 1 failed", 1), part("one", "told\nno tally"),
-                     part("one", "told\n2 passed, 0 failed", least=3),
-                     part("one", "told\n2 passed, 0 failed", 1)):
+        for each in (part("one", "detail\n1 passed, 1 failed", 1), part("one", "detail\nno tally"),
+                     part("one", "detail\n2 passed, 0 failed", least=3),
+                     part("one", "detail\n2 passed, 0 failed", 1)):
             code, lines = self.run_gate(part("proofs", "3 passed, 0 failed"), each)
             self.assertEqual((code, lines[-1].endswith(" 1 failed")), (1, True), lines)
-            self.assertIn("told", lines)
+            self.assertIn("detail", lines)
 
     def test_proofs_fail(self):
-        code, lines = self.run_gate(part("proofs", "2 passed, 1 failed", 1), part("one", "told"))
+        code, lines = self.run_gate(part("proofs", "2 passed, 1 failed", 1), part("one", "detail"))
         self.assertEqual((code, lines[-1]), (1, "2 passed, 1 failed"))
 
     def test_part_cannot_be_started(self):

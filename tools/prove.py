@@ -1,4 +1,4 @@
-"""Proves and builds one crate and shows how far it is; what `rt` prints is kept, and shown if it fails.
+"""Proves and builds a crate and shows how far it is; what `rt` prints goes to a file.
 
 An archive is built again only where something that it is made of has changed since.
 """
@@ -64,7 +64,7 @@ def prove(verb, crate):
 
 
 def build_archive(crate):
-    """The archive of a crate, unless it stands there as it would be built: exit code and writing."""
+    """Build the archive of a crate unless it stands there: exit code, and what was printed."""
     archive, built_of = ARCHIVES / f"lib{crate}.a", ARCHIVES / f"lib{crate}.state"
     state = state_of(crate)
     if archive.is_file() and built_of.is_file() and built_of.read_text(encoding="ascii") == state:
