@@ -48,7 +48,7 @@ PROGRAMS = [
     script("numbers of the promises, against the order", "tests.order_figures", 48),
     script("declarations of the calls in four languages", "tests.struct_layouts", 20),
     script("refusals, from one table", "tools.refusals", 4, "test"),
-    script("second check, by hand-worked examples", "tests.second_check", 35),
+    script("second check, by hand-worked examples", "tests.second_check", 38),
     script("stream of the check", "tests.streams.check", 53, "test"),
     script("stream of the looker", "tests.streams.look", 12, "test"),
     script("second reckoning, by hand-worked examples", "tests.second_reckoning", 38),

@@ -70,13 +70,29 @@ def definitions(text):
     return {name: Definition(name, start, end) for (name, start), end in zip(found, ends)}
 
 
+class Row(NamedTuple):
+    """A row of the list."""
+
+    paper: str
+    section: str
+    figure: str
+    specification: str
+    definition: str
+    numbers: str
+
+
 def read_list():
-    """The numbers due, by specification and definition."""
-    due = defaultdict(lambda: defaultdict(list))
+    """The rows of the list."""
     lines = LIST.read_text(encoding="utf-8").splitlines()
-    rows = [line.split("\t") for line in lines if not line.startswith("#")]
-    for _, _, _, spec, definition, numbers in rows[1:]:
-        due[spec][definition] += [int(number) for number in numbers.split()]
+    rows = [Row(*line.split("\t")) for line in lines if not line.startswith("#")]
+    return rows[1:]
+
+
+def numbers_due(rows):
+    """The numbers of the rows, by specification and definition."""
+    due = defaultdict(lambda: defaultdict(list))
+    for row in rows:
+        due[row.specification][row.definition] += map(int, row.numbers.split())
     return due
 
 
@@ -114,8 +130,8 @@ def specifications():
 def test_specification(report, spec, due):
     """Its numbers are those of the list, and each change is noticed; how many were tried."""
     text = read_text(spec)
-    wrong = [f"{name} has {numbers}, due are {numbers_due}"
-             for name, numbers, numbers_due in differences(text, due)]
+    wrong = [f"{name} has {numbers}, due are {numbers_listed}"
+             for name, numbers, numbers_listed in differences(text, due)]
     inside = sum(len(each.numbers(text)) for each in definitions(text).values())
     if inside != len(ANY_DIGITS.findall(text)):
         wrong.append("a number stands in no definition")
@@ -129,12 +145,29 @@ def test_specification(report, spec, due):
     return len(changes)
 
 
-def print_unlisted(due):
-    """Rows for what differs from the list; paper, section and figure are to be filled in."""
-    for spec in sorted(set(specifications()) - STEPS):
-        for name, numbers, _ in differences(read_text(spec), due[spec]):
-            if numbers is not None:
-                print("", "", "", spec, name, " ".join(map(str, numbers)), sep="\t")
+def moved_rows(rows, spec, name, numbers):
+    """The rows of a definition of this name and these numbers that another specification had."""
+    for other, due in numbers_due(rows).items():
+        if other != spec and due.get(name) == numbers:
+            return [row._replace(specification=spec) for row in rows
+                    if (row.specification, row.definition) == (other, name)]
+    return []
+
+
+def print_unlisted(rows, due):
+    """Rows for what differs from the list: those of a definition that was moved, or empty ones."""
+    found = {spec: read_text(spec) for spec in specifications() if spec not in STEPS}
+    gone = {name for spec, listed in due.items()
+            for name in listed.keys() - definitions(found.get(spec, "")).keys()}
+    for spec, text in found.items():
+        differing = [name for name, _, _ in differences(text, due[spec])]
+        for name, definition in definitions(text).items():
+            numbers = definition.numbers(text)
+            known = moved_rows(rows, spec, name, numbers) if name in gone else []
+            if numbers and name in differing:
+                known = known or [Row("", "", "", spec, name, " ".join(map(str, numbers)))]
+            for row in known:
+                print(*row, sep="\t")
 
 
 def main():
@@ -142,17 +175,18 @@ def main():
     parser = argparse.ArgumentParser(description=__doc__)
     parser.add_argument("--unlisted", action="store_true",
                         help="print rows for what differs from the list")
-    due = read_list()
+    rows = read_list()
+    due = numbers_due(rows)
     if parser.parse_args().unlisted:
-        print_unlisted(due)
+        print_unlisted(rows, due)
         return 0
     report = Report()
     found = specifications()
     tried = sum(test_specification(report, spec, due[spec]) for spec in found if spec not in STEPS)
     report.covers("every step of the code is there", STEPS, found)
-    listed = {spec for spec, rows in due.items() if rows}
+    listed = {row.specification for row in rows}
     report.covers("every specification of the list is there", listed, found)
-    numbers = sum(len(each) for rows in due.values() for each in rows.values())
+    numbers = sum(len(row.numbers.split()) for row in rows)
     report.test(f"each of the {numbers} numbers was changed", tried == numbers > 0, f"{tried} were")
     return report.finish()
 
