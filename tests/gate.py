@@ -70,7 +70,7 @@ CALLS = [
     script("cost rates from Python, on random accounts", "tests.calls.accounts", 38),
     script("calls of the report", "tests.calls.report", 27),
     script("conversions from Python, on random books", "tests.calls.convert", 63),
-    script("Write and Read from Python, on random values and lists", "tests.calls.desk", 28),
+    script("Write and Read from Python, on random values and lists", "tests.calls.desk", 29),
     script("two funds from Python, on random pairs", "tests.calls.funds", 83),
     script("one cell on the screen from Python, on random cells", "tests.calls.screen", 27),
     script("spread of claims from Python, on random claims", "tests.calls.spread", 32),
