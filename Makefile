@@ -1,7 +1,7 @@
 # `make` lists the targets. The toolchain, a POSIX shell, make and Python 3.10 or later are needed; gcc for the
 # library and what calls it, g++, cargo and valgrind for the callers' tests.
 .DEFAULT_GOAL := help
-.PHONY: help test check list report convert practice fuzz streams samples lib install dist callers bench clean FORCE
+.PHONY: help test quick check list report convert practice fuzz streams samples lib install dist callers bench clean FORCE
 
 SAMPLE := samples/one_record.book
 SETTING ?= 0
@@ -27,8 +27,11 @@ $(foreach word,book setting out start prefix destdir,$(if $(filter command line,
 help: ## list the targets
 	@sed -n 's/^\([a-z]*\):[^#]*## /\1: /p' Makefile
 
-test: ## prove everything from nothing and run the outside tests
+test: ## prove everything from nothing, try every must-fail edit and run the outside tests
 	@exec python3 -m tests.gate
+
+quick: ## for daily work: prove what has changed and run the outside tests; no must-fail edits
+	@exec python3 -m tests.gate quick
 
 check: target/bin/listing ## say the verdict on a book in words: make check BOOK=path
 	@python3 -m tools.say_verdict "$$BOOK_PATH"
@@ -49,18 +52,7 @@ practice: lib ## write the practice book of a start number: make practice START=
 	@PYTHONPATH=python python3 -m xaropinto practice "$$START_WORD" -o "$$OUT_PATH"
 
 fuzz: target/bin/test_check target/bin/listing lib ## hold programs and calls against Python: make fuzz N=2000 SEED=1
-	@python3 -m tests.random_books.check --books $(N) --seed $(SEED)
-	@python3 -m tests.calls.base --books $(N) --seed $(SEED)
-	@python3 -m tests.calls.accounts --accounts $(N) --seed $(SEED)
-	@python3 -m tests.calls.report --books $(N) --seed $(SEED)
-	@python3 -m tests.calls.convert --books $(N) --seed $(SEED)
-	@python3 -m tests.calls.desk --desks $(N) --seed $(SEED)
-	@python3 -m tests.calls.funds --pairs $(N) --seed $(SEED)
-	@python3 -m tests.calls.screen --books $(N) --seed $(SEED)
-	@python3 -m tests.calls.spread --claims $(N) --seed $(SEED)
-	@python3 -m tests.calls.deviation --models $(N) --seed $(SEED)
-	@python3 -m tests.calls.practice --books $(N) --seed $(SEED)
-	@python3 -m tests.random_books.listing --books $(N) --seed $(SEED)
+	@python3 -m tests.gate fuzz --number $(N) --seed $(SEED)
 
 streams: ## write the test programs' streams anew
 	@python3 -m tests.streams.check write
@@ -74,7 +66,7 @@ samples: ## write the sample books, their listings and their reports anew
 
 lib: ## prove the C boundary and put its archive and shared library under target/lib
 	@rm -rf target/lib.new && mkdir -p target/lib target/lib.new
-	@rt staticlib boundary > target/lib.new/build.log 2>&1 || { cat target/lib.new/build.log; exit 1; }
+	@python3 -m tools.prove staticlib boundary target/lib.new/build.log
 	@cp target/staticlib/libboundary.a target/lib.new/libxaropinto.a
 	@$(CC) -shared -Wl,-soname,$(SHARED) -o target/lib.new/$(SHARED) \
 		-Wl,--whole-archive target/lib.new/libxaropinto.a -Wl,--no-whole-archive
@@ -91,17 +83,7 @@ dist: lib target/bin/listing target/bin/report target/bin/convert ## an archive 
 	@echo target/dist/$(DIST).tar.gz
 
 callers: ## run the tests of the callers in C, Rust and Python
-	@python3 -m tests.callers
-	@python3 -m tests.calls.base
-	@python3 -m tests.calls.accounts
-	@python3 -m tests.calls.report
-	@python3 -m tests.calls.convert
-	@python3 -m tests.calls.desk
-	@python3 -m tests.calls.funds
-	@python3 -m tests.calls.screen
-	@python3 -m tests.calls.spread
-	@python3 -m tests.calls.deviation
-	@python3 -m tests.calls.practice
+	@python3 -m tests.gate callers
 
 bench: lib ## time Totals beside Rust and Python: make bench OPTIONS=--instructions counts instructions too
 	@cd callers/rust && cargo run --quiet --offline --locked --release --package bench -- $(OPTIONS)
@@ -112,5 +94,5 @@ clean: ## remove all that was built; the next run proves everything again
 
 # A program is proved before it is built; where nothing has changed since, that takes a moment.
 target/bin/test_check target/bin/listing target/bin/report target/bin/convert: target/bin/%: FORCE
-	@[ -f $@ ] || echo "proving and building $*: the first time takes a minute or two" >&2
-	@mkdir -p target && rt check $* > target/check-$*.log 2>&1 || { cat target/check-$*.log; exit 1; }
+	@[ -f $@ ] || echo "proving and building $*: the first time takes some minutes" >&2
+	@python3 -m tools.prove check $* target/check-$*.log

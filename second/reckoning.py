@@ -22,7 +22,8 @@ EDITION_1_PERCENTAGES = (87, 86)
 class Weights(NamedTuple):
     """Thousandths on the book's rates and claims; on mortality so many for each percent of its percentage."""
 
-    mortality: int = 10
+    men: int = 10
+    women: int = 10
     lapse: int = 1_000
     costs: int = 1_000
     claims: int = 1_000
@@ -30,7 +31,7 @@ class Weights(NamedTuple):
 
 BASE = Weights()
 FIRST_YEARS = (BASE,
-               Weights(mortality=12), Weights(mortality=8),
+               Weights(men=12, women=12), Weights(men=8, women=8),
                Weights(lapse=1_300), Weights(lapse=700),
                Weights(costs=1_200), Weights(costs=800),
                Weights(claims=1_050))
@@ -54,6 +55,11 @@ def weights_of(setting, k):
 def percentage_of(values, sex):
     """The mortality percentage of a sex."""
     return (values.percentages if values.edition == 2 else EDITION_1_PERCENTAGES)[sex]
+
+
+def mortality_weight(values, weights, sex):
+    """The weight of a sex's mortality in thousandths."""
+    return (weights.men, weights.women)[sex] * percentage_of(values, sex)
 
 
 def weighted(rate, weight):
@@ -80,7 +86,7 @@ def in_force_by_year(values, chain, setting):
     for k in range(YEARS):
         yield in_force
         weights = weights_of(setting, k)
-        weight = weights.mortality * percentage_of(values, sex)
+        weight = mortality_weight(values, weights, sex)
         mortality = [weighted(rate, weight) for rate in values.mortality[sex][first_class:]]
         lapse = [weighted(cell.lapse, weights.lapse) for cell in cells]
         in_force = [next_in_force(*each) for each in

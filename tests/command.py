@@ -15,6 +15,8 @@ GRACE_SECONDS = 2
 AT_ONCE = 2
 # Between two looks at those that run.
 LOOK_SECONDS = 0.05
+# What is read at a look of what one has written.
+MOST_BYTES_AT_A_LOOK = 1 << 20
 
 
 def run(command, most_seconds, folder=ROOT):
@@ -46,11 +48,19 @@ class Beside:
         self.began = time.monotonic()
         self.most_seconds = most_seconds
         self.written = tempfile.TemporaryFile()
-        self.started = subprocess.Popen(command, cwd=ROOT, stdin=subprocess.DEVNULL, stdout=self.written,
-                                        stderr=subprocess.STDOUT, start_new_session=True)
+        self.lines_end = 0
+        try:
+            self.started = subprocess.Popen(
+                command, cwd=ROOT, stdin=subprocess.DEVNULL, stdout=self.written,
+                stderr=subprocess.STDOUT, start_new_session=True)
+        except OSError as trouble:
+            self.started = None
+            self.written.write(str(trouble).encode())
 
     def ended(self):
-        """Whether it has ended, by itself or because it took too long."""
+        """Whether it has ended: by itself, because it took too long, or before it was started."""
+        if self.started is None:
+            return True
         if self.started.poll() is None and self.seconds() > self.most_seconds:
             end_group(self.started)
             self.written.write(f"\nit did not end in {self.most_seconds} seconds".encode())
@@ -60,18 +70,37 @@ class Beside:
         """How long it has run."""
         return time.monotonic() - self.began
 
+    def new_lines(self):
+        """The whole lines that it has written since this was last asked.
+
+        The command and we share one place in the file: it is read without moving that.
+        """
+        fresh = os.pread(self.written.fileno(), MOST_BYTES_AT_A_LOOK, self.lines_end)
+        whole = fresh.rfind(b"\n") + 1
+        if not whole and len(fresh) == MOST_BYTES_AT_A_LOOK:
+            whole = len(fresh)
+        self.lines_end += whole
+        return text_of(fresh[:whole]).splitlines()
+
     def told(self):
         """Its exit code, what it wrote and how long it took, once it has ended."""
         seconds = self.seconds()
         self.written.seek(0)
+        code = self.started.returncode if self.started else NOT_STARTED
         with self.written:
-            return self.started.returncode, text_of(self.written.read()), seconds
+            return code, text_of(self.written.read()), seconds
+
+    def end(self):
+        """End it and all that it started."""
+        if self.started:
+            end_group(self.started)
 
 
-def run_beside(commands, most_seconds):
+def run_beside(commands, most_seconds, watch=lambda lines: None):
     """Run commands, two at once: exit code, writing and seconds of each, in their order, once those before it ended.
 
-    Nothing that they started goes on where one cannot be started, or whoever waits for them is interrupted.
+    `watch` is given, many times a second, the new lines of those that run, by their numbers.
+    Nothing that was started goes on where whoever waits is interrupted.
     """
     waiting, running, ended = list(enumerate(commands)), {}, {}
     given = 0
@@ -80,6 +109,7 @@ def run_beside(commands, most_seconds):
             while waiting and len(running) < AT_ONCE:
                 number, command = waiting.pop(0)
                 running[number] = Beside(command, most_seconds)
+            watch({number: each.new_lines() for number, each in running.items()})
             for number in [number for number, each in running.items() if each.ended()]:
                 ended[number] = running.pop(number).told()
             while given in ended:
@@ -88,7 +118,7 @@ def run_beside(commands, most_seconds):
             time.sleep(LOOK_SECONDS)
     finally:
         for each in running.values():
-            end_group(each.started)
+            each.end()
 
 
 def end_group(started):

@@ -1,15 +1,23 @@
-"""The gate: proves every crate from nothing, then runs the outside tests. Its last line is the tally of both."""
+"""The gate: proves every crate from nothing, then runs the outside tests; last comes the tally.
 
+`quick` proves only what is not proved as it stands, runs the same tests and tries no must-fail
+edit. `callers` and `fuzz` run some of the tests, one after the other.
+"""
+
+import argparse
 import re
+import subprocess
 import sys
-import time
 from typing import NamedTuple
 
 from tests.checker import checker_line
+from tests import ROOT
 from tests.command import run, run_beside
-from tests.report import read_no_words
+from tests.progress import Line, Work, crates_listed, edits_listed
 
 TALLY = re.compile(r"^(\d+) passed, (\d+) failed$")
+# The last line of `rt check`, which counts no failures and names them instead.
+PROVED = re.compile(r"^rt: ok, (\d+) crates proved$")
 # What the whole gate may take at the most: a part that takes longer hangs.
 MOST_SECONDS = 90 * 60
 INTERRUPTED = 130
@@ -31,15 +39,21 @@ def script(name, module, least, *words):
 
 
 PROOFS = Part("proofs, must-fail edits and programs", ["rt", "ci"], 330)
+# The proofs of `quick`: a crate that is as it was when it was proved is not proved again.
+QUICK_PROOFS = Part("proofs and programs", ["rt", "check"], 48)
 # What runs on the proved programs, two parts at once.
 PROGRAMS = [
     script("must-fail edits fit the proof files", "tests.must_fail_reasons", 2),
     script("documents", "tests.documents", 13),
+    script("the gate's own habits", "tests.gate_habits", 12),
+    script("numbers of the promises, against the order", "tests.order_figures", 48),
+    script("declarations of the calls in four languages", "tests.struct_layouts", 20),
     script("refusals, from one table", "tools.refusals", 4, "test"),
-    script("second check, by hand-worked examples", "tests.second_check", 35),
+    script("second check, by hand-worked examples", "tests.second_check", 38),
     script("stream of the check", "tests.streams.check", 53, "test"),
     script("stream of the looker", "tests.streams.look", 12, "test"),
     script("second reckoning, by hand-worked examples", "tests.second_reckoning", 38),
+    script("table of weights, entry by entry", "tests.table_of_weights", 80),
     script("stream of Group, against the fractions", "tests.streams.group", 31, "test"),
     script("stream of listings, against the fractions", "tests.streams.listing", 36, "test"),
     script("stream of the walk", "tests.streams.walk", 11, "test"),
@@ -50,14 +64,14 @@ PROGRAMS = [
     script("random books against the second check", "tests.random_books.check", 17),
     script("random listings against the second reckoning and the fractions", "tests.random_books.listing", 25),
 ]
-# What builds the archive and the shared library, and what runs on these, two parts at once again.
+# What builds the archive and the shared library, and what runs on these once they are built.
 CALLERS = script("callers in C and Rust", "tests.callers", 278)
 CALLS = [
     script("calls from Python, on random books", "tests.calls.base", 26),
     script("cost rates from Python, on random accounts", "tests.calls.accounts", 38),
     script("calls of the report", "tests.calls.report", 27),
     script("conversions from Python, on random books", "tests.calls.convert", 63),
-    script("Write and Read from Python, on random values and lists", "tests.calls.desk", 28),
+    script("Write and Read from Python, on random values and lists", "tests.calls.desk", 29),
     script("two funds from Python, on random pairs", "tests.calls.funds", 83),
     script("one cell on the screen from Python, on random cells", "tests.calls.screen", 27),
     script("spread of claims from Python, on random claims", "tests.calls.spread", 32),
@@ -68,49 +82,116 @@ CALLS = [
     script("what is installed", "tests.front_door.installed", 8),
 ]
 PARTS = [PROOFS, *PROGRAMS, CALLERS, *CALLS]
+# The module that reads what the prover said of each edit; those whose inputs are drawn; and those
+# that take longest: started first, none of them runs on alone at the end.
+OF_EDITS = "tests.must_fail_reasons"
+DRAWN = ("tests.random_books.", "tests.calls.")
+LONG = ("tests.random_books.listing", "tests.callers", "tests.streams.listing",
+        "tests.front_door.", "tests.calls.funds", "tests.calls.base")
 
 
-def try_part(part):
-    """Run one part by itself; how many tests passed and failed."""
-    began = time.monotonic()
-    code, text = run(part.command, MOST_SECONDS)
-    return tell_part(part, code, text, time.monotonic() - began)
+def module_of(part):
+    """The module of a part that is one of our scripts; empty for any other."""
+    return "".join(part.command[2:3])
 
 
-def try_beside(parts):
-    """Run parts two at once; how many tests of each passed and failed, in their order."""
-    ended = run_beside([part.command for part in parts], MOST_SECONDS)
-    return [tell_part(part, *told) for part, told in zip(parts, ended)]
+def drawn(parts):
+    """Those whose inputs are drawn at random."""
+    return [part for part in parts if module_of(part).startswith(DRAWN)]
 
 
-def tell_part(part, code, text, seconds):
-    """Print the line of a part that has ended, and what it wrote where it failed; how many tests passed and failed."""
-    lines = text.rstrip().splitlines()
-    tally = TALLY.match(lines[-1]) if lines else None
-    passed, failed = (int(tally[1]), int(tally[2])) if tally else (0, 0)
+def try_parts(parts, work, line):
+    """Run parts, two at once; how many tests of each passed and failed."""
+    parts = sorted(parts, key=lambda part: not module_of(part).startswith(LONG))
+
+    def watch(written):
+        work.read(each for lines in written.values() for each in lines)
+        line.show(lambda: work.words([parts[number].name for number in written]))
+
+    ended = run_beside([part.command for part in parts], MOST_SECONDS, watch)
+    return [tell_part(part, work, line, *each) for part, each in zip(parts, ended)]
+
+
+def count_tests(part, code, lines):
+    """How many tests of a part passed and failed, by its last line and its exit code."""
+    last = lines[-1] if lines else ""
+    tally = TALLY.match(last) or PROVED.match(last)
+    passed, failed = map(int, (*tally.groups(), 0)[:2]) if tally else (0, 0)
     # A part that ends badly, or with fewer tests than it has, has failed whatever it counted.
     if failed == 0 and (code != 0 or passed < part.least):
-        failed = 1
         lines.append(f"ended with {code}; {passed} tests, at least {part.least} are due")
+        return passed, 1
+    return passed, failed
+
+
+def tell_part(part, work, line, code, text, seconds):
+    """Print the line of a part that has ended, and what it wrote where it failed; its tally."""
+    lines = text.rstrip().splitlines()
+    work.read(lines)
+    work.ended[part.name] = seconds
+    passed, failed = count_tests(part, code, lines)
+    line.clear()
     if failed:
         print("\n".join(lines))
     else:
-        print("".join(line + "\n" for line in lines if line.startswith(TOLD)), end="")
+        print("".join(each + "\n" for each in lines if each.startswith(TOLD)), end="")
     print(f"{'ok' if not failed else 'FAILED'} {part.name}: {passed} passed, {failed} failed"
           f" ({seconds:.0f} s)", flush=True)
     return passed, failed
 
 
-def main():
+def run_gate(proofs, programs, edits):
     """All parts; the outside tests run on what was proved, so not where the proofs fail."""
-    read_no_words(__doc__)
-    print(checker_line(run(["rt", "version"], MOST_SECONDS)[1]), flush=True)
-    tallies = [try_part(PROOFS)]
-    if not tallies[0][1]:
-        tallies += [*try_beside(PROGRAMS), try_part(CALLERS), *try_beside(CALLS)]
+    before, after = [*programs, CALLERS], CALLS
+    names = [part.name for part in (proofs, *before, *after)]
+    work, line = Work(crates_listed(), edits, names), Line(sys.stdout)
+    try:
+        tallies = try_parts([proofs], work, line)
+        if not tallies[0][1]:
+            tallies += [*try_parts(before, work, line), *try_parts(after, work, line)]
+    finally:
+        line.clear()
+    print("".join(each + "\n" for each in work.slowest()), end="")
+    if not edits:
+        print(f"no must-fail edit was tried, and {len(work.unchanged)} crates, unchanged since they"
+              " were proved, were not proved again: make test does both")
     passed, failed = (sum(counts) for counts in zip(*tallies))
     print(f"{passed} passed, {failed} failed")
     return 1 if failed else 0
+
+
+def run_one_by_one(parts, words=()):
+    """Run parts by themselves up to the first that fails; its exit code."""
+    for part in parts:
+        code = subprocess.run([*part.command, *words], cwd=ROOT, check=False).returncode
+        if code:
+            return code
+    return 0
+
+
+def read_words():
+    """What is to be run."""
+    parser = argparse.ArgumentParser(description=__doc__)
+    parser.add_argument("what", nargs="?", choices=("all", "quick", "callers", "fuzz"),
+                        default="all", help="the gate (all), or what is said above")
+    parser.add_argument("--number", default="2000", help="for fuzz: how many inputs are drawn")
+    parser.add_argument("--seed", default="1", help="for fuzz: what they are drawn with")
+    return parser.parse_args()
+
+
+def main():
+    """Run what is wanted; the exit code."""
+    wanted = read_words()
+    if wanted.what == "callers":
+        return run_one_by_one([CALLERS, *drawn(CALLS)])
+    if wanted.what == "fuzz":
+        words = ["--number", wanted.number, "--seed", wanted.seed]
+        return run_one_by_one(drawn([*PROGRAMS, *CALLS]), words)
+    print(checker_line(run(["rt", "version"], MOST_SECONDS)[1]), flush=True)
+    if wanted.what == "quick":
+        programs = [part for part in PROGRAMS if module_of(part) != OF_EDITS]
+        return run_gate(QUICK_PROOFS, programs, ())
+    return run_gate(PROOFS, PROGRAMS, edits_listed())
 
 
 if __name__ == "__main__":

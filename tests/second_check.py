@@ -7,6 +7,7 @@ import unittest
 
 from second.book import Cell, Portfolio, Values, empty_book, full_book, make_book, one_record_book
 from second.check import check, look
+from second.layout import BASIS_2
 from tests.report import run_unit_tests
 
 
@@ -30,6 +31,11 @@ def packed_record(code=1, sex=0, age_class=120, following=0, count=1, lapse=0, p
     """A record's 24 bytes."""
     return struct.pack("<BBBBHHIIII", code, sex, age_class, spare_3, following, spares,
                        count, lapse, premium, claims)
+
+
+def on_basis_2(book):
+    """The book with age basis 2 in byte 1."""
+    return book[:1] + b"\x02" + book[2:]
 
 
 def pair_of_records(**second):
@@ -155,6 +161,23 @@ class ChainRules(unittest.TestCase):
         self.assertEqual(check(early), ("refused", 13, 1_224))
         for following in (1, 2, 3, 65_535):
             self.assertEqual(check(pair_of_records(following=following)), ("refused", 13, 1_248))
+
+    def test_class_comes_before_the_amounts(self):
+        book = pair_of_records(age_class=118, count=100_001)
+        self.assertEqual(check(book), ("refused", 11, 1_246))
+
+    def test_amounts_come_before_the_end_of_the_chain(self):
+        for amount, place in (("count", 1_252), ("claims", 1_264)):
+            book = pair_of_records(following=1, **{amount: 10_000_001})
+            self.assertEqual(check(book), ("refused", 12, place))
+
+    def test_class_0_of_basis_2_comes_after_the_code_and_before_the_class(self):
+        # The second record is of class 0, where 121 is due.
+        book = on_basis_2(packed(heads={0: 1}, records=[
+            packed_record(age_class=120, following=2), packed_record(age_class=0)]))
+        self.assertEqual(check(book, BASIS_2), ("refused", 21, 1_246))
+        book = on_basis_2(packed(heads={0: 1}, records=[packed_record(code=2, age_class=0)]))
+        self.assertEqual(check(book, BASIS_2), ("refused", 10, 1_220))
 
     def test_record_into_itself_is_refused_for_its_class(self):
         book = packed(heads={0: 1}, records=[packed_record(age_class=50, following=1)])

@@ -12,7 +12,7 @@ from second.exact import exact_liability, exact_totals, group_distance, total_di
 from second.layout import (CHAINS, CLASSES, CURVE, EDITION, HEADER_SPARE, OLDEST_CLASS, PERCENTAGES,
                            PRODUCT_GROUPS, SETTINGS, changed)
 from second.reckoning import (capped, discounted, group, in_force_by_year, listing, next_in_force, outgo_of,
-                              percentage_of, totals, weighted, weights_of)
+                              mortality_weight, totals, weighted, weights_of)
 from tests import ROOT
 from tests.books import trial as trials
 from tests.report import run_unit_tests
@@ -43,7 +43,7 @@ def naive_liability(values, setting, product_group):
                 premium[k] += contracts * reached.premium
                 claims[k] += contracts * reached.claims
                 weights = weights_of(setting, k)
-                death = values.mortality[sex][age_class] * weights.mortality * percentage_of(values, sex)
+                death = values.mortality[sex][age_class] * mortality_weight(values, weights, sex)
                 contracts *= 1 - min(Fraction(death, 10**9), 1)
                 contracts *= 1 - min(Fraction(reached.lapse * weights.lapse, 10**9), 1)
     liability = Fraction(0)

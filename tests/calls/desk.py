@@ -175,6 +175,8 @@ class Tally:
         self.compare("read", case, (reply.refusal, reply.place, tuple(reply.values), [row.tolist() for row in buffers]),
                      (refusal, place, zeros if refusal else values, due))
         self.seen["read", refusal] += 1
+        if not any(rooms):
+            self.seen["read without room", refusal] += 1
         return None if refusal else (reply.values, lists)
 
     def round_trip(self, desk, case, chooser):
@@ -204,6 +206,8 @@ class Tally:
         rooms = [MOST_RECORDS] * len(KINDS)
         taken = self.read(book, rooms, case, chooser)
         if taken is None:
+            # The book's own refusal is given, and not 22.
+            self.read(book, [0] * len(KINDS), case, chooser)
             return
         values, lists = taken
         self.seen["read", "in order" if in_order(book) else "out of order"] += 1
@@ -237,6 +241,8 @@ class Tally:
             "chains of every size are written": [("chain", size) for size in CHAIN_SIZES],
             "every refusal of read is seen": [("read", number) for number in (*range(14), 22, 23)],
             "22 of read is seen for each buffer": [("short", kind) for kind in KINDS],
+            "every refusal of a book is seen before 22 of read":
+                [("read without room", number) for number in (*range(1, 14), 23)],
             "books in order and out of it are read": [("read", "in order"), ("read", "out of order")],
         }
         for words, keys in wanted.items():

@@ -19,8 +19,8 @@ def whole_count(word):
 def read_arguments(description, count, seed, of="books"):
     """How many are wanted and the seed they are drawn with, which is printed."""
     parser = argparse.ArgumentParser(description=description)
-    parser.add_argument(f"--{of}", dest="count", metavar="N", type=whole_count, default=count,
-                        help=f"how many {of} are drawn (default: {count})")
+    parser.add_argument(f"--{of}", "--number", dest="count", metavar="N", type=whole_count,
+                        default=count, help=f"how many {of} are drawn (default: {count})")
     parser.add_argument("--seed", type=int, default=seed, help=f"what they are drawn with (default: {seed})")
     wanted = parser.parse_args()
     print(f"seed {wanted.seed}")
