@@ -9,6 +9,8 @@ START ?= 1
 N ?= 2000
 SEED ?= 1
 PREFIX ?= /usr/local
+# Of the program that times: in each the functions stand in another order.
+LINKS ?= 1 2 3 4 5
 VERSION := $(shell cat VERSION)
 # The name by which programs ask for the shared library: it changes where an old caller would break.
 SHARED := libxaropinto.so.1
@@ -85,8 +87,12 @@ dist: lib target/bin/listing target/bin/report target/bin/convert ## an archive 
 callers: ## run the tests of the callers in C, Rust and Python
 	@python3 -m tests.gate callers
 
-bench: lib ## time Totals beside Rust and Python: make bench OPTIONS=--instructions counts instructions too
-	@cd callers/rust && cargo run --quiet --offline --locked --release --package bench -- $(OPTIONS)
+bench: lib ## time the calls beside Rust and Python: make bench OPTIONS=--instructions counts instructions too
+	@mkdir -p target/bench
+	@cd callers/rust && for link in $(LINKS); do \
+		BENCH_LINK=$$link cargo build --quiet --offline --locked --release --package bench && \
+		cp ../../target/cargo/release/bench ../../target/bench/link_$$link || exit 1; done
+	@target/bench/link_$(firstword $(LINKS)) $(OPTIONS) $(LINKS:%=target/bench/link_%)
 
 clean: ## remove all that was built; the next run proves everything again
 	@rm -rf target differing python/build python/xaropinto.egg-info python/xaropinto/libxaropinto.so

@@ -1,6 +1,7 @@
-"""Times Totals of the second reckoning on a book in a file: the least milliseconds, n, totals and differences."""
+"""Times Totals of the second reckoning on a book in a file: the median milliseconds, n, totals and differences."""
 
 import argparse
+import statistics
 import sys
 import time
 from pathlib import Path
@@ -15,12 +16,12 @@ def main():
     parser.add_argument("runs", type=int, help="how often it is timed")
     wanted = parser.parse_args()
     book = wanted.book.read_bytes()
-    least = float("inf")
+    times = []
     for _ in range(wanted.runs):
         began = time.perf_counter()
         _, _, n, by_setting, differences = totals(book)
-        least = min(least, time.perf_counter() - began)
-    print(f"{least * 1_000:.3f}", n, *by_setting, *differences)
+        times.append(time.perf_counter() - began)
+    print(f"{statistics.median(times) * 1_000:.3f}", n, *by_setting, *differences)
     return 0
 
 

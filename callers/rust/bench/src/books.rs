@@ -1,10 +1,28 @@
-//! The books that are timed, but for the sample that is read from its file.
+//! The books on which all rows are held to agree, and those that are timed.
+
+use std::fs;
 
 use plain::book::{full_book, make_shuffled_book, random_book, Cell, Kind, Values};
 use plain::chooser::Chooser;
 use plain::layout::{CHAINS, CLASSES, CURVE_YEARS, LAST_CLASS};
 
 const SEED: u64 = 2_021;
+
+const SAMPLES: &str = concat!(env!("CARGO_MANIFEST_DIR"), "/../../../samples");
+
+/// The sample books with their names, accepted or not.
+pub fn samples() -> Result<Vec<(String, Vec<u8>)>, String> {
+    let in_samples = |trouble| format!("{SAMPLES}: {trouble}");
+    let mut books = Vec::new();
+    for entry in fs::read_dir(SAMPLES).map_err(in_samples)? {
+        let path = entry.map_err(in_samples)?.path();
+        if path.extension().is_some_and(|ending| ending == "book") {
+            let book = fs::read(&path).map_err(in_samples)?;
+            books.push((path.display().to_string(), book));
+        }
+    }
+    Ok(books)
+}
 
 /// Books that no one times: numbers anywhere in their ranges, and at their ends.
 pub fn untimed() -> Vec<Vec<u8>> {
@@ -26,7 +44,8 @@ pub fn dense(chains: usize) -> Vec<u8> {
     make_shuffled_book(&values, 0, &mut chooser)
 }
 
-/// Premiums from some 300 to 7,000 francs a year, claims that outgrow them, a lapse of 2 to 12 percent.
+/// Premiums from some 300 to 7,000 francs a year, claims that outgrow them, a lapse of 2 to 12
+/// percent.
 fn cell(class: usize, chooser: &mut Chooser) -> Cell {
     let class = class as u32;
     let premium = 30_000 + 45 * class * class + chooser.up_to(3_000);
@@ -38,8 +57,8 @@ fn cell(class: usize, chooser: &mut Chooser) -> Cell {
     }
 }
 
-/// Deaths rise by nine percent from class to class and are certain at the last; the curve rises from
-/// below zero to two percent.
+/// Deaths rise by nine percent from class to class and are certain at the last; the curve rises
+/// from below zero to two percent.
 fn tables() -> Values {
     let mut values = Values {
         cost_rates: [180_000, 210_000, 150_000, 220_000, 120_000],

@@ -1,43 +1,67 @@
-//! Times Totals of the archive beside plain and tuned Rust and the Python integers, on the same books.
+//! Times the calls of the archive beside Rust, and Totals beside the Python integers too.
 //!
-//! `--instructions` counts instructions too.
+//! First all rows of each call must give the same figures, on random books, on the samples and on
+//! the books that are timed. Then each time is a median of medians:
+//!
+//! - In one run of the program the rows of a call take turns, in `timing::ROUNDS` rounds; a row's
+//!   time is the median of its rounds. A moment in which the machine is busy, or clocks its
+//!   processor up or down, falls on all rows.
+//! - Where in memory a loop stands moves its time by up to four percent, and every run of one
+//!   program has it in the same place. So the program is linked several times with its functions in
+//!   shuffled order (`build.rs`) and each link is run once. The time of a row is the median over
+//!   the links; so is the ratio of the archive's time to it, which is taken in each link.
+//!
+//! `make bench` makes the links and names them to one of them, which runs them all and writes the
+//! tables. `--instructions` counts the instructions of each row too: the same in every run and on a
+//! busy machine.
 
+mod agreement;
 mod books;
+mod calls;
+mod curve;
 mod instructions;
+mod links;
+mod one_projection;
 mod python;
 mod reading;
 mod rival;
 mod share;
+mod tables;
 mod timing;
 mod tuned;
 
-use std::path::Path;
 use std::process::ExitCode;
-use std::{env, fs, slice};
+use std::{env, fs};
 
 use plain::layout::{record_count, CHAINS};
+use plain::reckoning::totals;
 
-use timing::{agreed_totals, least_times, CONTENDERS};
+use calls::{Measured, MEASURED, MEASURED_TOTALS};
+use links::Runs;
+use tables::Results;
 
 /// The repository's top; all paths below start there.
 const TOP: &str = concat!(env!("CARGO_MANIFEST_DIR"), "/../../..");
 const FOLDER: &str = "target/bench";
 const DENSE_BOOK: &str = "target/bench/dense_full.book";
-const INSURER_BOOK: &str = "samples/small_insurer.book";
+/// The measured books, in the order of a call's goals.
+const BOOKS: [(&str, &str); 2] = [
+    ("dense full book", DENSE_BOOK),
+    ("small insurer", "samples/small_insurer.book"),
+];
 const CHAIN_COUNTS: [usize; 6] = [0, 1, 2, 4, 7, 14];
-// Among the contenders.
-const ARCHIVE: usize = 0;
-const TUNED_EIGHT: usize = 1;
-const TUNED_FIVE: usize = 2;
+const COUNT_INSTRUCTIONS: &str = "--instructions";
 
 fn main() -> ExitCode {
     let words: Vec<String> = env::args().skip(1).collect();
     let words: Vec<&str> = words.iter().map(String::as_str).collect();
     let done = go_to_the_top().and_then(|()| match words[..] {
-        [] => compare(false),
-        ["--instructions"] => compare(true),
-        [instructions::ONE_CALL, contender, book] => instructions::make_one_call(contender, book),
-        _ => Err("usage: bench [--instructions]".to_string()),
+        [links::ONE_RUN] => write_times(),
+        [instructions::ONE_CALL, measured, row, file] => {
+            instructions::make_one_call(measured, row, file)
+        }
+        [COUNT_INSTRUCTIONS, ref links @ ..] => compare(links, true),
+        ref links => compare(links, false),
     });
     match done {
         Ok(()) => ExitCode::SUCCESS,
@@ -53,22 +77,53 @@ fn go_to_the_top() -> Result<(), String> {
     env::set_current_dir(TOP).map_err(|trouble| format!("{TOP}: {trouble}"))
 }
 
-fn compare(with_instructions: bool) -> Result<(), String> {
-    println!("Totals of a book in memory: its check, eight totals, four differences.");
-    println!("No buffer is lent to write to, so none is cleared.");
+fn read_book(file: &str) -> Result<Vec<u8>, String> {
+    fs::read(file).map_err(|trouble| format!("{file}: {trouble}"))
+}
+
+/// The times of one run, one to a line: of each row of each call on each book, and of Totals on
+/// books of more and more chains.
+fn write_times() -> Result<(), String> {
+    let write = |measured: &Measured, book: &[u8]| {
+        for time in timing::row_times(measured, book) {
+            println!("{time}");
+        }
+    };
+    for (_, file) in BOOKS {
+        let book = read_book(file)?;
+        for measured in &MEASURED {
+            write(measured, &book);
+        }
+    }
+    for chains in CHAIN_COUNTS {
+        write(&MEASURED_TOTALS, &books::dense(chains));
+    }
+    Ok(())
+}
+
+/// The tables of all books. Without a name of a link this program is the only one.
+fn compare(links: &[&str], with_instructions: bool) -> Result<(), String> {
+    let program = env::current_exe().map_err(|trouble| trouble.to_string())?;
+    let program = program.to_string_lossy();
+    let alone = [&*program];
+    let links = if links.is_empty() { &alone } else { links };
+    write_dense_book()?;
+    agree_on_all_books()?;
     println!("Release build: opt-level 3, lto, one codegen unit, panic abort, no target-cpu.");
     println!(
-        "Milliseconds: the least of {} runs in turn, of {} for Python.",
-        timing::RUNS,
+        "Milliseconds: the median of {} links, in each that of {} rounds; of {} runs for Python.",
+        links.len(),
+        timing::ROUNDS,
         python::RUNS
     );
-    for book in books::untimed() {
-        agreed_totals(&book)?;
+    let mut runs = Runs::of(links)?;
+    let mut results = Vec::new();
+    for (name, file) in BOOKS {
+        results.push(compare_on(name, file, &mut runs, with_instructions)?);
     }
-    write_dense_book()?;
-    compare_on("Dense full book", DENSE_BOOK, with_instructions)?;
-    compare_on("Small insurer", INSURER_BOOK, with_instructions)?;
-    compare_by_chains()
+    compare_by_chains(&mut runs);
+    print_goals(&results);
+    Ok(())
 }
 
 /// For the programs that are run on it.
@@ -78,79 +133,72 @@ fn write_dense_book() -> Result<(), String> {
         .map_err(|trouble| format!("{DENSE_BOOK}: {trouble}"))
 }
 
-/// One book: figures are compared before anything is timed.
-fn compare_on(name: &str, file: &str, with_instructions: bool) -> Result<(), String> {
-    let book = fs::read(file).map_err(|trouble| format!("{file}: {trouble}"))?;
-    let due = agreed_totals(&book)?;
-    let python = python::least_time(Path::new(file), &due)?;
-    let times = least_times(slice::from_ref(&book)).remove(0);
-    println!();
-    println!(
-        "{name}, {file}: {} records, {} with contracts; all figures agree",
-        record_count(&book),
-        due.n
-    );
-    print_times(&times, python);
-    if with_instructions {
-        print_instructions(&instructions::count(Path::new(file))?);
+fn agree_on_all_books() -> Result<(), String> {
+    for book in books::untimed() {
+        agreement::agree_on(&book)?;
+    }
+    for (name, book) in books::samples()? {
+        agreement::agree_on(&book).map_err(|trouble| format!("{name}: {trouble}"))?;
+    }
+    for chains in CHAIN_COUNTS {
+        agreement::agree_on(&books::dense(chains))?;
     }
     Ok(())
 }
 
-fn print_times(times: &[f64], python: f64) {
-    let archive = times[ARCHIVE];
-    println!("{:<40} {:>10} {:>16}", "", "ms", "archive over it");
-    for (contender, time) in CONTENDERS.iter().zip(times) {
-        let ratio = archive / time;
-        println!("{:<40} {time:>10.3} {ratio:>16.2}", contender.name);
-    }
-    let ratio = archive / python;
-    println!("{:<40} {python:>10.1} {ratio:>16.4}", "Python integers");
+fn next_results(measured: &Measured, runs: &mut Runs) -> Results {
+    Results::new(&runs.next(measured.call.rows.len()))
 }
 
-fn print_instructions(counts: &[u64]) {
-    println!("{:<40} {:>10} {:>16}", "", "million", "archive over it");
-    for (contender, count) in CONTENDERS.iter().zip(counts) {
-        let millions = *count as f64 / 1e6;
-        let ratio = counts[ARCHIVE] as f64 / *count as f64;
-        println!("{:<40} {millions:>10.2} {ratio:>16.2}", contender.name);
+/// The tables of one book.
+fn compare_on(
+    name: &str,
+    file: &str,
+    runs: &mut Runs,
+    with_instructions: bool,
+) -> Result<Vec<Results>, String> {
+    let book = read_book(file)?;
+    let due = totals(&book).map_err(|_| format!("{file} is refused"))?;
+    let records = record_count(&book);
+    println!();
+    println!(
+        "The {name}, {file}: {records} records, {} with contracts",
+        due.n
+    );
+    let mut all = Vec::new();
+    for (number, measured) in MEASURED.iter().enumerate() {
+        let results = next_results(measured, runs);
+        let counts = || instructions::count_rows(number, measured, file);
+        let instructions = with_instructions.then(counts).transpose()?;
+        println!();
+        tables::print_call(measured, &results, instructions.as_deref());
+        if number == 0 {
+            tables::print_python(python::median_time(file, &due)?, &results);
+        }
+        all.push(results);
     }
+    Ok(all)
 }
 
 /// Dense books of more and more chains: each chain costs the same.
-fn compare_by_chains() -> Result<(), String> {
-    let books = CHAIN_COUNTS.map(books::dense);
-    for book in &books {
-        agreed_totals(book)?;
-    }
-    let times = least_times(&books);
+fn compare_by_chains(runs: &mut Runs) {
     println!();
-    println!(
-        "Dense book by its chains; `a chain` is the time above that without any, over the chains."
-    );
-    println!(
-        "`eight` is the tuned Rust with eight projections, the baseline; `five` is that with five."
-    );
-    println!(
-        "chains records  archive ms  a chain  eight ms  a chain   five ms  a chain  \
-         archive / eight  archive / five"
-    );
-    for ((chains, book), row) in CHAIN_COUNTS.iter().zip(&books).zip(&times) {
-        print_chains(*chains, record_count(book), row, &times[0]);
+    tables::print_chains_heading();
+    let results = CHAIN_COUNTS.map(|_| next_results(&MEASURED_TOTALS, runs));
+    for (chains, of_chains) in CHAIN_COUNTS.into_iter().zip(&results) {
+        let records = record_count(&books::dense(chains));
+        tables::print_chains(chains, records, of_chains, &results[0]);
     }
-    Ok(())
 }
 
-/// One line: each time, and what a chain adds to the time without any.
-fn print_chains(chains: usize, records: usize, times: &[f64], without: &[f64]) {
-    let a_chain = |which: usize| (times[which] - without[which]) / chains.max(1) as f64;
-    print!("{chains:>6} {records:>7}");
-    for (which, width) in [(ARCHIVE, 11), (TUNED_EIGHT, 9), (TUNED_FIVE, 9)] {
-        print!(" {:>width$.3} {:>8.3}", times[which], a_chain(which));
+fn print_goals(results: &[Vec<Results>]) {
+    println!();
+    tables::print_goals_heading();
+    for (at, ((name, _), results)) in BOOKS.iter().zip(results).enumerate() {
+        for (measured, results) in MEASURED.iter().zip(results) {
+            if let Some(goal) = measured.goals[at] {
+                tables::print_goal(measured, name, goal, results);
+            }
+        }
     }
-    println!(
-        " {:>16.2} {:>15.2}",
-        times[ARCHIVE] / times[TUNED_EIGHT],
-        times[ARCHIVE] / times[TUNED_FIVE]
-    );
 }

@@ -1,6 +1,5 @@
 //! The Python integers: a script times them on a book in a file.
 
-use std::path::Path;
 use std::process::Command;
 use std::str::FromStr;
 
@@ -9,11 +8,10 @@ use plain::reckoning::Totals;
 const SCRIPT: &str = "tools.time_totals";
 pub const RUNS: usize = 3;
 
-/// The least milliseconds, where the figures are those that are due.
-pub fn least_time(book: &Path, due: &Totals) -> Result<f64, String> {
+/// The median milliseconds of Totals, where the figures are those that are due.
+pub fn median_time(file: &str, due: &Totals) -> Result<f64, String> {
     let output = Command::new("python3")
-        .args(["-m", SCRIPT])
-        .arg(book)
+        .args(["-m", SCRIPT, file])
         .arg(RUNS.to_string())
         .output()
         .map_err(|trouble| format!("python3 -m {SCRIPT}: {trouble}"))?;

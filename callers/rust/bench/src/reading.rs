@@ -1,4 +1,4 @@
-//! What the tuned reckonings read from a checked book, once for all settings.
+//! What the tuned reckonings read from a checked book.
 
 use plain::layout::*;
 use plain::reckoning::YEARS;
@@ -27,20 +27,26 @@ pub struct Book {
 pub fn read(bytes: &[u8]) -> Book {
     Book {
         percentages: std::array::from_fn(|sex| percentage(bytes, sex)),
-        cost_rates: std::array::from_fn(|group| four_bytes(bytes, COST_RATES + 4 * group) as u64),
-        divisors: std::array::from_fn(|k| divisor(bytes, k)),
+        cost_rates: std::array::from_fn(|group| cost_rate(bytes, group + 1)),
+        divisors: divisors(bytes),
         chains: std::array::from_fn(|chain| read_chain(bytes, chain)),
     }
 }
 
-fn divisor(bytes: &[u8], k: usize) -> u64 {
-    match k {
-        0 => MILLION,
-        _ => (MILLION as i64 + signed_four_bytes(bytes, CURVE + 4 * (k - 1)) as i64) as u64,
-    }
+/// Of product group 1 to 5.
+pub fn cost_rate(bytes: &[u8], group: usize) -> u64 {
+    four_bytes(bytes, COST_RATES + 4 * (group - 1)) as u64
 }
 
-fn read_chain(bytes: &[u8], chain: usize) -> Vec<Record> {
+/// 1,000,000 and the rate of each year; year 0 has none.
+pub fn divisors(bytes: &[u8]) -> [u64; YEARS] {
+    std::array::from_fn(|k| match k {
+        0 => MILLION,
+        _ => (MILLION as i64 + signed_four_bytes(bytes, CURVE + 4 * (k - 1)) as i64) as u64,
+    })
+}
+
+pub fn read_chain(bytes: &[u8], chain: usize) -> Vec<Record> {
     let mut records = Vec::with_capacity(CLASSES);
     let mut number = two_bytes(bytes, HEADS + 2 * chain) as usize;
     while number != 0 {

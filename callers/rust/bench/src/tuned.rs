@@ -3,7 +3,8 @@
 //! The book is checked once and its chains are read once. Weights are worked into a chain's rates
 //! before its cells are walked, a cell's walk ends at the first year with nothing in force, every
 //! product stays within 64 bits, and all divisors are constants but those of the curve. Year by
-//! year only the oldest cells are looked at for their end: to look at each costs more than it saves.
+//! year only the oldest cells are looked at for their end: to look at each costs more than it
+//! saves.
 
 use std::ops::Range;
 
@@ -100,8 +101,8 @@ fn project(book: &Book, weights: &Weights, walk: Walk) -> [Sums; PRODUCT_GROUPS]
     })
 }
 
-/// The rows of a chain, and after them that of class 120 again, without contracts of its own: whoever comes
-/// to it stays there.
+/// The rows of a chain, and after them that of class 120 again, without contracts of its own:
+/// whoever comes to it stays there.
 fn weigh(records: &[Record], percentage: u64, weights: &Weights, rows: &mut Vec<Row>) {
     let [first, later] = weights.mortality.map(|weight| percentage * weight);
     rows.clear();

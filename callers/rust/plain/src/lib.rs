@@ -7,6 +7,7 @@ pub mod chooser;
 pub mod damage;
 pub mod layout;
 pub mod reckoning;
+pub mod report;
 pub mod settings;
 
 /// The number and the place of the first refusal that applies.

@@ -2,30 +2,17 @@
 
 use plain::book::{full_book, make_book, random_book, Kind, Values};
 use plain::chooser::Chooser;
+use plain::report::report_text;
 use xaropinto::Refusal;
-
-use crate::replies::plain_group;
 
 const MOST_REPORT_BYTES: usize = 9_525;
 /// What no report has.
 const MARK: u8 = 0xA5;
 
-fn plain_report(book: &[u8], setting: usize) -> String {
-    let mut text = String::from("group,year,premium,outgo\n");
-    for group in 1..=5 {
-        let (reply, table) = plain_group(book, setting, group, 200);
-        assert!(reply.is_ok());
-        for (k, year) in table.chunks(4).enumerate() {
-            text += &format!("{group},{k},{},{}\n", year[0], year[1]);
-        }
-    }
-    text
-}
-
-/// The room told is the report's length; a buffer of as many bytes takes it, one of a byte more too, and one of a
-/// byte less is refused. The buffer stands in a longer memory.
+/// The room told is the report's length; a buffer of as many bytes takes it, one of a byte more
+/// too, and one of a byte less is refused. The buffer stands in a longer memory.
 fn assert_report(book: &[u8], setting: usize) {
-    let due = plain_report(book, setting);
+    let due = report_text(book, setting).expect("the book is accepted");
     assert_eq!(xaropinto::report_room(book, setting), Ok(due.len()));
     assert!(due.len() <= MOST_REPORT_BYTES);
     for bytes in [due.len(), due.len() + 1] {
