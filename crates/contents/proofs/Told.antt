@@ -11,7 +11,7 @@ use Rattle.field.specs.declared.Verdict.the-variants.{Accepted, Refused}
 use Rattle.book.specs.Check.{checkBook}
 use Rattle.book.proofs.Numbers.{zero-accepted}
 use Rattle.contents.specs.Contents.{Contents}
-use Rattle.contents.specs.Limits.{checkMost, checkCurve, checkSizes, checkPercents, checkEdition, checkRates}
+use Rattle.contents.specs.Limits.{checkMost, checkCurve, checkLengths, checkPercents, checkEdition, checkTables}
 use Rattle.contents.specs.Limits.{checkLists, checkContents}
 use Rattle.contents.specs.Reading.{checkRead}
 
@@ -59,21 +59,20 @@ by-percents edition men women =
 
 -- the call that writes
 pub told-contents : (v : Contents) (room : ℕ) → Told (checkContents v room)
-unfolding checkContents checkSizes checkEdition checkRates checkLists checkCurve
+unfolding checkContents checkLengths checkEdition checkTables checkLists checkCurve
 told-contents v room =
     by-then _ _
     (by-then _ _
-    (by-test _ 22 0 (omega arith) _
-    (by-test _ 22 0 (omega arith) _
-    (by-test _ 22 0 (omega arith) _
-    (by-test _ 22 0 (omega arith) _
-    (by-test _ 22 0 (omega arith) _ (by-most 11 _ _ (omega arith)))))))
     (by-then _ _
     (by-then _ _
+    (by-most 11 _ _ (omega arith))
+    (by-test _ 22 0 (omega arith) _
+    (by-test _ 22 0 (omega arith) _
+    (by-test _ 22 0 (omega arith) _
+    (by-test _ 22 0 (omega arith) _ (by-need _ 22 0 (omega arith)))))))
+    (by-then _ _ (by-test _ 4 0 (omega arith) _ (by-need _ 2 0 (omega arith))) (by-percents _ _ _)))
     (by-then _ _
-    (by-then _ _ (by-test _ 4 0 (omega arith) _ (by-need _ 2 0 (omega arith))) (by-percents _ _ _))
-    (by-most 6 _ _ (omega arith)))
-    (by-all _ _ 0 (λ j. by-need _ 7 0 (omega arith))))
+    (by-then _ _ (by-most 6 _ _ (omega arith)) (by-all _ _ 0 (λ j. by-need _ 7 0 (omega arith))))
     (by-most 8 _ _ (omega arith))))
     (by-then _ _
     (by-then _ _

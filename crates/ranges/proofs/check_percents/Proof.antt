@@ -1,10 +1,10 @@
--- `limits::check_percents` meets its contract: the test on the edition picks the same two tests as the definition.
+-- `ranges::check_percents` meets its contract: the test on the edition picks the same two tests as the definition.
 -- Assumes nothing.
 use borrow.Author.Tests.{eq-eqb, ne-eqb}
 use borrow.Author.Needs.{needs}
 use Rattle.contents.specs.Limits.{checkPercents}
-use Rattle.limits.proofs.check_percents.Statement.{statement}
-use Rattle.limits.proofs.check_percents.Tie as tie
+use Rattle.ranges.proofs.check_percents.Statement.{statement}
+use Rattle.ranges.proofs.check_percents.Tie as tie
 
 returns : tie.Need-returns
 unfolding checkPercents

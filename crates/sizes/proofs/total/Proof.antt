@@ -1,12 +1,12 @@
--- `limits::total` meets its contract. The invariant: the sum is that of the chains before k. The measure is the number
+-- `sizes::total` meets its contract. The invariant: the sum is that of the chains before k. The measure is the number
 -- of chains left. Assumes nothing.
 use mathlib.Core.Path.{_≡_, refl}
 use Prim.Native.Nat.{_-_, _*_, _≤_}
 use native.Mathlib.Numerals.{add-one}
 use native.Mathlib.Omega.{arith}
 use Rattle.contents.specs.Contents.{before}
-use Rattle.limits.proofs.total.Statement.{statement}
-use Rattle.limits.proofs.total.Tie as tie
+use Rattle.sizes.proofs.total.Statement.{statement}
+use Rattle.sizes.proofs.total.Tie as tie
 
 abbrev Inv-loop : tie.InvT-loop
 Inv-loop first sum₀ k₀ sum k = (k ≤ 14) × (sum ≡ before first k) × (sum ≤ 121 * k)

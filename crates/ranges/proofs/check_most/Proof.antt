@@ -1,4 +1,4 @@
--- `limits::check_most` meets its contract. The invariant: what the numbers from j on say is what all say. The measure
+-- `ranges::check_most` meets its contract. The invariant: what the numbers from j on say is what all say. The measure
 -- is how many are left.
 -- Assumes nothing.
 use mathlib.Core.Path.{_≡_, sym, _∙_}
@@ -10,8 +10,8 @@ use lib.ListN.{length, getD}
 use Rattle.field.specs.Verdicts.{need, plus, joinAll}
 use Rattle.field.proofs.Verdicts.{all-start, all-good, all-bad, all-done, need-zero}
 use Rattle.contents.specs.Limits.{checkMost}
-use Rattle.limits.proofs.check_most.Statement.{statement}
-use Rattle.limits.proofs.check_most.Tie as tie
+use Rattle.ranges.proofs.check_most.Statement.{statement}
+use Rattle.ranges.proofs.check_most.Tie as tie
 
 abbrev Inv-loop : tie.InvT-loop
 Inv-loop list most number j₀ j =

@@ -1,8 +1,8 @@
--- `limits::size_of` meets its contract: the classes up to the last, none for a class above it. Assumes nothing.
+-- `sizes::size_of` meets its contract: the classes up to the last, none for a class above it. Assumes nothing.
 use borrow.Author.Needs.{needs}
 use Rattle.contents.specs.Contents.{sizeOf}
-use Rattle.limits.proofs.size_of.Statement.{statement}
-use Rattle.limits.proofs.size_of.Tie as tie
+use Rattle.sizes.proofs.size_of.Statement.{statement}
+use Rattle.sizes.proofs.size_of.Tie as tie
 
 returns : tie.Need-returns
 unfolding sizeOf

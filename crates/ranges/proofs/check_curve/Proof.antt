@@ -1,4 +1,4 @@
--- `limits::check_curve` meets its contract. The invariant: what the rates from j on say is what all say. The measure is
+-- `ranges::check_curve` meets its contract. The invariant: what the rates from j on say is what all say. The measure is
 -- how many are left.
 -- Assumes nothing.
 use mathlib.Core.Path.{_≡_, sym, _∙_}
@@ -12,8 +12,8 @@ use lib.ListN.{length, getD}
 use Rattle.field.specs.Verdicts.{need, plus, joinAll}
 use Rattle.field.proofs.Verdicts.{all-start, all-good, all-bad, all-done, need-zero}
 use Rattle.contents.specs.Limits.{curveRate, checkCurve}
-use Rattle.limits.proofs.check_curve.Statement.{statement}
-use Rattle.limits.proofs.check_curve.Tie as tie
+use Rattle.ranges.proofs.check_curve.Statement.{statement}
+use Rattle.ranges.proofs.check_curve.Tie as tie
 
 abbrev Inv-loop : tie.InvT-loop
 Inv-loop curve j₀ j =

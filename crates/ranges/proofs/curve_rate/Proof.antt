@@ -1,9 +1,9 @@
--- `limits::curve_rate` meets its contract: one test for each end of the range. Assumes nothing.
+-- `ranges::curve_rate` meets its contract: one test for each end of the range. Assumes nothing.
 use mir.Syntax.{w64}
 use mir.ValLaws.{toZ-ofZ}
-use Rattle.limits.proofs.Laws.{rate-low, rate-other}
-use Rattle.limits.proofs.curve_rate.Statement.{statement}
-use Rattle.limits.proofs.curve_rate.Tie as tie
+use Rattle.contents.proofs.Curve.{rate-low, rate-other}
+use Rattle.ranges.proofs.curve_rate.Statement.{statement}
+use Rattle.ranges.proofs.curve_rate.Tie as tie
 
 returns : tie.Need-returns
 returns c =
