@@ -111,10 +111,11 @@ module _ (v : Contents) (room : ℕ) where
       let l = then-right _ _ _ e in
       let l₁ = then-left _ _ _ l in
       let l₂ = then-left _ _ _ l₁ in
-      -- what the test says, whatever its bounds
+      -- what the tests say, whatever their bounds
       let known = within-means _ _ (v .values .edition) (need-true _ _ _ _ (then-left _ _ _ p₁)) in
       let year = within-means _ _ _ (need-true _ _ _ _ (then-right _ _ _ p₁)) in
       let percents = then-right _ _ _ p in
+      let counts = most-means 12 _ (v .counts) _ (then-left _ _ _ l₂) in
       record {
         first = most-means 11 noClass _ _ (then-left _ _ _ e₃);
         counts-size = eqb-true _ _ (need-true _ _ _ _ (then-left _ _ _ s₃));
@@ -134,7 +135,7 @@ module _ (v : Contents) (room : ℕ) where
         cost = most-means 6 mostRate _ _ (then-left _ _ _ t₁);
         curve = curve-means _ _ (then-right _ _ _ t₁);
         mortality = most-means 8 mostRate _ _ (then-right _ _ _ t);
-        count = most-means 12 mostCount _ _ (then-left _ _ _ l₂);
+        count = λ i. omega (arith, counts i);
         lapse = most-means 12 mostRate _ _ (then-right _ _ _ l₂);
         premium = most-means 12 mostAmount _ _ (then-right _ _ _ l₁);
         claim = most-means 12 mostAmount _ _ (then-right _ _ _ l);

@@ -39,7 +39,8 @@ shaped : Shaped (oneRecord .values)
 shaped = record { cost = refl; curve = refl; mortality = refl; first = refl }
 
 pub one-record-taken : checkContents oneRecord 1244 ≡ Accepted 0
-unfolding checkContents checkLengths checkPercents checkEdition checkTables checkLists checkMost checkCurve curveRate joinAll need _andThen_ within sizeOf before
+unfolding checkContents checkLengths checkPercents checkEdition checkTables checkLists checkMost checkCurve curveRate
+    joinAll need _andThen_ within sizeOf before
 one-record-taken = refl
 
 pub one-record-accepted : checkBook 1 (bookOf oneRecord) ≡ Accepted 1

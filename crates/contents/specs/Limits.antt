@@ -65,8 +65,8 @@ checkLists counts lapses premiums claims =
     checkMost 12 mostAmount premiums andThen
     checkMost 12 mostAmount claims
 
--- What stands against writing the contents into a buffer of so many bytes: 11 the first classes, 22 the lengths, 2, 4 and
--- 23 the edition with year and percentages, 6, 7 and 8 the tables, 12 the lists.
+-- What stands against writing the contents into a buffer of so many bytes: 11 the first classes, 22 the lengths, 2, 4
+-- and 23 the edition with year and percentages, 6, 7 and 8 the tables, 12 the lists.
 unfoldable pub checkContents : Contents → ℕ → Verdict
 checkContents v room =
     checkMost 11 noClass (v .values .first) andThen

@@ -1,5 +1,5 @@
-// Whether contents are refused: the first rule that they break, with place 0. The definition is contents/specs/Limits,
-// and the functions here read in its order.
+// Whether contents are refused: the first rule that they break, with place 0. The definition is
+// contents/specs/Limits, and the functions here read in its order.
 ghost use mathlib.Core.Path.{_≡_};
 ghost use Rattle.contents.specs.Contents.{given};
 ghost use Rattle.contents.specs.Limits.{checkTables, checkLists, checkContents};
@@ -17,7 +17,8 @@ use sizes::total;
 
 // Refusals 6, 7 and 8.
 fn check_tables(cost: &[u64], curve: &[i64], mortality: &[u64]) -> Verdict
-    ensures { λ r. ⌜ r ≡ checkTables (now (cost .entry)) (now (curve .entry)) (now (mortality .entry)) ⌝ }
+    ensures { λ r. ⌜ r ≡ checkTables (now (cost .entry)) (now (curve .entry))
+        (now (mortality .entry)) ⌝ }
 {
     let costs = check_most(cost, MOST_RATE, 6);
     let rates = check_curve(curve);

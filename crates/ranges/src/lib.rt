@@ -1,7 +1,8 @@
-// Numbers that Write takes, each in its range: lists, the curve, and the edition with its percentages and the year.
-// The definition is contents/specs/Limits; places are 0.
+// Numbers that Write takes, each in its range: lists, the curve, and the edition with its percentages
+// and the year. The definition is contents/specs/Limits; places are 0.
 ghost use mathlib.Core.Path.{_≡_};
-ghost use Rattle.contents.specs.Limits.{checkMost, curveRate, checkCurve, checkPercents, checkEdition};
+ghost use Rattle.contents.specs.Limits.{checkMost, curveRate, checkCurve};
+ghost use Rattle.contents.specs.Limits.{checkPercents, checkEdition};
 use book::FIRST_YEAR;
 use book::LAST_YEAR;
 use book::MOST_PERCENT;

@@ -1,5 +1,5 @@
-// How many numbers the lists of a book's chains have, and refusal 22 for buffers of other lengths. The definitions are
-// contents/specs/Contents and contents/specs/Limits.
+// How many numbers the lists of a book's chains have, and refusal 22 for buffers of other lengths. The
+// definitions are contents/specs/Contents and contents/specs/Limits.
 ghost use mathlib.Core.Path.{_≡_};
 ghost use Prim.Native.Nat.{_≤_, _<_};
 ghost use Rattle.contents.specs.Contents.{sizeOf, before};
@@ -36,7 +36,8 @@ pub fn total(first: &[u64; 14]) -> usize
     sum
 }
 
-// Refusal 22, of four list buffers and a byte buffer of these lengths, for lists of so many numbers.
+// Refusal 22, of four list buffers and a byte buffer of these lengths, for lists of so many numbers
+// of each kind.
 pub fn check_lengths(
     total: usize,
     counts: usize,
