@@ -12,13 +12,13 @@ from tests.report import run_unit_tests
 
 
 def packed(year=2021, count=None, spare=0, heads=None, costs=None, curve=None, mortality=None,
-           records=(), edition=1):
+           records=(), edition=1, basis=1):
     """A book packed field by field; tables are maps from a position to a number."""
     def table(size, numbers):
         return [(numbers or {}).get(position, 0) for position in range(size)]
 
     count = len(records) if count is None else count
-    return (struct.pack("<BBHHH", edition, 1, year, count, spare)
+    return (struct.pack("<BBHHH", edition, basis, year, count, spare)
             + struct.pack("<14H", *table(14, heads))
             + struct.pack("<5I", *table(5, costs))
             + struct.pack("<49i", *table(49, curve))
@@ -31,11 +31,6 @@ def packed_record(code=1, sex=0, age_class=120, following=0, count=1, lapse=0, p
     """A record's 24 bytes."""
     return struct.pack("<BBBBHHIIII", code, sex, age_class, spare_3, following, spares,
                        count, lapse, premium, claims)
-
-
-def on_basis_2(book):
-    """The book with age basis 2 in byte 1."""
-    return book[:1] + b"\x02" + book[2:]
 
 
 def pair_of_records(**second):
@@ -162,22 +157,21 @@ class ChainRules(unittest.TestCase):
         for following in (1, 2, 3, 65_535):
             self.assertEqual(check(pair_of_records(following=following)), ("refused", 13, 1_248))
 
-    def test_class_comes_before_the_amounts(self):
-        book = pair_of_records(age_class=118, count=100_001)
-        self.assertEqual(check(book), ("refused", 11, 1_246))
+    def test_wrong_owner_comes_before_wrong_class(self):
+        book = packed(heads={0: 1}, records=[packed_record(sex=1, age_class=121)])
+        self.assertEqual(check(book), ("refused", 10, 1_220))
+
+    def test_wrong_class_comes_before_amounts(self):
+        for wrong in ({"count": 100_001}, {"claims": 10_000_001}):
+            first = packed(heads={0: 1}, records=[packed_record(age_class=121, **wrong)])
+            self.assertEqual(check(first), ("refused", 11, 1_222), wrong)
+            later = pair_of_records(age_class=119, **wrong)
+            self.assertEqual(check(later), ("refused", 11, 1_246), wrong)
 
     def test_amounts_come_before_the_end_of_the_chain(self):
-        for amount, place in (("count", 1_252), ("claims", 1_264)):
-            book = pair_of_records(following=1, **{amount: 10_000_001})
-            self.assertEqual(check(book), ("refused", 12, place))
-
-    def test_class_0_of_basis_2_comes_after_the_code_and_before_the_class(self):
-        # The second record is of class 0, where 121 is due.
-        book = on_basis_2(packed(heads={0: 1}, records=[
-            packed_record(age_class=120, following=2), packed_record(age_class=0)]))
-        self.assertEqual(check(book, BASIS_2), ("refused", 21, 1_246))
-        book = on_basis_2(packed(heads={0: 1}, records=[packed_record(code=2, age_class=0)]))
-        self.assertEqual(check(book, BASIS_2), ("refused", 10, 1_220))
+        early = packed(heads={0: 1}, records=[packed_record(age_class=119, claims=10_000_001)])
+        self.assertEqual(check(early), ("refused", 12, 1_240))
+        self.assertEqual(check(pair_of_records(following=1, count=100_001)), ("refused", 12, 1_252))
 
     def test_record_into_itself_is_refused_for_its_class(self):
         book = packed(heads={0: 1}, records=[packed_record(age_class=50, following=1)])
@@ -195,6 +189,36 @@ class ChainRules(unittest.TestCase):
         book = packed(heads={3: 2}, records=[junk, packed_record(code=2, sex=1), junk])
         self.assertEqual(check(book), ("accepted", 1))
         self.assertEqual(check(packed(records=[junk])), ("accepted", 0))
+
+
+class NewerBasis(unittest.TestCase):
+    """Refusal 21, and its place in the order, on age basis 2, where a chain ends at class 121."""
+
+    def verdict(self, **second):
+        """That on a chain of PG1a men at classes 120 and 121, the second record as told."""
+        fields = {"age_class": 121, **second}
+        records = [packed_record(age_class=120, following=2), packed_record(**fields)]
+        return check(packed(heads={0: 1}, records=records, basis=2), BASIS_2)
+
+    def test_chain_ends_at_class_121(self):
+        self.assertEqual(self.verdict(), ("accepted", 2))
+
+    def test_class_0_comes_before_a_wrong_class(self):
+        self.assertEqual(self.verdict(age_class=119), ("refused", 11, 1_246))
+        self.assertEqual(self.verdict(age_class=0), ("refused", 21, 1_246))
+
+    def test_wrong_owner_comes_before_class_0(self):
+        self.assertEqual(self.verdict(age_class=0, code=2), ("refused", 10, 1_244))
+        self.assertEqual(self.verdict(age_class=0, spares=1), ("refused", 10, 1_244))
+
+    def test_class_0_comes_before_amounts_and_the_end_of_the_chain(self):
+        verdict = self.verdict(age_class=0, count=100_001, following=1)
+        self.assertEqual(verdict, ("refused", 21, 1_246))
+
+    def test_class_0_is_no_refusal_on_basis_1(self):
+        youngest = packed_record(age_class=0, count=100_001, following=2)
+        book = packed(heads={0: 1}, records=[youngest])
+        self.assertEqual(check(book), ("refused", 12, 1_228))
 
 
 class Looker(unittest.TestCase):

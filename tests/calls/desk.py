@@ -8,8 +8,9 @@ from itertools import combinations
 
 from second.book import full_book, one_record_book, random_book
 from second.desk import KINDS, NO_CLASS, book_size, in_order, list_sizes, read, write
-from second.layout import (CHAINS, CLASSES, COST_RATES, CURVE, LONGEST_BOOK, MORTALITY, MOST_RECORDS, PERCENTAGES,
-                           SST_YEAR, record)
+from second.layout import (AGE_BASIS, CHAINS, CLASSES, COST_RATES, CURVE, EDITION,
+                           FIRST_RECORD_PLACE, LONGEST_BOOK, MORTALITY, MOST_RECORDS, PERCENTAGES,
+                           RECORD_COUNT, SST_YEAR, changed, record)
 from tests.calls.arguments import raises
 from tests.calls.library import open_library
 from tests.random_books.check import one_book
@@ -28,6 +29,11 @@ WRITE_ORDER = (11, 22, 2, 4, 23, 6, 7, 8, 12)
 WAYS_TO_4 = ("year", "percentages in edition 1")
 WAYS_TO_22 = ("list too long", "list too short", "no room")
 CHAIN_SIZES = ("none", "one", "some", "all classes")
+# The refusals of a book that a reader can meet, and the buffers that are too short beside each.
+BOOK_REFUSALS = (*range(1, 14), 23)
+SHORT = (*KINDS, "all four")
+# One desk in so many has its book broken in every way and read into short buffers.
+DESKS_PER_REFUSED = 100
 AMOUNTS = record(1).amounts
 # How far past what is lent the tests look.
 BEYOND = 40
@@ -135,6 +141,28 @@ def break_length(desk, chooser):
     return way
 
 
+def refused_books(book):
+    """A book in order that has records, broken by one rule of each refusal."""
+    first, count = record(1), RECORD_COUNT.read(book)
+    chain = next(chain for chain in CHAINS if chain.head.read(book) == 1)
+    return {
+        1: book[:FIRST_RECORD_PLACE - 1],
+        2: changed(book, (EDITION, 3)),
+        3: changed(book, (AGE_BASIS, 2)),
+        4: changed(book, (SST_YEAR, SST_YEAR.high + 1)),
+        5: book + bytes(1),
+        6: changed(book, (COST_RATES[4], COST_RATES[4].high + 1)),
+        7: changed(book, (CURVE[48], CURVE[48].low - 1)),
+        8: changed(book, (MORTALITY[241], MORTALITY[241].high + 1)),
+        9: changed(book, (chain.head, count + 1)),
+        10: changed(book, (first.sex, 1 - chain.sex)),
+        11: changed(book, (first.age_class, NO_CLASS)),
+        12: changed(book, (first.amounts[3], first.amounts[3].high + 1)),
+        13: changed(book, (first.next, 0 if first.next.read(book) else 1)),
+        23: changed(book, (EDITION, 2), (PERCENTAGES[1], 0)),
+    }
+
+
 class Tally:
     """Counts what was seen and what differs, and shows the first differences."""
 
@@ -175,8 +203,6 @@ class Tally:
         self.compare("read", case, (reply.refusal, reply.place, tuple(reply.values), [row.tolist() for row in buffers]),
                      (refusal, place, zeros if refusal else values, due))
         self.seen["read", refusal] += 1
-        if not any(rooms):
-            self.seen["read without room", refusal] += 1
         return None if refusal else (reply.values, lists)
 
     def round_trip(self, desk, case, chooser):
@@ -223,6 +249,16 @@ class Tally:
             if again != book:
                 print(f"kept as {keep_book(book, 'desk', self.seed, case)}")
 
+    def refused(self, desk, case, chooser):
+        """Break a desk's book in each way, and read it where one buffer, or each, is too short."""
+        too_short = (0, len(desk.lists[0]) - 1)
+        for number, book in refused_books(write(desk.values, desk.lists, desk.room)[1]).items():
+            for short in SHORT:
+                rooms = [chooser.choice(too_short) if short in (kind, "all four") else MOST_RECORDS
+                         for kind in KINDS]
+                self.read(book, rooms, f"{case}, refused with {number}, short: {short}", chooser)
+                self.seen["short beside", read(book, rooms)[0], short] += 1
+
     def test_agreement(self, report):
         """No call differs."""
         for name, times in sorted(self.calls.items()):
@@ -239,10 +275,11 @@ class Tally:
             "both editions are written and read":
                 [(call, edition) for call in ("edition written", "edition read") for edition in (1, 2)],
             "chains of every size are written": [("chain", size) for size in CHAIN_SIZES],
-            "every refusal of read is seen": [("read", number) for number in (*range(14), 22, 23)],
+            "every refusal of read is seen":
+                [("read", number) for number in (0, *BOOK_REFUSALS, 22)],
             "22 of read is seen for each buffer": [("short", kind) for kind in KINDS],
-            "every refusal of a book is seen before 22 of read":
-                [("read without room", number) for number in (*range(1, 14), 23)],
+            "every refusal of a book is seen before 22, for each buffer that is too short":
+                [("short beside", number, short) for number in BOOK_REFUSALS for short in SHORT],
             "books in order and out of it are read": [("read", "in order"), ("read", "out of order")],
         }
         for words, keys in wanted.items():
@@ -261,6 +298,8 @@ def try_random(tally, count, seed):
         tally.broken(random_desk(tally.library, chooser), pairs[number % len(pairs)], case, chooser)
         tally.book(random_book(chooser, 112, 4, chooser.choice((0, 2))) if number % 3 else one_book(chooser),
                    f"book-{number}", chooser)
+        if number % DESKS_PER_REFUSED == 0:
+            tally.refused(random_desk(tally.library, chooser), case, chooser)
 
 
 def try_named(report, tally, seed):
@@ -284,6 +323,12 @@ def try_named(report, tally, seed):
     library.write(carried, *(array("Q", [number]) for number in (10, 0, 100_000, 80_000)), out)
     report.test("edition 2 stands in byte 0, its percentages in bytes 6 and 7",
                 (out[0], out[6], out[7]) == (2, 100, 1), list(out[:8]))
+    # The paper's book with a count of 100,001, and with its own of 10, into buffers for no number.
+    for words, count, due in (("12 of a book comes before 22", 100_001, (12, 1_228)),
+                              ("22 comes next", 10, (22, 0))):
+        book = changed(one_record_book(), (record(1).amounts[0], count))
+        reply = library.read(book, *(array("Q") for _ in KINDS))
+        report.test(f"{words}, by hand", (reply.refusal, reply.place) == due, reply[:2])
     below = values._replace(curve=(-1, -10_000) + (0,) * 47)
     library.write(below, *(array("Q", [number]) for number in (10, 0, 100_000, 80_000)), out)
     report.test("-1 is 255 four times, and -10,000 is 240, 216, 255, 255",

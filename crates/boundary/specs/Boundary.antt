@@ -7,6 +7,8 @@ use lib.ListN.{length}
 use lib.Ieee.{Float}
 use Rattle.field.specs.Verdicts.{pick, refusalOf, placeOf, countOf}
 use Rattle.field.specs.declared.Verdict.{Verdict}
+use Rattle.book.specs.Check.{checkBook}
+use Rattle.book.specs.Promises.{CheckPromised}
 use Rattle.conversion.specs.Conversion.{convertCheck, ConvertPromised}
 use Rattle.reckoning.specs.Replies.{refusalIn, placeIn, liabilityIn, countIn, groupReply, GroupPromised}
 use Rattle.reckoning.specs.declared.GroupReply.{GroupReply}
@@ -35,6 +37,12 @@ use Rattle.boundary.specs.declared.SpreadFields.{SpreadFields}
 -- a verdict: the paper's number and place of a refusal, and n
 abbrev pub verdictFields : Verdict → VerdictFields
 verdictFields v = record { refusal = refusalOf v; place = placeOf v; n = countOf v }
+
+-- Check across the boundary: the fields are those of the verdict as defined, and of that verdict all holds that Check
+-- promises
+pub record CheckHanded (b : List ℕ) (r : VerdictFields) : Type 0 where
+  pub fields-are : r ≡ verdictFields (checkBook 1 b)
+  pub promised : CheckPromised b (checkBook 1 b)
 
 -- Group's reply
 abbrev pub groupFields : GroupReply → GroupFields

@@ -2,7 +2,6 @@
 // A slice is a pointer and a length there. No call leans on an earlier one, and a refusal changes nothing that is lent;
 // of two funds, nothing of the refused one's half.
 ghost use mathlib.Core.Path.{_≡_};
-ghost use Rattle.book.specs.Check.{checkBook};
 ghost use Rattle.look.specs.Looker.{locatedIn};
 ghost use Rattle.reckoning.specs.Totals.{totalsReply, TotalsPromised};
 ghost use Rattle.lines.specs.Listing.{listingOf, Listed};
@@ -10,7 +9,8 @@ ghost use Rattle.accounts.specs.Replies.{RatesPromised};
 ghost use Rattle.deviation.specs.Deviation.{DeviationPromised};
 ghost use Rattle.contents.specs.Contents.{given};
 ghost use Rattle.contents.specs.Promises.{ReadPromised};
-ghost use Rattle.boundary.specs.Boundary.{verdictFields, GroupHanded, ConvertHanded, WriteHanded};
+ghost use Rattle.boundary.specs.Boundary.{verdictFields, CheckHanded, GroupHanded};
+ghost use Rattle.boundary.specs.Boundary.{ConvertHanded, WriteHanded};
 ghost use Rattle.boundary.specs.Boundary.{reportFields, ReportHanded, RoomHanded};
 ghost use Rattle.boundary.specs.Boundary.{FundsHanded};
 ghost use Rattle.boundary.specs.Boundary.{InForceHanded};
@@ -67,7 +67,7 @@ fn in_fields(v: Verdict) -> VerdictFields
 
 #[no_mangle]
 pub extern "C" fn xaropinto_check(book: &[u8]) -> VerdictFields
-    ensures { λ r. ⌜ r ≡ verdictFields (checkBook 1 (now (book .entry))) ⌝ }
+    ensures { λ r. ⌜ CheckHanded (now (book .entry)) r ⌝ }
 {
     in_fields(acceptance::check(book))
 }

@@ -9,9 +9,9 @@ ghost use Rattle.contents.specs.Written.{twoBytes, nextFor, recordBytes, chainB
 ghost use Rattle.contents.specs.Limits.{Fit};
 use book::CHAINS;
 use contents::Values;
-use limits::size_of;
 use numbers::put_four;
 use numbers::put_two;
+use sizes::size_of;
 use text::put_byte;
 
 // The first eight bytes of a record of chain k.

@@ -153,7 +153,7 @@ module _ (b : List ℕ) (bytes : OfBytes b) (v : ValidBook 1 b) (r : Rules 1 b) 
       (two-stands b 2 (readU16 b 2) bytes refl) in
       let l₄ : length t₄ ≡ 4 = omega (arith, two-length (readU16 b 2)) in
       let h₆ = stands-both b t₄ (twoBytes (before (firstsOf b) chains)) 0 4 (omega (arith, l₄)) h₄
-      (two-stands b 4 (before (firstsOf b) chains) bytes (o .all)) in
+      (two-stands b 4 (before (firstsOf b) chains) bytes (omega (arith, o .all))) in
       let l₆ : length t₆ ≡ 6 =
       omega (
         arith,

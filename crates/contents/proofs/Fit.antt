@@ -18,8 +18,8 @@ use Rattle.book.specs.Layout.{mostPercent, mostRate, mostCount, mostAmount}
 use Rattle.text.proofs.Laws.{le-or-lt}
 use Rattle.contents.specs.Contents.{Contents, noClass}
 use Rattle.contents.specs.Written.{bookSize}
-use Rattle.contents.specs.Limits.{checkMost, curveRate, checkCurve, checkSizes, checkPercents, checkEdition}
-use Rattle.contents.specs.Limits.{checkRates, checkLists, checkContents, Fit}
+use Rattle.contents.specs.Limits.{checkMost, curveRate, checkCurve, checkLengths, checkPercents, checkEdition}
+use Rattle.contents.specs.Limits.{checkTables, checkLists, checkContents, Fit}
 
 module _ (number most : ℕ) (l : List ℕ) where
   most-means : (n : ℕ) → checkMost number most l ≡ Accepted n → (j : ℕ) → getD l j 0 ≤ most
@@ -96,29 +96,29 @@ percents-small v f =
 
 module _ (v : Contents) (room : ℕ) where
   pub fit : (n : ℕ) → checkContents v room ≡ Accepted n → Fit v
-  unfolding checkContents checkSizes checkEdition checkRates checkLists
+  unfolding checkContents checkLengths checkEdition checkTables checkLists
   fit n e =
       let e₁ = then-left _ _ _ e in
-      let s = then-left _ _ _ e₁ in
-      let s₁ = then-left _ _ _ s in
+      let e₂ = then-left _ _ _ e₁ in
+      let e₃ = then-left _ _ _ e₂ in
+      let s₁ = then-left _ _ _ (then-right _ _ _ e₃) in
       let s₂ = then-left _ _ _ s₁ in
       let s₃ = then-left _ _ _ s₂ in
-      let s₄ = then-left _ _ _ s₃ in
-      let r = then-right _ _ _ e₁ in
-      let r₁ = then-left _ _ _ r in
-      let r₂ = then-left _ _ _ r₁ in
+      let p = then-right _ _ _ e₂ in
+      let p₁ = then-left _ _ _ p in
+      let t = then-right _ _ _ e₁ in
+      let t₁ = then-left _ _ _ t in
       let l = then-right _ _ _ e in
       let l₁ = then-left _ _ _ l in
       let l₂ = then-left _ _ _ l₁ in
-      let p = then-left _ _ _ r₂ in
-      let p₁ = then-left _ _ _ p in
-      -- what the test says, whatever its bounds
+      -- what the tests say, whatever their bounds
       let known = within-means _ _ (v .values .edition) (need-true _ _ _ _ (then-left _ _ _ p₁)) in
       let year = within-means _ _ _ (need-true _ _ _ _ (then-right _ _ _ p₁)) in
       let percents = then-right _ _ _ p in
+      let counts = most-means 12 _ (v .counts) _ (then-left _ _ _ l₂) in
       record {
-        first = most-means 11 noClass _ _ (then-left _ _ _ s₄);
-        counts-size = eqb-true _ _ (need-true _ _ _ _ (then-right _ _ _ s₄));
+        first = most-means 11 noClass _ _ (then-left _ _ _ e₃);
+        counts-size = eqb-true _ _ (need-true _ _ _ _ (then-left _ _ _ s₃));
         lapses-size = eqb-true _ _ (need-true _ _ _ _ (then-right _ _ _ s₃));
         premiums-size = eqb-true _ _ (need-true _ _ _ _ (then-right _ _ _ s₂));
         claims-size = eqb-true _ _ (need-true _ _ _ _ (then-right _ _ _ s₁));
@@ -132,10 +132,10 @@ module _ (v : Contents) (room : ℕ) where
         women-high = λ two. both-given _ _ _ _ percents two .1 .1;
         year-low = year .0;
         year-high = year .1;
-        cost = most-means 6 mostRate _ _ (then-right _ _ _ r₂);
-        curve = curve-means _ _ (then-right _ _ _ r₁);
-        mortality = most-means 8 mostRate _ _ (then-right _ _ _ r);
-        count = most-means 12 mostCount _ _ (then-left _ _ _ l₂);
+        cost = most-means 6 mostRate _ _ (then-left _ _ _ t₁);
+        curve = curve-means _ _ (then-right _ _ _ t₁);
+        mortality = most-means 8 mostRate _ _ (then-right _ _ _ t);
+        count = λ i. omega (arith, counts i);
         lapse = most-means 12 mostRate _ _ (then-right _ _ _ l₂);
         premium = most-means 12 mostAmount _ _ (then-right _ _ _ l₁);
         claim = most-means 12 mostAmount _ _ (then-right _ _ _ l);
@@ -143,33 +143,35 @@ module _ (v : Contents) (room : ℕ) where
 
   -- the lent buffer takes the book
   pub room-enough : (n : ℕ) → checkContents v room ≡ Accepted n → bookSize (v .values .first) ≤ room
-  unfolding checkContents checkSizes
-  room-enough n e = leb-true _ _ (need-true _ _ _ _ (then-right _ _ _ (then-left _ _ _ (then-left _ _ _ e))))
+  unfolding checkContents checkLengths
+  room-enough n e =
+      leb-true _ _
+      (need-true _ _ _ _ (then-right _ _ _ (then-right _ _ _ (then-left _ _ _ (then-left _ _ _ (then-left _ _ _ e))))))
 
   pub fit-good : Fit v → bookSize (v .values .first) ≤ room → checkContents v room ≡ Accepted 0
-  unfolding checkContents checkSizes checkEdition checkRates checkLists
+  unfolding checkContents checkLengths checkEdition checkTables checkLists
   fit-good f enough =
       then-good _ _ _ _
       (then-good _ _ _ _
       (then-good _ _ _ _
       (then-good _ _ _ _
+      (most-good _ _ _ (f .first))
       (then-good _ _ _ _
       (then-good _ _ _ _
-      (then-good _ _ _ _ (most-good _ _ _ (f .first)) (need-good _ _ _ (eq-eqb _ _ (f .counts-size))))
+      (then-good _ _ _ _
+      (then-good _ _ _ _
+      (need-good _ _ _ (eq-eqb _ _ (f .counts-size)))
       (need-good _ _ _ (eq-eqb _ _ (f .lapses-size))))
       (need-good _ _ _ (eq-eqb _ _ (f .premiums-size))))
       (need-good _ _ _ (eq-eqb _ _ (f .claims-size))))
-      (need-good _ _ _ (le-leb _ _ enough)))
-      (then-good _ _ _ _
-      (then-good _ _ _ _
-      (then-good _ _ _ _
+      (need-good _ _ _ (le-leb _ _ enough))))
       (then-good _ _ _ _
       (then-good _ _ _ _
       (need-good _ _ _ (within-good _ _ _ (f .edition-low) (f .edition-high)))
       (need-good _ _ _ (within-good _ _ _ (f .year-low) (f .year-high))))
-      (percents-good v f))
-      (most-good _ _ _ (f .cost)))
-      (curve-good _ (f .curve)))
+      (percents-good v f)))
+      (then-good _ _ _ _
+      (then-good _ _ _ _ (most-good _ _ _ (f .cost)) (curve-good _ (f .curve)))
       (most-good _ _ _ (f .mortality))))
       (then-good _ _ _ _
       (then-good _ _ _ _ (then-good _ _ _ _ (most-good _ _ _ (f .count)) (most-good _ _ _ (f .lapse)))

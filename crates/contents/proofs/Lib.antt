@@ -2,6 +2,7 @@ pub mod Stands
 pub mod Numbers
 pub mod Laid
 pub mod Fit
+pub mod Curve
 pub mod Entries
 pub mod Linked
 pub mod Accepted

@@ -1,104 +1,70 @@
--- A refusal of either call has a number above 0: refusal 0 stands for acceptance and for nothing else. Assumes nothing.
+-- Refusal 0 is acceptance, of both calls. Assumes nothing.
 use mathlib.Core.Path.{_≡_, refl}
 use mathlib.Core.List.{List}
 use mathlib.Core.Bool.{Bool, true, false}
-use Prim.Native.Nat.{ℕ, zero, suc, _+_, _<_}
-use native.Mathlib.Omega.{arith}
+use Prim.Native.Nat.{ℕ, zero, suc, _+_}
 use lib.Dec.{eqb}
-use Rattle.field.specs.Verdicts.{pick, need, _andThen_, plus, join, joinAll, countOf, refusalOf}
+use Rattle.field.specs.Verdicts.{pick, need, _andThen_, join, joinAll}
 use Rattle.field.specs.declared.Verdict.{Verdict}
 use Rattle.field.specs.declared.Verdict.the-variants.{Accepted, Refused}
-use Rattle.book.specs.Check.{checkBook}
+use Rattle.field.proofs.Verdicts.{Told, told-need, told-then}
 use Rattle.book.proofs.Numbers.{zero-accepted}
 use Rattle.contents.specs.Contents.{Contents}
-use Rattle.contents.specs.Limits.{checkMost, checkCurve, checkSizes, checkPercents, checkEdition, checkRates}
+use Rattle.contents.specs.Limits.{checkMost, checkCurve, checkLengths, checkPercents, checkEdition, checkTables}
 use Rattle.contents.specs.Limits.{checkLists, checkContents}
 use Rattle.contents.specs.Reading.{checkRead}
 
-abbrev pub Told : Verdict → Type 0
-Told (Accepted n) = Unit {0}
-Told (Refused number place) = 0 < number
+told-join : (v w : Verdict) → Told v → Told w → Told (join v w)
+unfolding Told
+told-join (Accepted n) (Accepted m) hv hw = λ e. refl
+told-join (Accepted n) (Refused q p) hv hw = hw
+told-join (Refused q p) w hv hw = hv
 
-by-need : (ok : Bool) (q p : ℕ) → 0 < q → Told (need ok q p)
-unfolding need
-by-need true q p h = tt
-by-need false q p h = h
+told-all : (f : ℕ → Verdict) (left k : ℕ) → ((j : ℕ) → Told (f j)) → Told (joinAll f k left)
+unfolding Told joinAll
+told-all f zero k each = λ e. refl
+told-all f (suc left) k each = told-join (f k) (joinAll f (k + 1) left) (each k) (told-all f left (k + 1) each)
 
-by-then : (v w : Verdict) → Told v → Told w → Told (v andThen w)
-unfolding _andThen_
-by-then (Accepted n) w hv hw = hw
-by-then (Refused q p) w hv hw = hv
+told-test : (ok : Bool) (q p : ℕ) (w : Verdict) → Told w → Told (w andThen need ok (suc q) p)
+told-test ok q p w h = told-then w (need ok (suc q) p) h (told-need ok q p)
 
-by-join : (v w : Verdict) → Told v → Told w → Told (join v w)
-by-join (Accepted n) (Accepted m) hv hw = tt
-by-join (Accepted n) (Refused q p) hv hw = hw
-by-join (Refused q p) w hv hw = hv
-
-by-all : (f : ℕ → Verdict) (left k : ℕ) → ((j : ℕ) → Told (f j)) → Told (joinAll f k left)
-unfolding joinAll
-by-all f zero k each = tt
-by-all f (suc left) k each = by-join (f k) (joinAll f (k + 1) left) (each k) (by-all f left (k + 1) each)
-
-by-test : (ok : Bool) (q p : ℕ) → 0 < q → (w : Verdict) → Told w → Told (w andThen need ok q p)
-by-test ok q p l w h = by-then w (need ok q p) h (by-need ok q p l)
-
-by-most : (number most : ℕ) (l : List ℕ) → 0 < number → Told (checkMost number most l)
+told-most : (number most : ℕ) (l : List ℕ) → Told (checkMost (suc number) most l)
 unfolding checkMost
-by-most number most l h = by-all _ _ 0 (λ j. by-need _ number 0 h)
+told-most number most l = told-all _ _ 0 (λ j. told-need _ number 0)
 
-by-percents : (edition men women : ℕ) → Told (checkPercents edition men women)
+told-percents : (edition men women : ℕ) → Told (checkPercents edition men women)
 unfolding checkPercents
-by-percents edition men women =
-    by-pick (eqb edition 2) _ _
-    (by-test _ 23 0 (omega arith) _ (by-need _ 23 0 (omega arith)))
-    (by-test _ 4 0 (omega arith) _ (by-need _ 4 0 (omega arith)))
+told-percents edition men women =
+    by-edition (eqb edition 2) _ _
+    (told-test _ 22 0 _ (told-need _ 22 0))
+    (told-test _ 3 0 _ (told-need _ 3 0))
   where
-    by-pick : (t : Bool) (v w : Verdict) → Told v → Told w → Told (pick t v w)
-    by-pick true v w hv hw = hv
-    by-pick false v w hv hw = hw
+    by-edition : (t : Bool) (v w : Verdict) → Told v → Told w → Told (pick t v w)
+    by-edition true v w hv hw = hv
+    by-edition false v w hv hw = hw
+
+told-lengths : (total counts lapses premiums claims room : ℕ)
+    → Told (checkLengths total counts lapses premiums claims room)
+unfolding checkLengths
+told-lengths total counts lapses premiums claims room =
+    told-test _ 21 0 _ (told-test _ 21 0 _ (told-test _ 21 0 _ (told-test _ 21 0 _ (told-need _ 21 0))))
 
 -- the call that writes
 pub told-contents : (v : Contents) (room : ℕ) → Told (checkContents v room)
-unfolding checkContents checkSizes checkEdition checkRates checkLists checkCurve
+unfolding checkContents checkEdition checkTables checkLists checkCurve
 told-contents v room =
-    by-then _ _
-    (by-then _ _
-    (by-test _ 22 0 (omega arith) _
-    (by-test _ 22 0 (omega arith) _
-    (by-test _ 22 0 (omega arith) _
-    (by-test _ 22 0 (omega arith) _
-    (by-test _ 22 0 (omega arith) _ (by-most 11 _ _ (omega arith)))))))
-    (by-then _ _
-    (by-then _ _
-    (by-then _ _
-    (by-then _ _ (by-test _ 4 0 (omega arith) _ (by-need _ 2 0 (omega arith))) (by-percents _ _ _))
-    (by-most 6 _ _ (omega arith)))
-    (by-all _ _ 0 (λ j. by-need _ 7 0 (omega arith))))
-    (by-most 8 _ _ (omega arith))))
-    (by-then _ _
-    (by-then _ _
-    (by-then _ _ (by-most 12 _ _ (omega arith)) (by-most 12 _ _ (omega arith)))
-    (by-most 12 _ _ (omega arith)))
-    (by-most 12 _ _ (omega arith)))
+    told-then _ _
+    (told-then _ _
+    (told-then _ _
+    (told-then _ _ (told-most 10 _ _) (told-lengths _ _ _ _ _ _))
+    (told-then _ _ (told-test _ 3 0 _ (told-need _ 1 0)) (told-percents _ _ _)))
+    (told-then _ _ (told-then _ _ (told-most 5 _ _) (told-all _ _ 0 (λ j. told-need _ 6 0))) (told-most 7 _ _)))
+    (told-then _ _
+    (told-then _ _ (told-then _ _ (told-most 11 _ _) (told-most 11 _ _)) (told-most 11 _ _))
+    (told-most 11 _ _))
 
 -- the call that reads
-told-book : (b : List ℕ) → Told (checkBook 1 b)
-told-book b = by (checkBook 1 b) (zero-accepted 1 b)
-  where
-    by : (v : Verdict) → (refusalOf v ≡ 0 → v ≡ Accepted (countOf v)) → Told v
-    by (Accepted n) h = tt
-    by (Refused zero p) h = absurd (let e = h refl in let z : _≡_ {A = ℕ} 0 1 = cc in omega arith)
-    by (Refused (suc q) p) h = omega arith
-
 pub told-read : (b : List ℕ) (counts lapses premiums claims : ℕ) → Told (checkRead b counts lapses premiums claims)
-unfolding checkRead
+unfolding checkRead Told
 told-read b counts lapses premiums claims =
-    by-test _ 22 0 (omega arith) _
-    (by-test _ 22 0 (omega arith) _
-    (by-test _ 22 0 (omega arith) _
-    (by-test _ 22 0 (omega arith) _ (told-book b))))
-
--- refusal 0 is acceptance
-pub zero-told : (v : Verdict) → Told v → refusalOf v ≡ 0 → v ≡ Accepted (countOf v)
-zero-told (Accepted n) h e = refl
-zero-told (Refused q p) h e = absurd (omega arith)
+    told-test _ 21 0 _ (told-test _ 21 0 _ (told-test _ 21 0 _ (told-test _ 21 0 _ (zero-accepted 1 b))))

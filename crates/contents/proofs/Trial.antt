@@ -11,8 +11,8 @@ use Rattle.book.specs.Cells.{sumOf}
 use Rattle.book.specs.Check.{checkBook}
 use Rattle.contents.specs.Contents.{Contents, given, sizeOf, before}
 use Rattle.contents.specs.Written.{bookOf}
-use Rattle.contents.specs.Limits.{checkMost, curveRate, checkCurve, checkSizes, checkPercents, checkEdition, checkRates, checkLists}
-use Rattle.contents.specs.Limits.{checkContents, Shaped}
+use Rattle.contents.specs.Limits.{checkMost, curveRate, checkCurve, checkLengths, checkPercents, checkEdition}
+use Rattle.contents.specs.Limits.{checkTables, checkLists, checkContents, Shaped}
 use Rattle.contents.specs.Reading.{contentsOf, InOrder}
 use Rattle.contents.specs.Promises.{notZero}
 use Rattle.contents.proofs.Accepted.{written-accepted}
@@ -39,7 +39,8 @@ shaped : Shaped (oneRecord .values)
 shaped = record { cost = refl; curve = refl; mortality = refl; first = refl }
 
 pub one-record-taken : checkContents oneRecord 1244 ≡ Accepted 0
-unfolding checkContents checkSizes checkPercents checkEdition checkRates checkLists checkMost checkCurve curveRate joinAll need _andThen_ within sizeOf before
+unfolding checkContents checkLengths checkPercents checkEdition checkTables checkLists checkMost checkCurve curveRate
+    joinAll need _andThen_ within sizeOf before
 one-record-taken = refl
 
 pub one-record-accepted : checkBook 1 (bookOf oneRecord) ≡ Accepted 1

@@ -7,9 +7,12 @@ use native.Mathlib.Omega.{arith}
 use borrow.Author.Tests.{leb-true}
 use lib.ListN.{length, take, set, drop}
 use lib.Seq.{sets, length-sets, take-all, take-suc-set}
-use Rattle.field.specs.declared.Verdict.the-variants.{Accepted}
-use Rattle.field.proofs.Verdicts.{need-true, then-left, then-right}
+use Rattle.field.specs.Verdicts.{_andThen_}
+use Rattle.field.specs.declared.Verdict.{Verdict}
+use Rattle.field.specs.declared.Verdict.the-variants.{Accepted, Refused}
+use Rattle.field.proofs.Verdicts.{need-true, then-left, then-right, accepted}
 use Rattle.book.specs.Layout.{headerSize, chains, headOf, nextOf, linkFrom, linkAt}
+use Rattle.book.specs.Check.{checkBook}
 use Rattle.book.specs.Reading.{Inside}
 use Rattle.book.proofs.Links.{after-some}
 use Rattle.book.proofs.Valid.{valid}
@@ -65,12 +68,21 @@ pub each-wrote : {e x y : List ℕ} {at r q : ℕ} (f : ℕ → ℕ) (j : ℕ) �
 unfolding each
 each-wrote f j v w = rw (add-one j) (v then w)
 
+-- a refused book gives its refusal, however long the four buffers are
+pub book-refused : (b : List ℕ) (counts lapses premiums claims q p : ℕ) → checkBook 1 b ≡ Refused q p
+    → checkRead b counts lapses premiums claims ≡ Refused q p
+unfolding checkRead _andThen_
+book-refused b counts lapses premiums claims q p e = rw e
+
 -- what an accepted reading says of the book and of the four buffers
 module _ (b : List ℕ) (counts lapses premiums claims n : ℕ)
     (e : checkRead b counts lapses premiums claims ≡ Accepted n) where
   pub read-sound : Sound b
-  unfolding checkRead
-  read-sound = then-left _ _ _ (then-left _ _ _ (then-left _ _ _ (then-left _ _ _ e)))
+  read-sound = by (checkBook 1 b) refl
+    where
+      by : (v : Verdict) → checkBook 1 b ≡ v → Sound b
+      by (Accepted m) h = accepted _ m h
+      by (Refused q p) h = let f = book-refused b counts lapses premiums claims q p h in cc
 
   pub read-counts : before (firstsOf b) chains ≤ counts
   unfolding checkRead

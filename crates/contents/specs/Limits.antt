@@ -1,5 +1,5 @@
 -- When contents are refused: the tests in their order, each with place 0; and the rules that they keep, in no order.
-use Prim.Native.Nat.{ℕ, _+_, _≤_}
+use Prim.Native.Nat.{ℕ, _+_, _*_, _≤_}
 use mathlib.Core.Path.{_≡_}
 use mathlib.Core.Bool.{Bool, true}
 use mathlib.Core.List.{List}
@@ -9,11 +9,10 @@ use lib.ListN.{length, getD}
 use Rattle.field.specs.Verdicts.{pick, need, _andThen_, joinAll}
 use Rattle.field.specs.Fields.{within}
 use Rattle.field.specs.declared.Verdict.{Verdict}
-use Rattle.book.specs.Layout.{firstYear, lastYear, mostPercent, chains, mostRate, curveLift, curveSpan, mostCount}
-use Rattle.book.specs.Layout.{mostAmount}
+use Rattle.book.specs.Layout.{headerSize, recordSize, firstYear, lastYear, mostPercent, chains, mostRate, curveLift}
+use Rattle.book.specs.Layout.{curveSpan, mostCount, mostAmount}
 use Rattle.contents.specs.declared.Values.{Values}
 use Rattle.contents.specs.Contents.{Contents, noClass, before}
-use Rattle.contents.specs.Written.{bookSize}
 
 -- refused with the number where one of a list is above the most
 unfoldable pub checkMost : ℕ → ℕ → List ℕ → Verdict
@@ -27,19 +26,15 @@ curveRate (negsuc m) = leb (m + 1) curveLift
 unfoldable pub checkCurve : List ℤ → Verdict
 checkCurve l = joinAll (λ (j : ℕ). need (curveRate (getD l j (pos 0))) 7 0) 0 (length l)
 
--- 22: the list buffer is as long as its lists together
-abbrev pub checkSize : List ℕ → List ℕ → Verdict
-checkSize first l = need (eqb (length l) (before first chains)) 22 0
-
--- 11 the first classes; 22 the four list buffers, and a byte buffer of so many bytes, which takes the book
-unfoldable pub checkSizes : Contents → ℕ → Verdict
-checkSizes v room =
-    checkMost 11 noClass (v .values .first) andThen
-    checkSize (v .values .first) (v .counts) andThen
-    checkSize (v .values .first) (v .lapses) andThen
-    checkSize (v .values .first) (v .premiums) andThen
-    checkSize (v .values .first) (v .claims) andThen
-    need (leb (bookSize (v .values .first)) room) 22 0
+-- 22: each list buffer, of so many numbers, is as long as its lists, which together have total; and a byte buffer of so
+-- many bytes takes their book
+unfoldable pub checkLengths : ℕ → ℕ → ℕ → ℕ → ℕ → ℕ → Verdict
+checkLengths total counts lapses premiums claims room =
+    need (eqb counts total) 22 0 andThen
+    need (eqb lapses total) 22 0 andThen
+    need (eqb premiums total) 22 0 andThen
+    need (eqb claims total) 22 0 andThen
+    need (leb (headerSize + recordSize * total) room) 22 0
 
 -- the percentages: in edition 2 both are in their range, else 23; in edition 1 both are 0, else 4
 unfoldable pub checkPercents : ℕ → ℕ → ℕ → Verdict
@@ -55,13 +50,12 @@ checkEdition edition men women year =
     need (within firstYear lastYear year) 4 0 andThen
     checkPercents edition men women
 
--- 2, 4 and 23 as above, 6 the cost rates, 7 the curve, 8 mortality
-unfoldable pub checkRates : Values → Verdict
-checkRates h =
-    checkEdition (h .edition) (h .men) (h .women) (h .year) andThen
-    checkMost 6 mostRate (h .cost) andThen
-    checkCurve (h .curve) andThen
-    checkMost 8 mostRate (h .mortality)
+-- 6 the cost rates, 7 the curve, 8 mortality
+unfoldable pub checkTables : List ℕ → List ℤ → List ℕ → Verdict
+checkTables cost curve mortality =
+    checkMost 6 mostRate cost andThen
+    checkCurve curve andThen
+    checkMost 8 mostRate mortality
 
 -- 12 the lists
 unfoldable pub checkLists : List ℕ → List ℕ → List ℕ → List ℕ → Verdict
@@ -71,11 +65,15 @@ checkLists counts lapses premiums claims =
     checkMost 12 mostAmount premiums andThen
     checkMost 12 mostAmount claims
 
--- what stands against writing the contents into a buffer of so many bytes
+-- What stands against writing the contents into a buffer of so many bytes: 11 the first classes, 22 the lengths, 2, 4
+-- and 23 the edition with year and percentages, 6, 7 and 8 the tables, 12 the lists.
 unfoldable pub checkContents : Contents → ℕ → Verdict
 checkContents v room =
-    checkSizes v room andThen
-    checkRates (v .values) andThen
+    checkMost 11 noClass (v .values .first) andThen
+    checkLengths (before (v .values .first) chains) (length (v .counts)) (length (v .lapses)) (length (v .premiums))
+    (length (v .claims)) room andThen
+    checkEdition (v .values .edition) (v .values .men) (v .values .women) (v .values .year) andThen
+    checkTables (v .values .cost) (v .values .curve) (v .values .mortality) andThen
     checkLists (v .counts) (v .lapses) (v .premiums) (v .claims)
 
 -- The rules that contents keep, one by one and in no order of tests. They are not refused, with room enough, exactly

@@ -1,10 +1,11 @@
--- What the two calls promise (W-205): replies and lent buffers equal their definitions, and both round trips hold.
-use Prim.Native.Nat.{ℕ}
+-- What the two calls promise (W-205), in the paper's values: replies and lent buffers equal their definitions, and both
+-- round trips hold.
+use Prim.Native.Nat.{ℕ, _<_}
 use mathlib.Core.Path.{_≡_}
 use mathlib.Core.List.{List, _++_}
 use lib.Dec.{eqb}
 use lib.ListN.{length, getD, take, drop}
-use Rattle.field.specs.Verdicts.{pick}
+use Rattle.field.specs.Verdicts.{pick, refusalOf, placeOf, countOf}
 use Rattle.field.specs.declared.Verdict.{Verdict}
 use Rattle.field.specs.declared.Verdict.the-variants.{Accepted, Refused}
 use Rattle.book.specs.Layout.{records, countOffset, lapseOffset, premiumOffset, claimsOffset}
@@ -53,16 +54,24 @@ notZero l = sumOf (λ (i : ℕ). pick (eqb (getD l i 0) 0) 0 1) 0 (length l)
 -- Write: of contents v, with the lent bytes from entry to exit
 pub record WritePromised (v : Contents) (entry exit : List ℕ) (r : WriteReply) : Type 0 where
   pub reply-is : r ≡ writeReply v (length entry)
+  -- the same in the paper's values: the refusal's number and place, and the book's length
+  pub refusal-is : writeRefusal r ≡ refusalOf (checkContents v (length entry))
+  pub place-is : writePlace r ≡ placeOf (checkContents v (length entry))
+  pub length-is : writeLength r ≡ pick (eqb (writeRefusal r) 0) (length (bookOf v)) 0
   pub bytes-are : exit ≡ leftFor (checkContents v (length entry)) (bookOf v) entry
   -- what was written is accepted by the check, with n the number of counts that are not 0
-  pub accepted : (size : ℕ) → r ≡ Written size → checkBook 1 (take size exit) ≡ Accepted (notZero (v .counts))
+  pub accepted : writeRefusal r ≡ 0 → let w = checkBook 1 (take (writeLength r) exit) in
+      (refusalOf w ≡ 0) × (countOf w ≡ notZero (v .counts))
   -- reading what was written returns what went in
-  pub returned : (size : ℕ) → r ≡ Written size → contentsOf (take size exit) ≡ v
+  pub returned : writeRefusal r ≡ 0 → contentsOf (take (writeLength r) exit) ≡ v
 
 -- the reply: the values, or the refusal and 0 in every other field
+abbrev pub valuesFor : Verdict → Values → Values
+valuesFor (Accepted m) h = h
+valuesFor (Refused number place) h = noValues
+
 abbrev pub readFor : Verdict → Values → ReadReply
-readFor (Accepted m) h = record { refusal = 0; place = 0; values = h }
-readFor (Refused number place) h = record { refusal = number; place = place; values = noValues }
+readFor v h = record { refusal = refusalOf v; place = placeOf v; values = valuesFor v h }
 
 -- what stands against reading a book into four buffers
 abbrev pub readVerdict : List ℕ → List ℕ → List ℕ → List ℕ → List ℕ → Verdict
@@ -77,8 +86,12 @@ pub record ReadPromised (b counts lapses premiums claims counts′ lapses′ pre
   pub lapses-are : lapses′ ≡ leftFor (readVerdict b counts lapses premiums claims) (listOf b lapseOffset) lapses
   pub premiums-are : premiums′ ≡ leftFor (readVerdict b counts lapses premiums claims) (listOf b premiumOffset) premiums
   pub claims-are : claims′ ≡ leftFor (readVerdict b counts lapses premiums claims) (listOf b claimsOffset) claims
+  -- a refused book gives its own refusal and place, however long the buffers are
+  pub book-first : 0 < refusalOf (checkBook 1 b)
+      → (r .refusal ≡ refusalOf (checkBook 1 b)) × (r .place ≡ placeOf (checkBook 1 b))
   -- what was read from a book in order is written to that book's bytes again, and is not refused with room for them
   pub again : r .refusal ≡ 0 → InOrder b
       → let n = records b in
       let v = given (r .values) (take n counts′) (take n lapses′) (take n premiums′) (take n claims′) in
-      (bookOf v ≡ b) × (checkContents v (length b) ≡ Accepted 0)
+      let w = writeReply v (length b) in
+      (bookOf v ≡ b) × (writeRefusal w ≡ 0) × (writeLength w ≡ length b)

@@ -7,7 +7,7 @@ use mathlib.Core.Bool.{Bool, true, false}
 use lib.ListN.{length, take, drop}
 use lib.Dec.{leb, eqb}
 use Rattle.field.specs.Bytes.{byteAt}
-use Rattle.field.specs.Verdicts.{pick, need, _andThen_}
+use Rattle.field.specs.Verdicts.{pick, need, _andThen_, refusalOf, countOf}
 use Rattle.field.specs.declared.Verdict.{Verdict}
 use Rattle.field.specs.declared.Verdict.the-variants.{Accepted, Refused}
 use Rattle.book.specs.Layout.{lastClass, ageBasis, chains, recordAt, classOf, linkAt}
@@ -59,12 +59,14 @@ bufferOf (Refused number place) bytes before = before
 unfoldable pub convertedBuffer : List ℕ → List ℕ → List ℕ
 convertedBuffer b before = bufferOf (convertCheck b (length before)) (converted b) before
 
--- What the call promises: its reply and the buffer equal their definitions; and the converted book, as it then stands
--- in the buffer, passes the check on basis 1, with as many linked records that hold contracts as before.
+-- What the call promises: its reply and the buffer equal their definitions; and, where the reply has no refusal, the
+-- converted book, as it then stands in the buffer, passes the check on basis 1, with as many linked records that hold
+-- contracts as before.
 pub record ConvertPromised (b before after : List ℕ) (reply : Verdict) : Type 0 where
   pub reply-is : reply ≡ convertCheck b (length before)
   pub buffer-is : after ≡ convertedBuffer b before
-  pub passes : (n : ℕ) → reply ≡ Accepted n → checkBook 1 (take (length b) after) ≡ Accepted n
+  pub passes : refusalOf reply ≡ 0 → let v = checkBook 1 (take (length b) after) in
+      (refusalOf v ≡ 0) × (countOf v ≡ countOf reply)
 
 -- no linked record has its class at place p
 abbrev pub NoLinkedClass : List ℕ → ℕ → Type 0

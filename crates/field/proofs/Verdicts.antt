@@ -6,7 +6,7 @@ use Prim.Native.Nat.{ℕ, zero, suc, _+_, _-_, _<_, _≤_, zero-le}
 use native.Mathlib.Nat.{zero-add, add-zero, sub-zero, le-refl, not-suc-le-zero, eq-or-lt-of-le}
 use native.Mathlib.Numerals.{add-one}
 use native.Mathlib.Omega.{arith}
-use Rattle.field.specs.Verdicts.{need, _andThen_, countOf, plus, join, joinAll}
+use Rattle.field.specs.Verdicts.{need, _andThen_, refusalOf, countOf, plus, join, joinAll}
 use Rattle.field.specs.declared.Verdict.{Verdict}
 use Rattle.field.specs.declared.Verdict.the-variants.{Accepted, Refused}
 
@@ -47,6 +47,21 @@ then-count (Refused q p) w = zero-le
 
 pub accepted : (v : Verdict) (n : ℕ) → v ≡ Accepted n → v ≡ Accepted (countOf v)
 accepted v n e = rw e
+
+-- A verdict that tells by its number alone whether it refuses: 0 is acceptance. A test with a number above 0 does, and so
+-- do two such verdicts one after the other.
+unfoldable pub Told : Verdict → Type 0
+Told v = refusalOf v ≡ 0 → v ≡ Accepted (countOf v)
+
+pub told-need : (ok : Bool) (q p : ℕ) → Told (need ok (suc q) p)
+unfolding Told need
+told-need true q p e = refl
+told-need false q p e = absurd (omega arith)
+
+pub told-then : (v w : Verdict) → Told v → Told w → Told (v andThen w)
+unfolding Told _andThen_
+told-then (Accepted n) w hv hw = hw
+told-then (Refused q p) w hv hw = hv
 
 -- a count added
 pub plus-none : (v : Verdict) → plus 0 v ≡ v

@@ -9,6 +9,7 @@ pick true a b = a
 pick false a b = b
 
 -- The paper's values of a verdict: the refusal's number and its place, 0 and 0 where accepted; n, 0 where refused.
+-- Every promise of a call that answers by a verdict goes by these three.
 abbrev pub refusalOf : Verdict → ℕ
 refusalOf (Accepted n) = 0
 refusalOf (Refused number place) = number

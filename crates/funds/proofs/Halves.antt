@@ -88,19 +88,6 @@ module _ (x y rest : List ℤ) (eight : length x ≡ 8) (eight′ : length y ≡
       sym (getD-drop 8 (x ++ y ++ rest) i (pos 0)) ∙ rw drop-first (List·getD-append y rest (pos 0) i (omega arith))
 
 module _ (table : List ℕ) (before : List ℤ) where
-  -- where the buffer is too short nothing changes
-  short-reply : (fund : List ℕ) → length before < 16 → fundReply (length before) table fund ≡ Refused 16 0
-  unfolding fundReply checkLent need _andThen_
-  short-reply fund h = rw (lt-leb _ _ h)
-
-  pub both-refused : (first second : List ℕ) (q p : ℕ) → fundReply (length before) table first ≡ Refused q p
-      → fundReply (length before) table second ≡ Refused q p → fundsNumbers table first second before ≡ before
-  unfolding fundsNumbers fundHalf
-  both-refused first second q p e f = rw (e, f) (put-back 8 before)
-
-  short-kept : (first second : List ℕ) → length before < 16 → fundsNumbers table first second before ≡ before
-  short-kept first second h = both-refused first second 16 0 (short-reply first h) (short-reply second h)
-
   module _ (first second : List ℕ) (room : 16 ≤ length before) where
     -- what then stands in the halves
     abbrev first-after : List ℤ
@@ -137,25 +124,40 @@ module _ (table : List ℕ) (before : List ℤ) where
     unfolding fundsNumbers
     second-number = second-at first-after second-after (drop 16 before) first-eight second-eight
 
+  -- where the buffer is too short nothing changes
+  short-reply : (fund : List ℕ) → length before < 16 → fundReply (length before) table fund ≡ Refused 16 0
+  unfolding fundReply checkLent need _andThen_
+  short-reply fund h = rw (lt-leb _ _ h)
+
+  pub both-refused : (first second : List ℕ) (q p : ℕ) → fundReply (length before) table first ≡ Refused q p
+      → fundReply (length before) table second ≡ Refused q p → fundsNumbers table first second before ≡ before
+  unfolding fundsNumbers fundHalf
+  both-refused first second q p e f = rw (e, f) (put-back 8 before)
+
+  short-kept : (first second : List ℕ) → length before < 16 → fundsNumbers table first second before ≡ before
+  short-kept first second h = both-refused first second 16 0 (short-reply first h) (short-reply second h)
+
   -- Apart: the second fund's file bears neither on the first's reply nor on its half, and the other way round.
-  pub first-apart : (first second second′ : List ℕ) → FirstApart table first before second second′
+  pub first-apart : (first second other : List ℕ)
+      → FirstApart table first before (fundsNumbers table first second before) (fundsReply (length before) table first second) other
   unfolding fundsReply
-  first-apart first second second′ = record {
+  first-apart first second other = record {
     reply-alike = refl;
     half-alike =
         ⊎-elim
-        (λ room. first-is first second room ∙ sym (first-is first second′ room))
-        (λ h. rw (short-kept first second h, short-kept first second′ h)) (le-or-lt 16 (length before));
+        (λ room. first-is first second room ∙ sym (first-is first other room))
+        (λ h. rw (short-kept first second h, short-kept first other h)) (le-or-lt 16 (length before));
   }
 
-  pub second-apart : (first first′ second : List ℕ) → SecondApart table second before first first′
+  pub second-apart : (first second other : List ℕ)
+      → SecondApart table second before (fundsNumbers table first second before) (fundsReply (length before) table first second) other
   unfolding fundsReply
-  second-apart first first′ second = record {
+  second-apart first second other = record {
     reply-alike = refl;
     half-alike =
         ⊎-elim
-        (λ room. second-is first second room ∙ sym (second-is first′ second room))
-        (λ h. rw (short-kept first second h, short-kept first′ second h)) (le-or-lt 16 (length before));
+        (λ room. second-is first second room ∙ sym (second-is other second room))
+        (λ h. rw (short-kept first second h, short-kept other second h)) (le-or-lt 16 (length before));
   }
 
   -- numbers from 16 on are as they were

@@ -12,7 +12,7 @@ use lib.Seq.{length-take-le, getD-take, take-all, take-at}
 use Rattle.field.specs.Verdicts.{pick, need, _andThen_, countOf}
 use Rattle.field.specs.declared.Verdict.{Verdict}
 use Rattle.field.specs.declared.Verdict.the-variants.{Accepted, Refused}
-use Rattle.field.proofs.Verdicts.{need-true, then-left, then-right}
+use Rattle.field.proofs.Verdicts.{need-true, then-left, then-right, Told, told-need, told-then}
 use Rattle.field.proofs.Same.{Same}
 use Rattle.book.specs.Layout.{mostSize, lastClass}
 use Rattle.book.specs.Cells.{heldInAll}
@@ -106,6 +106,14 @@ pub as-checked : (numbers : ℕ) (table fund : List ℕ)
     ≡ (checkLent numbers table andThen need (leb frontSize (length fund)) 1 (length fund) andThen checkBook 1 (joinedBook table fund))
 unfolding fundReply
 as-checked numbers table fund = rw (told-checked (joinedBook table fund))
+
+-- refusal 0 is acceptance, of a fund too
+pub fund-told : (numbers : ℕ) (table fund : List ℕ) → Told (fundReply numbers table fund)
+unfolding Told checkLent
+fund-told numbers table fund =
+    rw (as-checked numbers table fund)
+    (told-then _ _ (told-then _ _ (told-then _ _ (told-need _ 15 0) (told-need _ 23 0)) (told-need _ 0 _))
+    (zero-accepted 1 (joinedBook table fund)))
 
 -- a fund's reply where the buffer and the table file are as they should be
 module _ (numbers : ℕ) (table fund : List ℕ) (room : 16 ≤ numbers) (sized : length table ≡ tableSize) where

@@ -5,8 +5,9 @@ use mathlib.Core.List.{List}
 use Prim.Native.Nat.{ℕ, _+_, _<_, _≤_}
 use lib.IntN.{ℤ, pos}
 use lib.ListN.{length, getD}
+use Rattle.field.specs.Verdicts.{refusalOf, countOf}
 use Rattle.field.specs.declared.Verdict.the-variants.{Accepted}
-use Rattle.field.proofs.Verdicts.{then-left, then-right}
+use Rattle.field.proofs.Verdicts.{then-left, then-right, Told}
 use Rattle.reckoning.specs.Portfolio.{NoRateBelowZero}
 use Rattle.reckoning.specs.Bounds.{Within}
 use Rattle.reckoning.specs.Promises.{totalDistanceOf, halfTotalDistanceOf}
@@ -14,8 +15,8 @@ use Rattle.reckoning.specs.Totals.{exactTotalOf, totalsReply}
 use Rattle.reckoning.proofs.Total.{totals-promised}
 use Rattle.funds.specs.Funds.{joinedBook, fundReply, fundHalf, fundsReply, firstHalf, secondHalf, fundsNumbers, FundsPromised}
 use Rattle.funds.specs.declared.FundsReply.{FundsReply}
-use Rattle.funds.proofs.Joined.{lent-good, told-accepted}
-use Rattle.funds.proofs.Halves.{half-totals, first-number, second-number}
+use Rattle.funds.proofs.Joined.{lent-good, told-accepted, fund-told}
+use Rattle.funds.proofs.Halves.{half-totals, first-number, second-number, first-apart, second-apart}
 
 -- an accepted fund
 module _ (numbers : ℕ) (table fund : List ℕ) (n : ℕ) (accepted : fundReply numbers table fund ≡ Accepted n) where
@@ -48,35 +49,53 @@ module _ (numbers : ℕ) (table fund : List ℕ) (n : ℕ) (accepted : fundReply
 module _ (table first second : List ℕ) (before after : List ℤ) (reply : FundsReply)
     (reply-is : reply ≡ fundsReply (length before) table first second) (numbers-are : after ≡ fundsNumbers table first second before) where
   -- an accepted fund's numbers stand in its half
-  module _ (setting n : ℕ) (few : setting < 8) where
-    first-accepted : reply .first ≡ Accepted n → fundReply (length before) table first ≡ Accepted n
-    unfolding fundsReply
-    first-accepted e = sym (ap (λ (r : FundsReply). r .first) reply-is) ∙ e
+  module _ (setting : ℕ) (few : setting < 8) where
+    first-accepted : refusalOf (reply .first) ≡ 0 → fundReply (length before) table first ≡ Accepted (countOf (reply .first))
+    unfolding Told fundsReply
+    first-accepted none = rw reply-is (fund-told (length before) table first (rw reply-is at none))
 
-    second-accepted : reply .second ≡ Accepted n → fundReply (length before) table second ≡ Accepted n
-    unfolding fundsReply
-    second-accepted e = sym (ap (λ (r : FundsReply). r .second) reply-is) ∙ e
+    second-accepted : refusalOf (reply .second) ≡ 0 → fundReply (length before) table second ≡ Accepted (countOf (reply .second))
+    unfolding Told fundsReply
+    second-accepted none = rw reply-is (fund-told (length before) table second (rw reply-is at none))
 
-    first-stands : reply .first ≡ Accepted n → getD after setting (pos 0) ≡ getD (fundHalf (length before) table first (firstHalf before)) setting (pos 0)
-    first-stands e =
-        let room = accepted-room (length before) table first n (first-accepted e) in
+    first-stands : refusalOf (reply .first) ≡ 0 → getD after setting (pos 0) ≡ getD (fundHalf (length before) table first (firstHalf before)) setting (pos 0)
+    first-stands none =
+        let room = accepted-room (length before) table first _ (first-accepted none) in
         rw numbers-are (first-number table before first second room setting few)
 
-    second-stands : reply .second ≡ Accepted n → getD after (8 + setting) (pos 0) ≡ getD (fundHalf (length before) table second (secondHalf before)) setting (pos 0)
-    second-stands e =
-        let room = accepted-room (length before) table second n (second-accepted e) in
+    second-stands : refusalOf (reply .second) ≡ 0 → getD after (8 + setting) (pos 0) ≡ getD (fundHalf (length before) table second (secondHalf before)) setting (pos 0)
+    second-stands none =
+        let room = accepted-room (length before) table second _ (second-accepted none) in
         rw numbers-are (second-number table before first second room setting few)
 
   pub funds-promised : FundsPromised table first second before after reply
   funds-promised = record {
     reply-is = reply-is;
     numbers-are = numbers-are;
-    first-distance = λ setting n few e.
-        rw (first-stands setting n few e) (fund-distance (length before) table first n (first-accepted setting n few e) (firstHalf before) setting few);
-    second-distance = λ setting n few e.
-        rw (second-stands setting n few e) (fund-distance (length before) table second n (second-accepted setting n few e) (secondHalf before) setting few);
-    first-half-distance = λ ordinary setting n few e.
-        rw (first-stands setting n few e) (fund-half-distance (length before) table first n (first-accepted setting n few e) ordinary (firstHalf before) setting few);
-    second-half-distance = λ ordinary setting n few e.
-        rw (second-stands setting n few e) (fund-half-distance (length before) table second n (second-accepted setting n few e) ordinary (secondHalf before) setting few);
+    first-apart = λ other. rw (reply-is, numbers-are) (first-apart table before first second other);
+    second-apart = λ other. rw (reply-is, numbers-are) (second-apart table before first second other);
+    first-distance = λ setting few none.
+        rw (first-stands setting few none) (fund-distance (length before) table first _ (first-accepted setting few none) (firstHalf before) setting few);
+    second-distance = λ setting few none.
+        rw (second-stands setting few none) (fund-distance (length before) table second _ (second-accepted setting few none) (secondHalf before) setting few);
+    first-half-distance = λ ordinary setting few none.
+        rw (first-stands setting few none) (fund-half-distance (length before) table first _ (first-accepted setting few none) ordinary (firstHalf before) setting few);
+    second-half-distance = λ ordinary setting few none.
+        rw (second-stands setting few none) (fund-half-distance (length before) table second _ (second-accepted setting few none) ordinary (secondHalf before) setting few);
   }
+
+-- Change anything in one fund's file: of two calls with the same table file and the same lent numbers, which differ in
+-- the other fund's file alone, this fund's replies and halves are alike.
+pub first-alike : (table first second second′ : List ℕ) (before after after′ : List ℤ) (reply reply′ : FundsReply)
+    → FundsPromised table first second before after reply → FundsPromised table first second′ before after′ reply′
+    → (reply .first ≡ reply′ .first) × (firstHalf after ≡ firstHalf after′)
+first-alike table first second second′ before after after′ reply reply′ p p′ =
+    let apart = p .first-apart second′ in
+    (apart .reply-alike ∙ sym (ap (λ (r : FundsReply). r .first) (p′ .reply-is)), apart .half-alike ∙ sym (ap firstHalf (p′ .numbers-are)))
+
+pub second-alike : (table first first′ second : List ℕ) (before after after′ : List ℤ) (reply reply′ : FundsReply)
+    → FundsPromised table first second before after reply → FundsPromised table first′ second before after′ reply′
+    → (reply .second ≡ reply′ .second) × (secondHalf after ≡ secondHalf after′)
+second-alike table first first′ second before after after′ reply reply′ p p′ =
+    let apart = p .second-apart first′ in
+    (apart .reply-alike ∙ sym (ap (λ (r : FundsReply). r .second) (p′ .reply-is)), apart .half-alike ∙ sym (ap secondHalf (p′ .numbers-are)))

@@ -6,7 +6,7 @@ use mathlib.Core.List.{List, _++_}
 use lib.Dec.{leb, eqb}
 use lib.IntN.{ℤ, pos}
 use lib.ListN.{length, getD, take, drop}
-use Rattle.field.specs.Verdicts.{pick, need, _andThen_}
+use Rattle.field.specs.Verdicts.{pick, need, _andThen_, refusalOf, countOf}
 use Rattle.field.specs.declared.Verdict.{Verdict}
 use Rattle.field.specs.declared.Verdict.the-variants.{Accepted, Refused}
 use Rattle.book.specs.Layout.{headerSize, curvePlace}
@@ -76,29 +76,36 @@ fundsNumbers table first second before =
     fundHalf (length before) table second (secondHalf before) ++
     drop 16 before
 
--- What the call promises: replies and lent numbers equal their definitions; and, for each accepted fund, demand 3.
+-- Neither fund bears on the other: with whatever other file in its place, and the same table file and lent numbers, the
+-- call gives this fund the reply and the half that it gave.
+pub record FirstApart (table first : List ℕ) (before after : List ℤ) (reply : FundsReply) (other : List ℕ) : Type 0 where
+  pub reply-alike : reply .first ≡ fundsReply (length before) table first other .first
+  pub half-alike : firstHalf after ≡ firstHalf (fundsNumbers table first other before)
+
+pub record SecondApart (table second : List ℕ) (before after : List ℤ) (reply : FundsReply) (other : List ℕ) : Type 0 where
+  pub reply-alike : reply .second ≡ fundsReply (length before) table other second .second
+  pub half-alike : secondHalf after ≡ secondHalf (fundsNumbers table other second before)
+
+-- What the call promises: replies and lent numbers equal their definitions; neither fund's reply and half depend on the
+-- other's file; and, for each fund whose reply has no refusal, demand 3.
 pub record FundsPromised (table first second : List ℕ) (before after : List ℤ) (reply : FundsReply) : Type 0 where
   pub reply-is : reply ≡ fundsReply (length before) table first second
   pub numbers-are : after ≡ fundsNumbers table first second before
+  pub first-apart : (other : List ℕ) → FirstApart table first before after reply other
+  pub second-apart : (other : List ℕ) → SecondApart table second before after reply other
   -- each total within 500 n + 14,250 centimes of the exact value, n being that of the fund's reply
-  pub first-distance : (setting n : ℕ) → setting < 8 → reply .first ≡ Accepted n
-      → Within (totalDistanceOf n) (getD after setting (pos 0)) (exactTotalOf (joinedBook table first) setting)
-  pub second-distance : (setting n : ℕ) → setting < 8 → reply .second ≡ Accepted n
-      → Within (totalDistanceOf n) (getD after (8 + setting) (pos 0)) (exactTotalOf (joinedBook table second) setting)
+  pub first-distance : (setting : ℕ) → setting < 8 → refusalOf (reply .first) ≡ 0
+      → Within (totalDistanceOf (countOf (reply .first))) (getD after setting (pos 0))
+      (exactTotalOf (joinedBook table first) setting)
+  pub second-distance : (setting : ℕ) → setting < 8 → refusalOf (reply .second) ≡ 0
+      → Within (totalDistanceOf (countOf (reply .second))) (getD after (8 + setting) (pos 0))
+      (exactTotalOf (joinedBook table second) setting)
   -- within 250 n + 7,125 where no rate of the curve, which the table file has, is below zero
-  pub first-half-distance : NoRateBelowZero (joinedBook table first) → (setting n : ℕ) → setting < 8 → reply .first ≡ Accepted n
-      → Within (halfTotalDistanceOf n) (getD after setting (pos 0)) (exactTotalOf (joinedBook table first) setting)
-  pub second-half-distance : NoRateBelowZero (joinedBook table second) → (setting n : ℕ) → setting < 8 → reply .second ≡ Accepted n
-      → Within (halfTotalDistanceOf n) (getD after (8 + setting) (pos 0)) (exactTotalOf (joinedBook table second) setting)
-
--- Neither fund bears on the other: whatever changes in one fund's file, with the same table file and the same lent
--- numbers, the other's reply and half are alike.
-pub record FirstApart (table first : List ℕ) (before : List ℤ) (second second′ : List ℕ) : Type 0 where
-  pub reply-alike : fundsReply (length before) table first second .first
-      ≡ fundsReply (length before) table first second′ .first
-  pub half-alike : firstHalf (fundsNumbers table first second before) ≡ firstHalf (fundsNumbers table first second′ before)
-
-pub record SecondApart (table second : List ℕ) (before : List ℤ) (first first′ : List ℕ) : Type 0 where
-  pub reply-alike : fundsReply (length before) table first second .second
-      ≡ fundsReply (length before) table first′ second .second
-  pub half-alike : secondHalf (fundsNumbers table first second before) ≡ secondHalf (fundsNumbers table first′ second before)
+  pub first-half-distance : NoRateBelowZero (joinedBook table first) → (setting : ℕ) → setting < 8
+      → refusalOf (reply .first) ≡ 0
+      → Within (halfTotalDistanceOf (countOf (reply .first))) (getD after setting (pos 0))
+      (exactTotalOf (joinedBook table first) setting)
+  pub second-half-distance : NoRateBelowZero (joinedBook table second) → (setting : ℕ) → setting < 8
+      → refusalOf (reply .second) ≡ 0
+      → Within (halfTotalDistanceOf (countOf (reply .second))) (getD after (8 + setting) (pos 0))
+      (exactTotalOf (joinedBook table second) setting)

@@ -11,11 +11,11 @@ ghost use Rattle.contents.specs.Written.{twoBytes, headFor, headBytes, headerBy
 ghost use Rattle.contents.specs.Limits.{curveRate};
 use book::CHAINS;
 use contents::Values;
-use limits::size_of;
-use limits::total;
 use numbers::put_curve;
 use numbers::put_fields;
 use numbers::put_two;
+use sizes::size_of;
+use sizes::total;
 use text::put_byte;
 
 // What stands before the heads, with N, the number of records.

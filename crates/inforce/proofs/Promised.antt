@@ -8,12 +8,13 @@ use lib.ListN.{length, drop}
 use Rattle.field.specs.Verdicts.{need, _andThen_, countOf}
 use Rattle.field.specs.declared.Verdict.{Verdict}
 use Rattle.field.specs.declared.Verdict.the-variants.{Accepted, Refused}
-use Rattle.field.proofs.Verdicts.{need-true, then-left, then-right}
+use Rattle.field.proofs.Verdicts.{need-true, then-left, then-right, Told, told-need, told-then}
 use Rattle.field.proofs.Ranges.{within-means}
 use Rattle.book.specs.Check.{checkBook}
 use Rattle.book.specs.Rules.{Rules}
 use Rattle.book.specs.Reading.{ValidBook}
 use Rattle.book.proofs.Valid.{valid}
+use Rattle.book.proofs.Numbers.{zero-accepted}
 use Rattle.book.proofs.Exact.{accepted-rules}
 use Rattle.inforce.specs.Screen.{recordOf, askedCheck, inForceCheck, inForceRun, inForceNumbers}
 use Rattle.inforce.specs.Screen.{OnlyOne, InForcePromised}
@@ -83,23 +84,38 @@ module _ (b : List ℕ) (setting code sex class numbers : ℕ) where
         (asked-code setting code sex numbers _ accepted-asked) (asked-sex setting code sex numbers _ accepted-asked)
         accepted-some
 
+-- refusal 0 is acceptance, of this call too
+in-force-told : (b : List ℕ) (setting code sex class numbers : ℕ) → Told (inForceCheck b setting code sex class numbers)
+unfolding Told inForceCheck askedCheck
+in-force-told b setting code sex class numbers =
+    told-then _ _
+    (told-then _ _
+    (told-then _ _
+    (told-then _ _ (told-then _ _ (told-need _ 13 0) (told-need _ 24 0)) (told-need _ 24 0))
+    (told-need _ 24 0))
+    (zero-accepted 1 b))
+    (told-need _ 25 0)
+
 -- the promise, of a call that refuses and of one that accepts
 module _ (b : List ℕ) (setting code sex class : ℕ) (before after : List ℕ) (reply : Verdict) where
+  promised : reply ≡ inForceCheck b setting code sex class (length before)
+      → after ≡ inForceNumbers b setting code sex class before → InForcePromised b setting code sex class before after reply
+  unfolding Told
+  promised reply-is numbers-are = record {
+    reply-is = reply-is;
+    numbers-are = numbers-are;
+    record-is = λ none.
+        accepted-record b setting code sex class (length before) _
+        (in-force-told b setting code sex class (length before) (rw reply-is at none));
+  }
+
   pub refused : (q p : ℕ) → inForceCheck b setting code sex class (length before) ≡ Refused q p → reply ≡ Refused q p
       → after ≡ before → InForcePromised b setting code sex class before after reply
   unfolding inForceNumbers
-  refused q p e is same = record {
-    reply-is = is ∙ sym e;
-    numbers-are = same ∙ sym (rw e);
-    record-is = λ n f. accepted-record b setting code sex class (length before) n (e ∙ sym is ∙ f);
-  }
+  refused q p e is same = promised (is ∙ sym e) (same ∙ sym (rw e))
 
   pub shown : (m : ℕ) → inForceCheck b setting code sex class (length before) ≡ Accepted m → reply ≡ Accepted m
       → after ≡ inForceRun b setting (recordOf b code sex class) ++ drop 50 before
       → InForcePromised b setting code sex class before after reply
   unfolding inForceNumbers
-  shown m e is run = record {
-    reply-is = is ∙ sym e;
-    numbers-are = run ∙ sym (rw e);
-    record-is = λ n f. accepted-record b setting code sex class (length before) m e;
-  }
+  shown m e is run = promised (is ∙ sym e) (run ∙ sym (rw e))

@@ -5,7 +5,7 @@ use mathlib.Core.Bool.{not}
 use mathlib.Core.List.{List, [], _∷_, _++_}
 use lib.Dec.{leb, ltb, eqb}
 use lib.ListN.{length, drop}
-use Rattle.field.specs.Verdicts.{pick, need, _andThen_}
+use Rattle.field.specs.Verdicts.{pick, need, _andThen_, refusalOf}
 use Rattle.field.specs.Fields.{within}
 use Rattle.field.specs.declared.Verdict.{Verdict}
 use Rattle.field.specs.declared.Verdict.the-variants.{Accepted, Refused}
@@ -71,10 +71,10 @@ pub record OnlyOne (b : List ℕ) (code sex class i : ℕ) : Type 0 where
   pub only : (k j : ℕ) → k < chains → 0 < linkAt b k j → codeOf b (linkAt b k j) ≡ code → sexOf b (linkAt b k j) ≡ sex
       → classOf b (linkAt b k j) ≡ class → linkAt b k j ≡ i
 
--- What the call promises: its reply and the lent numbers equal their definitions; and, where it accepts, the record is
--- the one and only that was asked for.
+-- What the call promises: its reply and the lent numbers equal their definitions; and, where the reply has no refusal,
+-- the record is the one and only that was asked for.
 pub record InForcePromised (b : List ℕ) (setting code sex class : ℕ) (before after : List ℕ)
     (reply : Verdict) : Type 0 where
   pub reply-is : reply ≡ inForceCheck b setting code sex class (length before)
   pub numbers-are : after ≡ inForceNumbers b setting code sex class before
-  pub record-is : (n : ℕ) → reply ≡ Accepted n → OnlyOne b code sex class (recordOf b code sex class)
+  pub record-is : refusalOf reply ≡ 0 → OnlyOne b code sex class (recordOf b code sex class)

@@ -6,11 +6,10 @@ use mathlib.Core.List.{List}
 use Prim.Native.Nat.{ℕ, suc, _+_, _-_, _*_, _<_, _≤_, zero-le}
 use native.Mathlib.Omega.{arith}
 use native.Mathlib.Nat.{mod-lt}
-use borrow.Author.Tests.{le-leb, leb-true, lt-ltb, le-ltb}
+use borrow.Author.Tests.{le-leb, lt-ltb, le-ltb}
 use lib.IntN.{ℤ, pos}
 use lib.ListN.{length, getD, replicate, getD-replicate, List·getD-eq-default}
 use Rattle.field.specs.declared.Verdict.the-variants.{Accepted}
-use Rattle.field.proofs.Verdicts.{need-true, then-left}
 use Rattle.book.specs.Layout.{chains, mostRecords, mostRate, mostCount, mostAmount}
 use Rattle.book.specs.Check.{checkBook}
 use Rattle.text.proofs.Laws.{le-or-lt}
@@ -19,17 +18,15 @@ use Rattle.contents.specs.Contents.{Contents, given, sizeOf, before}
 use Rattle.contents.specs.Written.{bookSize}
 use Rattle.contents.specs.Reading.{each}
 use Rattle.contents.specs.Limits.{Fit, curveRate}
-use Rattle.contents.specs.Promises.{writeReply, notZero, WritePromised}
+use Rattle.contents.specs.Promises.{notZero, WritePromised}
 use Rattle.contents.proofs.Stands.{each-length, each-all}
-use Rattle.contents.proofs.Fit.{fit-good}
 use Rattle.contents.proofs.Accepted.{fit-accepted}
 use Rattle.contents.proofs.Laid.{book-length}
 use Rattle.draw.specs.declared.Words.{Words}
-use Rattle.draw.specs.Draws.{after, drawAt, begun}
+use Rattle.draw.specs.Draws.{after, drawAt}
 use Rattle.draw.proofs.Laws.{after-after}
 use Rattle.practice.specs.Practice.{drawnNumber, drawnRate, recordDraw, drawnValues, drawnContents}
-use Rattle.practice.specs.Practice.{practiceContents, practiceBook, practiceSize, checkPractice, practiceReply}
-use Rattle.practice.specs.Practice.{PracticePromised}
+use Rattle.practice.specs.Practice.{practiceContents, practiceBook, practiceSize}
 use Rattle.practice.proofs.Laws.{later-run}
 
 number-most : (span draw : ℕ) → drawnNumber span draw ≤ span
@@ -108,7 +105,7 @@ pub practice-accepted : (start : ℕ)
     → checkBook 1 (practiceBook start) ≡ Accepted (notZero (practiceContents start .counts))
 practice-accepted start = fit-accepted (practiceContents start) (drawn-fit _)
 
-drawn-size : (w : Words) → bookSize (drawnContents w .values .first) ≡ practiceSize
+pub drawn-size : (w : Words) → bookSize (drawnContents w .values .first) ≡ practiceSize
 unfolding drawnContents drawnValues
 drawn-size w = omega (arith, full)
 
@@ -182,18 +179,3 @@ module _ (w : Words) {costs curves tables : Words} {cost mortality counts lapses
 pub of-same : {u v : Contents} {entry exit : List ℕ} {r : WriteReply} → u ≡ v → WritePromised u entry exit r
     → WritePromised v entry exit r
 of-same {u} {v} {entry} {exit} {r} e w = subst (λ (x : Contents). WritePromised x entry exit r) e w
-
--- what Write promises of the drawn contents is, with room and a start number above 0, what the call promises
-pub promised : (start n : ℕ) {entry exit : List ℕ} {r : WriteReply} → checkPractice start (length entry) ≡ Accepted n
-    → WritePromised (practiceContents start) entry exit r → PracticePromised start entry exit r
-unfolding checkPractice practiceReply writeReply
-promised start n {entry} {exit} {r} e w =
-    let room : practiceSize ≤ length entry = leb-true _ _ (need-true _ _ _ _ (then-left _ _ _ e)) in
-    let fits : bookSize (practiceContents start .values .first) ≤ length entry =
-    omega (arith, drawn-size (begun start)) in
-    let good = fit-good (practiceContents start) (length entry) (drawn-fit _) fits in
-    record {
-      reply-is = rw e (rw (good, practice-length start) at (w .reply-is));
-      bytes-are = rw e (rw good at (w .bytes-are));
-      accepted = w .accepted;
-    }

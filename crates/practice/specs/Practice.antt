@@ -5,18 +5,16 @@ use mathlib.Core.List.{List}
 use lib.Dec.{leb, ltb}
 use lib.IntN.{ℤ, pos, _-ℤ_}
 use lib.ListN.{length, replicate, take}
-use Rattle.field.specs.Verdicts.{need, _andThen_}
+use Rattle.field.specs.Verdicts.{need, _andThen_, refusalOf, countOf}
 use Rattle.field.specs.declared.Verdict.{Verdict}
-use Rattle.field.specs.declared.Verdict.the-variants.{Accepted}
 use Rattle.book.specs.Layout.{mostRecords, mostRate, curveLift, curveSpan, mostCount, mostAmount}
 use Rattle.book.specs.Check.{checkBook}
 use Rattle.contents.specs.declared.Values.{Values}
 use Rattle.contents.specs.declared.WriteReply.{WriteReply}
-use Rattle.contents.specs.declared.WriteReply.the-variants.{Written}
 use Rattle.contents.specs.Contents.{Contents, given}
 use Rattle.contents.specs.Written.{bookOf}
 use Rattle.contents.specs.Reading.{each}
-use Rattle.contents.specs.Promises.{replyFor, leftFor, notZero}
+use Rattle.contents.specs.Promises.{writeRefusal, writeLength, replyFor, leftFor, notZero}
 use Rattle.draw.specs.declared.Words.{Words}
 use Rattle.draw.specs.Draws.{drawAt, begun}
 
@@ -80,11 +78,12 @@ checkPractice start room = need (leb practiceSize room) 16 0 andThen need (ltb 0
 unfoldable pub practiceReply : ℕ → ℕ → WriteReply
 practiceReply start room = replyFor (checkPractice start room) practiceSize
 
--- The call: of a start number, with the lent bytes from entry to exit. The book is a function of the start number
--- alone, so equal ones give equal bytes.
+-- The call: of a start number, with the lent bytes from entry to exit. The book is a function of the start number alone:
+-- two calls with the same start number write the same bytes, whatever the buffers held (`equal-bytes` of
+-- proofs/Promised).
 pub record PracticePromised (start : ℕ) (entry exit : List ℕ) (r : WriteReply) : Type 0 where
   pub reply-is : r ≡ practiceReply start (length entry)
   pub bytes-are : exit ≡ leftFor (checkPractice start (length entry)) (practiceBook start) entry
   -- what was written is accepted by the check, with n the number of counts that are not 0
-  pub accepted : (size : ℕ) → r ≡ Written size
-      → checkBook 1 (take size exit) ≡ Accepted (notZero (practiceContents start .counts))
+  pub accepted : writeRefusal r ≡ 0 → let v = checkBook 1 (take (writeLength r) exit) in
+      (refusalOf v ≡ 0) × (countOf v ≡ notZero (practiceContents start .counts))

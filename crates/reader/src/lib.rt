@@ -15,7 +15,7 @@ use book::PREMIUM_OFFSET;
 use contents::ReadReply;
 use contents::Values;
 use field::Verdict;
-use limits::NO_CLASS;
+use sizes::NO_CLASS;
 use values::first_in;
 use values::firsts_of;
 use values::values_of;
@@ -68,7 +68,7 @@ fn check_read(book: &[u8], counts: usize, lapses: usize, premiums: usize, claims
         return v;
     };
     let first = firsts_of(book);
-    let n = limits::total(&first);
+    let n = sizes::total(&first);
     let v = v.require(n <= counts, 22, 0);
     let v = v.require(n <= lapses, 22, 0);
     let v = v.require(n <= premiums, 22, 0);

@@ -10,9 +10,10 @@ use borrow.Author.Tests.{le-leb}
 use lib.IntN.{ℤ}
 use lib.ListN.{length, getD, drop, length-append, List·getD-append}
 use lib.Seq.{getD-append-add}
-use Rattle.field.specs.Verdicts.{need, _andThen_, refusalOf, countOf}
+use Rattle.field.specs.Verdicts.{countOf}
 use Rattle.field.specs.declared.Verdict.{Verdict}
 use Rattle.field.specs.declared.Verdict.the-variants.{Accepted, Refused}
+use Rattle.field.proofs.Verdicts.{Told, told-need, told-then}
 use Rattle.book.specs.Layout.{lastClass}
 use Rattle.book.specs.Cells.{heldOfGroup}
 use Rattle.book.specs.Reading.{ValidBook}
@@ -65,19 +66,6 @@ module _ (t : Terms) (cs : List Cell) where
   outgo-at j k rest year = year-at j k 1 rest year (omega arith)
 
 -- refusal 0 is acceptance, of Group too
-unfoldable pub Told : Verdict → Type 0
-Told v = refusalOf v ≡ 0 → v ≡ Accepted (countOf v)
-
-pub told-need : (ok : Bool) (q p : ℕ) → Told (need ok (suc q) p)
-unfolding Told need
-told-need true q p e = refl
-told-need false q p e = absurd (omega arith)
-
-pub told-then : (v w : Verdict) → Told v → Told w → Told (v andThen w)
-unfolding Told _andThen_
-told-then (Accepted n) w hv hw = hw
-told-then (Refused q p) w hv hw = hv
-
 told-reply : (v : Verdict) (l : ℤ) (n : ℕ) → Told v → refusalIn (replyOf v l n) ≡ 0 → v ≡ Accepted (countOf v)
 unfolding Told
 told-reply (Accepted m) l n told e = refl

@@ -10,7 +10,7 @@ use book::COST_PLACE;
 use book::CURVE_PLACE;
 use book::MORTALITY_PLACE;
 use contents::Values;
-use limits::NO_CLASS;
+use sizes::NO_CLASS;
 
 // The signed number that 32 bits hold.
 fn signed_of(u: u64) -> i64

@@ -8,8 +8,8 @@ use lib.ListN.{length, drop, length-append}
 use Rattle.field.specs.Verdicts.{countOf}
 use Rattle.field.specs.declared.Verdict.{Verdict}
 use Rattle.field.specs.declared.Verdict.the-variants.{Accepted, Refused}
+use Rattle.field.proofs.Verdicts.{Told, told-need, told-then}
 use Rattle.book.proofs.Numbers.{zero-accepted}
-use Rattle.reckoning.proofs.Promised.{Told, told-need, told-then}
 use Rattle.year_report.specs.Report.{reportText, reportRefusal, reportLength, reportReply, reportCheck, roomOf}
 use Rattle.year_report.specs.Report.{writeCheck, writeReply, bufferOf, reportBuffer, roomReply}
 use Rattle.year_report.specs.Report.{ReportPromised, RoomPromised}

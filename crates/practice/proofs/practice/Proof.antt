@@ -1,11 +1,9 @@
 -- `practice::practice` meets its contract: what is not refused is written, and nothing else. Assumes nothing.
 use mathlib.Core.Path.{_≡_, sym, _∙_}
-use Prim.Native.Nat.{ℕ}
-use native.Mathlib.Omega.{arith}
 use borrow.Author.Needs.{needs}
 use lib.ListN.{length}
 use Rattle.practice.specs.Practice.{checkPractice, practiceReply}
-use Rattle.practice.proofs.Drawn.{promised}
+use Rattle.practice.proofs.Promised.{promised, write-promised}
 use Rattle.practice.proofs.practice.Statement.{statement}
 use Rattle.practice.proofs.practice.Tie as tie
 
@@ -19,18 +17,14 @@ returns : tie.Need-returns
 returns c =
     let m = c .before .before .before .before in
     let e = sym (verdict-is (m .before .before)) ∙ m .enum-told .given .1 in
-    promised _ _ e (c .before .before .write-drawn .ensures)
+    write-promised _ _ e (c .before .before .write-drawn .ensures)
 
 returns-2 : tie.Need-returns-2
 unfolding practiceReply
 returns-2 c =
     let m = c .before in
     let e = sym (verdict-is (m .before .before)) ∙ m .v .given .1 in
-    record {
-      reply-is = rw e;
-      bytes-are = rw e;
-      accepted = λ size f. absurd (let z : _≡_ {A = ℕ} 0 1 = cc in omega arith);
-    }
+    promised _ _ _ _ (rw e) (rw e)
 
 pub practice-spec : {M : Type 1} → statement M
 practice-spec = tie.close

@@ -1,5 +1,9 @@
 -- `practice::put_number` meets its contract: the next draw's number, at place j. Assumes nothing.
+use mathlib.Core.Path.{ap, _∙_}
 use borrow.Author.Needs.{needs}
+use lib.ListN.{set}
+use Rattle.draw.specs.Draws.{drawOf}
+use Rattle.practice.specs.Practice.{drawnNumber}
 use Rattle.practice.proofs.put_number.Statement.{statement}
 use Rattle.practice.proofs.put_number.Tie as tie
 
@@ -7,7 +11,9 @@ returns : tie.Need-returns
 returns c =
     let drawn = c .before in
     let next = drawn .before .next .ensures in
-    (next, rw (c .drawn-number .ensures .0, drawn .draw .ensures, next))
+    let a = drawn .before .before .before .args in
+    let number = c .drawn-number .ensures .0 ∙ ap (drawnNumber (a .span)) (drawn .draw .ensures ∙ ap drawOf next) in
+    (next, ap (set (a .list .now) (a .j)) number)
 
 pub put-number-spec : {M : Type 1} → statement M
 put-number-spec =

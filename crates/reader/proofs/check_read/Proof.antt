@@ -1,17 +1,16 @@
 -- `reader::check_read` meets its contract: the book's refusal, or a buffer that is too short. Assumes nothing.
 use mathlib.Core.Path.{sym, _∙_}
 use borrow.Author.Needs.{needs}
-use Rattle.field.specs.Verdicts.{_andThen_}
 use Rattle.field.proofs.Verdicts.{accepted}
 use Rattle.contents.specs.Reading.{checkRead}
+use Rattle.contents.proofs.Walk.{book-refused}
 use Rattle.reader.proofs.check_read.Statement.{statement}
 use Rattle.reader.proofs.check_read.Tie as tie
 
 returns : tie.Need-returns
-unfolding checkRead _andThen_
 returns c =
     let e = c .enum-told2 .given .1 in
-    e ∙ rw (sym (c .before .before .check .ensures) ∙ e)
+    rw (book-refused _ _ _ _ _ _ _ (sym (c .before .before .check .ensures) ∙ e)) e
 
 firsts-of-requires : tie.Need-firsts-of-requires
 firsts-of-requires c κs = accepted _ _ (sym (c .before .before .check .ensures) ∙ c .enum-told .given .1)
