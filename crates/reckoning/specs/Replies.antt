@@ -66,7 +66,7 @@ abbrev pub yearNumbers : Terms → List Cell → ℕ → List ℕ
 yearNumbers t cs k =
     countedPremium rounded t cs k ∷ outgo rounded t cs k ∷ discountedPremium rounded t cs k ∷ discountedOutgo rounded t cs k ∷ []
 
--- those of the first j years
+-- the year table, document 01's term for the cash flows by year: those of the first j years
 unfoldable pub yearTable : Terms → List Cell → ℕ → List ℕ
 yearTable t cs zero = []
 yearTable t cs (suc j) = yearTable t cs j ++ yearNumbers t cs j
