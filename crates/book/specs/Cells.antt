@@ -1,4 +1,4 @@
--- n: how many linked records hold contracts, that is, have a count that is not 0.
+-- n is document 01's term: how many linked records hold contracts, that is, have a count that is not 0.
 use Prim.Native.Nat.{ℕ, zero, suc, _+_, _*_}
 use mathlib.Core.List.{List}
 use lib.Dec.{eqb}

@@ -1,4 +1,5 @@
 -- Where everything stands in a book, and the ranges of its fields. Places and sizes are in bytes; records are numbered from 1.
+-- Book is document 01's term for the input file of a valuation: an insurer's contracts and the tables of one SST year.
 use Prim.Native.Nat.{ℕ, zero, suc, _+_, _-_, _*_, _/_, _%_}
 use mathlib.Core.List.{List}
 use lib.Dec.{eqb}

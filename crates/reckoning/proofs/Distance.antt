@@ -11,7 +11,7 @@ use Rattle.reckoning.specs.Arithmetic.{rounded, exact, Fraction, partFra
 use Rattle.reckoning.specs.Steps.{Cell, Terms, held, oneUnless, inForce, cellPremium, cellClaims, sumCells, premiumSum, claimsSum, outgo, cappedIf, capped, countedPremium, discounted, discountedOutgo, discountedPremium, sumYears, totalOutgo, totalPremium, liability, exactLiability, less}
 use Rattle.reckoning.specs.Promises.{GroupDistance, GroupHalfDistance}
 use Rattle.reckoning.specs.Bounds.{GoodCell, GoodCells, GoodTerms, Within}
-use Rattle.reckoning.proofs.Near.{Near, near-whole, near-part, near-plus, near-more}
+use Rattle.reckoning.proofs.Approximation.{Near, near-whole, near-part, near-plus, near-more}
 use Rattle.reckoning.proofs.Differences.{diff-less, diff-minus, diff-times, diff-abs}
 use Rattle.reckoning.proofs.Errors.{Err, at, noErr, plusErr, partErr, maxErr, near-plus-err, near-part-err, near-lesser-err, up}
 

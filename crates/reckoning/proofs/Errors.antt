@@ -3,7 +3,7 @@ use Prim.Native.Nat.{ℕ, _+_, _*_, _/_, _≤_, _<_, max}
 use native.Mathlib.Nat.{mul-le-mul-left, mul-le-mul-right, le-trans, lt-div-mul-add, le-max-left, le-max-right}
 use native.Mathlib.Omega.{arith}
 use Rattle.reckoning.specs.Arithmetic.{Fraction, plusFraction, partFraction, lesserFraction}
-use Rattle.reckoning.proofs.Near.{Near, near-part, near-plus, near-more, near-lesser}
+use Rattle.reckoning.proofs.Approximation.{Near, near-part, near-plus, near-more, near-lesser}
 
 pub record Err : Type 0 where
   pub each : ℕ

@@ -1,4 +1,5 @@
-pub mod Near
+pub mod Approximation
+pub mod Counterexamples
 pub mod Errors
 pub mod Differences
 pub mod Distance

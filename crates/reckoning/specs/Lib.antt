@@ -7,3 +7,4 @@ pub mod Replies
 pub mod Totals
 pub mod PaperDifferences
 pub mod Trials
+pub mod Traps

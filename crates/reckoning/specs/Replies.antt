@@ -66,10 +66,14 @@ abbrev pub yearNumbers : Terms → List Cell → ℕ → List ℕ
 yearNumbers t cs k =
     countedPremium rounded t cs k ∷ outgo rounded t cs k ∷ discountedPremium rounded t cs k ∷ discountedOutgo rounded t cs k ∷ []
 
--- those of the first j years
+-- the year table, document 01's term for the cash flows by year: those of the first j years
 unfoldable pub yearTable : Terms → List Cell → ℕ → List ℕ
 yearTable t cs zero = []
 yearTable t cs (suc j) = yearTable t cs j ++ yearNumbers t cs j
+
+-- those of the fifty years of product group g in a setting
+abbrev pub groupYears : List ℕ → ℕ → ℕ → List ℕ
+groupYears b setting g = yearTable (termsOf b setting g) (groupCells b (decrementsOf b setting) g) 50
 
 -- the lent table afterwards: the 200 numbers of the fifty years, then what stood there; as it was where refused
 abbrev pub tableOf : Verdict → List ℕ → List ℕ → List ℕ
@@ -77,8 +81,7 @@ tableOf (Accepted m) years before = years ++ drop 200 before
 tableOf (Refused number place) years before = before
 
 unfoldable pub groupTable : List ℕ → ℕ → ℕ → List ℕ → List ℕ
-groupTable b setting g before =
-    tableOf (groupCheck b setting g (length before)) (yearTable (termsOf b setting g) (groupCells b (decrementsOf b setting) g) 50) before
+groupTable b setting g before = tableOf (groupCheck b setting g (length before)) (groupYears b setting g) before
 
 -- What Group's call promises: its reply and its table equal their definitions; and, where it reckons, demand 3.
 pub record GroupPromised (b : List ℕ) (setting g : ℕ) (before after : List ℕ) (reply : GroupReply) : Type 0 where

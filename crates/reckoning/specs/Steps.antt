@@ -6,7 +6,7 @@ use lib.Dec.{leb, eqb}
 use lib.IntN.{ℤ, pos, _-ℤ_}
 use Rattle.reckoning.specs.Arithmetic.{Arithmetic, rounded, exact, Fraction}
 
--- a cell: its contracts and, for each year k, what goes with it
+-- A cell, document 01's term for a model point: its contracts and, for each year k, what goes with it.
 pub record Cell : Type 0 where
   pub count : ℕ
   -- one less mortality, and one less lapse, in billionths
@@ -36,7 +36,7 @@ held [] = 0
 held (c ∷ cs) = oneUnless (eqb (c .count) 0) + held cs
 
 module _ (A : Arithmetic) where
-  -- step 1: in force, in billionths of a contract
+  -- step 1: in force, document 01's term for the policies still in force, in billionths of a contract
   unfoldable pub inForce : Cell → ℕ → A .Number
   inForce c zero = A .whole (c .count * 1_000_000_000)
   inForce c (suc k) = A .part (A .part (inForce c k) (c .living k) 1_000_000_000) (c .staying k) 1_000_000_000
@@ -58,13 +58,15 @@ module _ (A : Arithmetic) where
   unfoldable pub claimsSum : List Cell → ℕ → A .Number
   claimsSum cs k = sumCells (cellClaims k) cs
 
-  -- step 3: the outgo is the weighted claims and the cost (FINMA 4.4.8), of the premium before the cap (house rule)
+  -- step 3: the outgo, document 01's term for claims and expenses together: the weighted claims, and the cost
+  -- (FINMA 4.4.8) of the premium before the cap (house rule)
   unfoldable pub outgo : Terms → List Cell → ℕ → A .Number
   outgo t cs k =
       A .plus (A .part (claimsSum cs k) (t .claimsWeight k) 1000)
       (A .part (premiumSum cs k) (t .costRate * t .costWeight k) 1_000_000_000)
 
-  -- step 4: the cap (FINMA 4.5), from the sixth year (k = 5) on: at most ten ninths of the outgo
+  -- step 4: the cap, document 01's term for the limit on premiums (FINMA 4.5): at most ten ninths of the outgo, from
+  -- the sixth year (k = 5) on
   unfoldable pub cappedIf : Bool → A .Number → A .Number → A .Number
   cappedIf true p o = A .lesser p (A .part o 10 9)
   cappedIf false p o = p
@@ -72,6 +74,7 @@ module _ (A : Arithmetic) where
   unfoldable pub capped : ℕ → A .Number → A .Number → A .Number
   capped k p o = cappedIf (leb 5 k) p o
 
+  -- the counted premium, document 01's term for the premium after the cap
   unfoldable pub countedPremium : Terms → List Cell → ℕ → A .Number
   countedPremium t cs k = capped k (premiumSum cs k) (outgo t cs k)
 
@@ -106,7 +109,7 @@ pub record SignedFraction : Type 0 where
 abbrev pub less : Fraction → Fraction → SignedFraction
 less x y = record { over = pos (x .over * y .under) -ℤ pos (y .over * x .under); under = x .under * y .under }
 
--- the liability, and its exact value
+-- the liability, and its exact value, document 01's term for what the same steps give without rounding
 unfoldable pub liability : Terms → List Cell → ℤ
 liability t cs = pos (totalOutgo rounded t cs) -ℤ pos (totalPremium rounded t cs)
 

@@ -1,4 +1,5 @@
 -- The weights of the eight settings, in thousandths (paper, section Settings). Assumes nothing.
+-- Setting is document 01's term for a scenario: 0 is the base, 1 to 7 shift one of its weights (FINMA 5.2.2).
 -- Kinds: 0 mortality of men, 1 mortality of women, 2 lapse, 3 costs, 4 claims. A weight of mortality is so much for each percent of it.
 use mathlib.Core.Bool.{Bool, _&&_}
 use mathlib.Core.List.{List}
