@@ -1,9 +1,9 @@
--- `spread::mean` meets its contract: the sum of the five, made a double and divided by 8. Assumes nothing.
+-- `variation::mean` meets its contract: the sum of the five, made a double and divided by 8. Assumes nothing.
 use lib.Ieee.{ofBits}
 use borrow.Author.Needs.{needs}
-use Rattle.spread.specs.Spread.{weighted, meanOf}
-use Rattle.spread.proofs.mean.Statement.{statement}
-use Rattle.spread.proofs.mean.Tie as tie
+use Rattle.variation.specs.Estimates.{weighted, meanOf}
+use Rattle.variation.proofs.mean.Statement.{statement}
+use Rattle.variation.proofs.mean.Tie as tie
 
 returns : tie.Need-returns
 unfolding ofBits weighted meanOf

@@ -1,8 +1,8 @@
--- `spread::double` meets its contract: the number is far below 2 ^ 53. Assumes nothing.
+-- `variation::double` meets its contract: the number is far below 2 ^ 53. Assumes nothing.
 use borrow.Author.Needs.{needs}
-use Rattle.spread.proofs.ExactMean.{whole-fits}
-use Rattle.spread.proofs.double.Statement.{statement}
-use Rattle.spread.proofs.double.Tie as tie
+use Rattle.variation.proofs.Whole.{whole-fits}
+use Rattle.variation.proofs.double.Statement.{statement}
+use Rattle.variation.proofs.double.Tie as tie
 
 int-to-float-result : tie.Need-int-to-float-result
 int-to-float-result c = whole-fits (c .before .args .n) (c .before .pre)
