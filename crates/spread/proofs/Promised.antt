@@ -67,13 +67,13 @@ module _ (s : Summary) (f : SampleFactors) where
   unfolding spreadReply checkSpread _andThen_ need
   replied-27 ranked = rw ranked
 
-  replied-28 : (rising s && withinLimit s && ltb 0 (s .highest)) ≡ true → not (badFactor (f .xi) || badFactor (f .eta)) ≡ false
-      → Refused 28 0 ≡ spreadReply s f
+  replied-28 : (rising s && withinLimit s && ltb 0 (s .highest)) ≡ true
+      → not (badFactor (f .xi) || badFactor (f .eta)) ≡ false → Refused 28 0 ≡ spreadReply s f
   unfolding spreadReply checkSpread _andThen_ need
   replied-28 ranked good = rw (ranked, good)
 
-  replied : (rising s && withinLimit s && ltb 0 (s .highest)) ≡ true → not (badFactor (f .xi) || badFactor (f .eta)) ≡ true
-      → (l : Bool) → eqb (s .lowest) (s .highest) ≡ l
+  replied : (rising s && withinLimit s && ltb 0 (s .highest)) ≡ true
+      → not (badFactor (f .xi) || badFactor (f .eta)) ≡ true → (l : Bool) → eqb (s .lowest) (s .highest) ≡ l
       → pick l (Level (meanOf s)) (Coefficient (meanOf s) (estimatesOf s f .coefficient)) ≡ spreadReply s f
   unfolding spreadReply checkSpread _andThen_ need estimatesOf
   replied ranked good l same = rw (ranked, good, same)

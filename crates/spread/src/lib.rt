@@ -1,5 +1,5 @@
-// The spread of yearly claims (FINMA 5.2.4.2): mean and coefficient out of a five-number summary and two sample factors,
-// or what is refused of them.
+// The spread of yearly claims (FINMA 5.2.4.2): mean and coefficient out of a five-number summary
+// and two sample factors, or what is refused of them.
 ghost use mathlib.Core.Path.{_≡_};
 ghost use Rattle.spread.specs.Refusals.{rising, withinLimit, badFactor, checkSpread};
 ghost use Rattle.spread.specs.Replies.{SpreadPromised};
@@ -55,7 +55,8 @@ fn check(s: Summary, factors: SampleFactors) -> Verdict
     field::need(ranked, 27, 0).require(good, 28, 0)
 }
 
-// Mean and coefficient of yearly claims, 'level' with the mean where all are alike, or the first refusal.
+// Mean and coefficient of yearly claims, 'level' with the mean where all are alike, or the first
+// refusal.
 pub fn spread(claims: Summary, factors: SampleFactors) -> SpreadReply
     ensures { λ r. ⌜ SpreadPromised claims factors r ⌝ }
 {

@@ -1,5 +1,5 @@
--- What is estimated of yearly claims (W-210, by FINMA 5.2.4.2), in doubles: each operation of `lib.Ieee` rounds once, in
--- the paper's order.
+-- What is estimated of yearly claims (W-210, by FINMA 5.2.4.2), in doubles: each operation of `lib.Ieee` rounds once,
+-- in the paper's order.
 use Prim.Native.Nat.{ℕ, _+_, _-_, _*_}
 use mathlib.Core.Bool.{false}
 use lib.IntN.{pos, negsuc}

@@ -1,12 +1,12 @@
-// Mean, deviation and coefficient of yearly claims (FINMA 5.2.4.2), out of a five-number summary and two sample factors.
-// It works in doubles: each operation rounds once, in the paper's order.
+// Mean, deviation and coefficient of yearly claims (FINMA 5.2.4.2), out of a five-number summary
+// and two sample factors. It works in doubles: each operation rounds once, in the paper's order.
 ghost use mathlib.Core.Path.{_≡_};
 ghost use Prim.Native.Nat.{_≤_};
 ghost use Rattle.variation.specs.Estimates.{double, meanOf, deviationOf, estimatesOf};
 ghost use Rattle.variation.specs.Ranked.{Ranked};
 
-// Yearly claims per contract in whole centimes: the lowest, the three quartiles, the second of which is the median, and
-// the highest.
+// Yearly claims per contract in whole centimes: the lowest, the three quartiles, the second of
+// which is the median, and the highest.
 #[repr(C)]
 pub struct Summary {
     pub lowest: u64,
