@@ -1,16 +1,17 @@
 -- The call's promises follow from the equation alone, by what its three tests say. Assumes nothing.
-use mathlib.Core.Path.{_≡_, refl, sym, ap, _∙_}
+use mathlib.Core.Path.{_≡_, refl, ap}
 use mathlib.Core.Bool.{Bool, true, false}
 use mathlib.Core.List.{[], _∷_}
 use Prim.Native.Nat.{ℕ, _≤_, _<_}
 use native.Mathlib.Omega.{arith}
 use lib.ListN.{getD}
-use Rattle.accounts.specs.declared.Accounts.{Accounts}
+use Rattle.conditions.specs.Every.{every}
+use Rattle.expenses.specs.declared.Accounts.{Accounts}
+use Rattle.expenses.specs.Rates.{ratesOf}
+use Rattle.expenses.specs.Usable.{Usable}
 use Rattle.accounts.specs.declared.CostRates.{CostRates}
-use Rattle.accounts.specs.Rates.{every, ratesOf}
 use Rattle.accounts.specs.Refusals.{highestRate, allAtMost, withinLimits, canReckon}
 use Rattle.accounts.specs.Replies.{costRates, RatesPromised}
-use Rattle.accounts.specs.Usable.{Usable}
 use Rattle.accounts.proofs.Usable.{each-at-most, bounded, usable}
 use Rattle.accounts.proofs.Shares.{split-whole}
 use Rattle.accounts.proofs.Replied.{replied-17, replied-18, replied-19, replied-rates}

@@ -4,8 +4,8 @@ use mathlib.Core.Bool.{true, false}
 use mathlib.Core.List.{[]}
 use Rattle.field.specs.Verdicts.{need, _andThen_}
 use Rattle.field.specs.declared.Verdict.the-variants.{Accepted, Refused}
-use Rattle.accounts.specs.declared.Accounts.{Accounts}
-use Rattle.accounts.specs.Rates.{ratesOf}
+use Rattle.expenses.specs.declared.Accounts.{Accounts}
+use Rattle.expenses.specs.Rates.{ratesOf}
 use Rattle.accounts.specs.Refusals.{highestRate, allAtMost, withinLimits, canReckon, checkAccounts}
 use Rattle.accounts.specs.Replies.{replyFor, costRates}
 

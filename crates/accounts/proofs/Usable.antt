@@ -1,6 +1,6 @@
 -- What accounts are that passed 17 and 18. Assumes nothing.
 use mathlib.Core.Path.{_≡_}
-use mathlib.Core.Bool.{Bool, true, false, _&&_, _||_}
+use mathlib.Core.Bool.{Bool, true, false, _&&_}
 use mathlib.Core.List.{List}
 use Prim.Native.Nat.{ℕ, _≤_, _<_}
 use native.Mathlib.Nat.{le-trans}
@@ -8,12 +8,14 @@ use native.Mathlib.Omega.{arith}
 use lib.Dec.{leb, ltb}
 use lib.ListN.{getD}
 use borrow.Author.Tests.{leb-true, ltb-true}
-use Rattle.accounts.specs.declared.Accounts.{Accounts}
-use Rattle.accounts.specs.Rates.{figure, yearSum, every, isEmpty}
+use Rattle.conditions.specs.Every.{every}
+use Rattle.conditions.proofs.Joined.{and-left, and-right, or-other}
+use Rattle.conditions.proofs.Every.{every-holds}
+use Rattle.expenses.specs.declared.Accounts.{Accounts}
+use Rattle.expenses.specs.Rates.{figure, yearSum, isEmpty}
+use Rattle.expenses.specs.Usable.{Limited, Bounded, Usable}
 use Rattle.accounts.specs.Refusals.{highestAmount, highestStock, allAtMost, withinLimits}
 use Rattle.accounts.specs.Refusals.{canSplit, isPaid, canReckon}
-use Rattle.accounts.specs.Usable.{Limited, Bounded, Usable}
-use Rattle.accounts.proofs.Every.{and-left, and-right, every-holds}
 
 pub each-at-most : (limit : ℕ) (figures : List ℕ) (n place : ℕ) → allAtMost limit figures n ≡ true → place < n
     → getD figures place 0 ≤ limit
@@ -46,6 +48,14 @@ some-in : (split : List ℕ) → canSplit split ≡ true → (year : ℕ) → ye
 unfolding canSplit
 some-in split e year h = ltb-true _ _ (every-holds (λ (year : ℕ). ltb 0 (yearSum split year)) 3 year e h)
 
+-- a group that is paid and not empty has premium in every year
+premium-paid : (a : Accounts) (group year : ℕ) → isPaid a group ≡ true → isEmpty a group ≡ false → year < 3
+    → 0 < figure (a .premium) year group
+unfolding isPaid
+premium-paid a group year p e h =
+    let test : ℕ → Bool = λ year. ltb 0 (figure (a .premium) year group) in
+    ltb-true _ _ (every-holds test 3 year (or-other (isEmpty a group) _ p e) h)
+
 -- 18 passed
 pub usable : (a : Accounts) → Bounded a → canReckon a ≡ true → Usable a
 unfolding canReckon
@@ -58,17 +68,7 @@ usable a b e =
       bounded = b;
       some-stock = some-in _ (and-left stock claims both);
       some-claims = some-in _ (and-right stock claims both);
-      each-paid = λ group h. every-holds (isPaid a) 5 group (and-right (stock && claims) paid e) h;
+      paid =
+          λ group year g y none.
+          premium-paid a group year (every-holds (isPaid a) 5 group (and-right (stock && claims) paid e) g) none y;
     }
-
-or-right : (s t : Bool) → (s || t) ≡ true → s ≡ false → t ≡ true
-or-right true t e f = cc
-or-right false t e f = e
-
--- a group that is paid and not empty has premium in every year
-pub premium-paid : (a : Accounts) (group year : ℕ) → isPaid a group ≡ true → isEmpty a group ≡ false → year < 3
-    → 0 < figure (a .premium) year group
-unfolding isPaid
-premium-paid a group year p e h =
-    let test : ℕ → Bool = λ year. ltb 0 (figure (a .premium) year group) in
-    ltb-true _ _ (every-holds test 3 year (or-right (isEmpty a group) _ p e) h)

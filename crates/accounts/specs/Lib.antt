@@ -1,4 +1,2 @@
-pub mod Rates
 pub mod Refusals
 pub mod Replies
-pub mod Usable

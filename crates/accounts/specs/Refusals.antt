@@ -1,4 +1,5 @@
 -- The refusals of accounts: 17 over all figures first, 18 next, 19 last. None names a place.
+-- `every test n`: the test holds for each number below n.
 use Prim.Native.Nat.{ℕ}
 use mathlib.Core.Bool.{Bool, _&&_, _||_}
 use mathlib.Core.List.{List}
@@ -6,8 +7,9 @@ use lib.ListN.{getD}
 use lib.Dec.{leb, ltb}
 use Rattle.field.specs.Verdicts.{need, _andThen_}
 use Rattle.field.specs.declared.Verdict.{Verdict}
-use Rattle.accounts.specs.declared.Accounts.{Accounts}
-use Rattle.accounts.specs.Rates.{figure, yearSum, every, isEmpty, ratesOf}
+use Rattle.conditions.specs.Every.{every}
+use Rattle.expenses.specs.declared.Accounts.{Accounts}
+use Rattle.expenses.specs.Rates.{figure, yearSum, isEmpty, ratesOf}
 
 -- in francs
 abbrev pub highestAmount : ℕ

@@ -5,9 +5,9 @@ use mathlib.Core.List.{List, [], _∷_}
 use lib.ListN.{getD}
 use Rattle.field.specs.declared.Verdict.{Verdict}
 use Rattle.field.specs.declared.Verdict.the-variants.{Accepted, Refused}
-use Rattle.accounts.specs.declared.Accounts.{Accounts}
+use Rattle.expenses.specs.declared.Accounts.{Accounts}
+use Rattle.expenses.specs.Rates.{overGroups, lowered, share, ratesOf}
 use Rattle.accounts.specs.declared.CostRates.{CostRates}
-use Rattle.accounts.specs.Rates.{overGroups, lowered, share, ratesOf}
 use Rattle.accounts.specs.Refusals.{highestRate, checkAccounts}
 
 -- the five rates, or the refusal and 0 in every other field

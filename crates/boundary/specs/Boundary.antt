@@ -23,8 +23,9 @@ use Rattle.funds.specs.declared.FundsReply.{FundsReply}
 use Rattle.inforce.specs.Screen.{inForceCheck, InForcePromised}
 use Rattle.spread.specs.Replies.{spreadRefusal, spreadPlace, spreadLevel, spreadMean, spreadCoefficient}
 use Rattle.spread.specs.Replies.{spreadReply, SpreadPromised}
-use Rattle.spread.specs.declared.Summary.{Summary}
 use Rattle.spread.specs.declared.SpreadReply.{SpreadReply}
+use Rattle.variation.specs.declared.Summary.{Summary}
+use Rattle.variation.specs.declared.SampleFactors.{SampleFactors}
 use Rattle.practice.specs.Practice.{practiceReply, PracticePromised}
 use Rattle.boundary.specs.declared.VerdictFields.{VerdictFields}
 use Rattle.boundary.specs.declared.GroupFields.{GroupFields}
@@ -112,10 +113,14 @@ spreadFields r =
       coefficient = spreadCoefficient r;
     }
 
+-- the sample factors, which come as two numbers
+abbrev pub sampleFactors : Float → Float → SampleFactors
+sampleFactors xi eta = record { xi = xi; eta = eta }
+
 -- Spread across the boundary, likewise
 pub record SpreadHanded (s : Summary) (xi eta : Float) (r : SpreadFields) : Type 0 where
-  pub fields-are : r ≡ spreadFields (spreadReply s xi eta)
-  pub promised : SpreadPromised s xi eta (spreadReply s xi eta)
+  pub fields-are : r ≡ spreadFields (spreadReply s (sampleFactors xi eta))
+  pub promised : SpreadPromised s (sampleFactors xi eta) (spreadReply s (sampleFactors xi eta))
 
 -- the call that writes practice books, likewise
 pub record PracticeHanded (start : ℕ) (before after : List ℕ) (r : WriteFields) : Type 0 where

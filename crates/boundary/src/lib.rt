@@ -16,19 +16,20 @@ ghost use Rattle.boundary.specs.Boundary.{FundsHanded};
 ghost use Rattle.boundary.specs.Boundary.{InForceHanded};
 ghost use Rattle.boundary.specs.Boundary.{SpreadHanded};
 ghost use Rattle.boundary.specs.Boundary.{writeFields, PracticeHanded};
-use accounts::Accounts;
 use accounts::CostRates;
 use contents::ReadReply;
 use contents::Values;
 use contents::WriteReply;
+use expenses::Accounts;
 use factors::DeviationReply;
-use factors::RiskModel;
 use field::Verdict;
 use look::Located;
 use reckoning::GroupReply;
 use reckoning::TotalsReply;
+use risk::RiskModel;
 use spread::SpreadReply;
-use spread::Summary;
+use variation::SampleFactors;
+use variation::Summary;
 use year_report::ReportReply;
 
 // A verdict in fields: refusal and place are 0 where accepted, n is 0 where refused.
@@ -300,7 +301,8 @@ pub struct SpreadFields {
 pub extern "C" fn xaropinto_spread(claims: Summary, xi: f64, eta: f64) -> SpreadFields
     ensures { λ r. ⌜ SpreadHanded claims xi eta r ⌝ }
 {
-    let reply = spread::spread(claims, xi, eta);
+    let factors = SampleFactors { xi, eta };
+    let reply = spread::spread(claims, factors);
     match reply {
         SpreadReply::Coefficient(mean, coefficient) => SpreadFields {
             refusal: 0,

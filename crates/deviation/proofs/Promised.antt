@@ -2,7 +2,6 @@
 use mathlib.Core.Path.{_≡_, refl, sym, ap, _∙_}
 use mathlib.Core.List.{List}
 use Prim.Native.Nat.{ℕ, _≤_, zero-le}
-use native.Mathlib.Omega.{arith}
 use lib.IntN.{ℤ}
 use Rattle.field.specs.Verdicts.{_andThen_, refusalOf, countOf}
 use Rattle.field.specs.declared.Verdict.{Verdict}
@@ -13,7 +12,7 @@ use Rattle.book.specs.Check.{checkBook}
 use Rattle.book.proofs.Numbers.{zero-accepted}
 use Rattle.reckoning.specs.Totals.{totalsOf, differencesOf, totalsFor, totalsReply}
 use Rattle.reckoning.specs.declared.TotalsReply.{TotalsReply}
-use Rattle.factors.specs.declared.RiskModel.{RiskModel}
+use Rattle.risk.specs.declared.RiskModel.{RiskModel}
 use Rattle.factors.specs.declared.DeviationReply.{DeviationReply}
 use Rattle.factors.specs.Refusals.{checkFactors}
 use Rattle.factors.specs.Replies.{deviationFor, replyFor}

@@ -12,7 +12,7 @@ use Rattle.book.proofs.Unlinked.{unlinked-same}
 use Rattle.reckoning.specs.Totals.{differencesOf, totalsReply}
 use Rattle.reckoning.specs.declared.TotalsReply.{TotalsReply}
 use Rattle.reckoning.proofs.Unlinked.{totals-same}
-use Rattle.factors.specs.declared.RiskModel.{RiskModel}
+use Rattle.risk.specs.declared.RiskModel.{RiskModel}
 use Rattle.factors.specs.Refusals.{checkFactors}
 use Rattle.factors.specs.Replies.{deviationFor, replyFor, factorsReply}
 use Rattle.deviation.specs.Deviation.{checkDeviation, deviationReply}

@@ -7,10 +7,11 @@ use Rattle.field.specs.Verdicts.{_andThen_}
 use Rattle.field.specs.declared.Verdict.{Verdict}
 use Rattle.book.specs.Check.{checkBook}
 use Rattle.reckoning.specs.Totals.{differencesOf}
-use Rattle.factors.specs.declared.RiskModel.{RiskModel}
+use Rattle.signs.specs.Signs.{isNegative}
+use Rattle.risk.specs.declared.RiskModel.{RiskModel}
+use Rattle.quadratic.specs.Root.{WholeRoot}
 use Rattle.factors.specs.declared.DeviationReply.{DeviationReply}
-use Rattle.factors.specs.Form.{isNegative, inThousands, formFor}
-use Rattle.factors.specs.Root.{WholeRoot}
+use Rattle.factors.specs.Form.{inThousands, formFor}
 use Rattle.factors.specs.Refusals.{checkFactors}
 use Rattle.factors.specs.Replies.{deviationFor, replyFor}
 

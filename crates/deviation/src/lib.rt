@@ -1,7 +1,7 @@
 // The call Deviation: one standard deviation of the four risk factors of a book (FINMA 5.2.1).
 ghost use Rattle.deviation.specs.Deviation.{DeviationPromised};
 use factors::DeviationReply;
-use factors::RiskModel;
+use risk::RiskModel;
 
 // The deviation in thousand francs, or the first refusal: the book's as Totals gives them, then those of the model.
 pub fn deviation(book: &[u8], model: RiskModel) -> DeviationReply

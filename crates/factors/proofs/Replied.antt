@@ -2,31 +2,23 @@
 use mathlib.Core.Path.{_≡_, refl}
 use mathlib.Core.Bool.{Bool, true, false, not}
 use mathlib.Core.List.{List}
-use Prim.Native.Nat.{ℕ, _/_, _≤_}
+use Prim.Native.Nat.{_≤_}
 use native.Mathlib.Omega.{arith}
 use lib.IntN.{ℤ, natAbs}
 use Rattle.field.specs.Verdicts.{need, _andThen_, refusalOf}
-use Rattle.field.specs.declared.Verdict.{Verdict}
 use Rattle.field.specs.declared.Verdict.the-variants.{Accepted, Refused}
-use Rattle.accounts.proofs.Every.{and-left, and-right}
-use Rattle.factors.specs.declared.RiskModel.{RiskModel}
+use Rattle.signs.specs.Signs.{isNegative}
+use Rattle.risk.specs.declared.RiskModel.{RiskModel}
+use Rattle.risk.specs.Model.{modelRight}
+use Rattle.risk.proofs.Rules.{model-correlation, correlation-most}
+use Rattle.quadratic.specs.Root.{WholeRoot}
+use Rattle.quadratic.proofs.Bounds.{form-most, root-most}
+use Rattle.quadratic.proofs.Squares.{root-whole}
 use Rattle.factors.specs.Factors.{factorsOf}
-use Rattle.factors.specs.Form.{formOf, formFor, isNegative, inThousands}
-use Rattle.factors.specs.Root.{WholeRoot}
-use Rattle.factors.specs.Refusals.{coefficientsRight, correlationRight, modelRight, factorsSmall, checkFactors}
+use Rattle.factors.specs.Form.{formFor, inThousands}
+use Rattle.factors.specs.Refusals.{factorsSmall, checkFactors}
 use Rattle.factors.specs.Replies.{deviationFor, replyFor, factorsReply}
-use Rattle.factors.proofs.Tests.{correlation-most, factors-most}
-use Rattle.factors.proofs.Bounds.{form-most, root-most}
-use Rattle.factors.proofs.Squares.{root-whole}
-
--- a model that passes 29
-pub model-coefficients : (m : RiskModel) → modelRight m ≡ true → coefficientsRight (m .coefficients) ≡ true
-unfolding modelRight
-model-coefficients m e = and-left _ (correlationRight (m .correlation)) e
-
-pub model-correlation : (m : RiskModel) → modelRight m ≡ true → correlationRight (m .correlation) ≡ true
-unfolding modelRight
-model-correlation m e = and-right (coefficientsRight (m .coefficients)) _ e
+use Rattle.factors.proofs.Sizes.{factors-most}
 
 -- no test refuses
 pub record Passed (differences : List ℤ) (m : RiskModel) : Type 0 where

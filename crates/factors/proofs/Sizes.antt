@@ -1,92 +1,19 @@
--- Laws of numbers with signs by their sizes, which omega reads: sums, products, the sign, a factor. Assumes nothing.
+-- A scaled factor by its size and sign, and the room that it needs; factors that pass 30. Assumes nothing.
 use mathlib.Core.Path.{_≡_, refl, sym, ap, _∙_}
-use mathlib.Core.Bool.{Bool, true, false, cond, true≢false}
-use Prim.Native.Nat.{ℕ, zero, suc, _+_, _-_, _*_, _/_, _≤_, _<_}
+use Prim.Native.Nat.{ℕ, zero, suc, _+_, _*_, _/_, _≤_, _<_}
+use mathlib.Core.Bool.{true}
+use mathlib.Core.List.{List}
+use lib.Dec.{leb}
+use borrow.Author.Tests.{leb-true}
 use native.Mathlib.Omega.{arith}
-use native.Mathlib.Numerals.{add-one}
-use native.Mathlib.Nat.{le-refl, not-suc-le-zero, div-le-of-le-mul, zero-mul, zero-div}
-use lib.Dec.{ltb, T}
-use lib.IntN.{ℤ, pos, negsuc, negℤ, natAbs, subℕ, _+ℤ_, _-ℤ_, _*ℤ_, +ℤ-idl}
-use lib.Signed.{mag, quotZ, ltZ, nonNeg}
-use mir.Syntax.{w64}
-use mir.Val.{SFits, toZ, ofZ}
-use mir.ValLaws.{toZ-ofZ}
-use borrow.Author.Tests.{ltb-true, le-ltb}
+use native.Mathlib.Nat.{div-le-of-le-mul, zero-mul, zero-div}
+use lib.IntN.{ℤ, pos, negsuc, negℤ, natAbs, _*ℤ_}
+use lib.Signed.{quotZ}
 use Rattle.arith.proofs.Division.{product-le}
+use Rattle.conditions.proofs.Every.{every-holds}
+use Rattle.signs.specs.Signs.{numberAt, withSign, SizesTo}
 use Rattle.factors.specs.Factors.{scaledOf}
-use Rattle.factors.specs.Form.{sumBelow}
-use Rattle.factors.specs.Sizes.{withSign}
-
-mag-abs : (z : ℤ) → mag z ≤ natAbs z
-mag-abs (pos n) = le-refl n
-mag-abs (negsuc n) = omega arith
-
-pub abs-mag : (z : ℤ) → natAbs z ≤ mag z + 1
-abs-mag (pos n) = omega arith
-abs-mag (negsuc n) = omega arith
-
-pub fits-abs : (z : ℤ) → natAbs z < 9223372036854775808 → SFits w64 z
-fits-abs z h = record { sfits = omega (arith, mag-abs z) }
-
--- a number that fits is read back off its bits
-pub back : (z : ℤ) → mag z < 9223372036854775808 → toZ w64 (ofZ w64 z) ≡ z
-back z h = toZ-ofZ w64 z (record { sfits = h })
-
-pub read-two : (op : ℤ → ℤ → ℤ) (x y : ℤ) → mag x < 9223372036854775808 → mag y < 9223372036854775808
-    → op (toZ w64 (ofZ w64 x)) (toZ w64 (ofZ w64 y)) ≡ op x y
-read-two op x y p q = rw (back x p, back y q)
-
-abs-neg : (z : ℤ) → natAbs (negℤ z) ≡ natAbs z
-abs-neg (pos zero) = refl
-abs-neg (pos (suc n)) = refl
-abs-neg (negsuc n) = refl
-
-sub-abs : (a b : ℕ) → natAbs (subℕ a b) ≤ a + b
-sub-abs a b = by (ltb a b) (ltb-true a b)
-  where
-    by : (t : Bool) → (t ≡ true → a < b) → natAbs (cond t (negsuc (b - suc a)) (pos (a - b))) ≤ a + b
-    by true h = let l : a < b = h refl in omega arith
-    by false h = omega arith
-
-pub abs-plus : (x y : ℤ) → natAbs (x +ℤ y) ≤ natAbs x + natAbs y
-abs-plus (pos a) (pos b) = le-refl (a + b)
-abs-plus (pos a) (negsuc b) = sub-abs a (suc b)
-abs-plus (negsuc a) (pos b) = omega (arith, sub-abs b (suc a))
-abs-plus (negsuc a) (negsuc b) = omega arith
-
-pub abs-times : (x y : ℤ) → natAbs (x *ℤ y) ≡ natAbs x * natAbs y
-abs-times (pos a) (pos b) = refl
-abs-times (pos a) (negsuc b) = abs-neg (pos (a * suc b))
-abs-times (negsuc a) (pos b) = abs-neg (pos (suc a * b))
-abs-times (negsuc a) (negsuc b) = refl
-
--- by the sign
-pub below-some : (x : ℤ) → ltZ x (pos 0) ≡ true → 0 < natAbs x
-below-some (pos a) h = let l : a < 0 = ltb-true a 0 h in absurd (not-suc-le-zero l)
-below-some (negsuc a) h = omega arith
-
-pub below-turned : (x : ℤ) → ltZ x (pos 0) ≡ true → negsuc 0 -ℤ x ≡ pos (natAbs x - 1)
-below-turned (pos a) h = let l : a < 0 = ltb-true a 0 h in absurd (not-suc-le-zero l)
-below-turned (negsuc a) h = rw (le-ltb (suc a) 1 (omega arith))
-
-pub not-below : (x : ℤ) → ltZ x (pos 0) ≡ false → T (nonNeg x)
-not-below (pos a) h = tt
-not-below (negsuc a) h = absurd (true≢false h)
-
-pub sign-below : (x : ℤ) (m : ℕ) → ltZ x (pos 0) ≡ true → pos 0 -ℤ pos m ≡ withSign x m
-unfolding withSign
-sign-below (pos a) m h = let l : a < 0 = ltb-true a 0 h in absurd (not-suc-le-zero l)
-sign-below (negsuc a) m h = +ℤ-idl (negℤ (pos m))
-
-pub sign-not : (x : ℤ) (m : ℕ) → ltZ x (pos 0) ≡ false → pos m ≡ withSign x m
-unfolding withSign
-sign-not (pos a) m h = refl
-sign-not (negsuc a) m h = absurd (true≢false h)
-
-pub abs-sign : (x : ℤ) (m : ℕ) → natAbs (withSign x m) ≡ m
-unfolding withSign
-abs-sign (pos a) m = refl
-abs-sign (negsuc a) m = abs-neg (pos m)
+use Rattle.factors.specs.Refusals.{factorsSmall}
 
 -- a factor is the size of its difference, scaled, with the difference's sign
 neg-times : (q c : ℕ) → negℤ (pos q) *ℤ pos c ≡ negℤ (pos (q * c))
@@ -120,7 +47,7 @@ module _ (m c span : ℕ) (few : m ≤ 92233720368548) (small : c ≤ 1000000) (
   scaled-most =
       div-le-of-le-mul (1000 * span) (omega (arith, product-le {a = m} {b = c} 92233720368548 1000000 few small))
 
--- one term more
-pub sum-more : (f : ℕ → ℤ) (n : ℕ) (x y z : ℤ) → x ≡ sumBelow f n → y ≡ f n → z ≡ x +ℤ y → z ≡ sumBelow f (n + 1)
-unfolding sumBelow
-sum-more f n x y z ex ey ez = ez ∙ ap (λ (t : ℤ). t +ℤ y) ex ∙ ap (λ (t : ℤ). sumBelow f n +ℤ t) ey ∙ rw (add-one n)
+-- 30 passed
+pub factors-most : (f : List ℤ) → factorsSmall f ≡ true → SizesTo 4 1000000 f
+unfolding factorsSmall
+factors-most f e i h = leb-true _ _ (every-holds (λ (i : ℕ). leb (natAbs (numberAt f i)) 1000000) 4 i e h)

@@ -4,10 +4,7 @@ use mathlib.Core.List.{List, [], _∷_}
 use lib.IntN.{ℤ, pos, _*ℤ_}
 use lib.ListN.{getD}
 use lib.Signed.{quotZ}
-
--- number i of a list with signs
-unfoldable pub numberAt : List ℤ → ℕ → ℤ
-numberAt xs i = getD xs i (pos 0)
+use Rattle.signs.specs.Signs.{numberAt}
 
 -- a difference in centimes divided by 100,000, times its coefficient in millionths, divided by 1,000 times its span in
 -- thousandths; quotZ divides towards zero

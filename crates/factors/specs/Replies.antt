@@ -4,10 +4,10 @@ use mathlib.Core.List.{List}
 use lib.IntN.{ℤ}
 use Rattle.field.specs.declared.Verdict.{Verdict}
 use Rattle.field.specs.declared.Verdict.the-variants.{Accepted, Refused}
-use Rattle.factors.specs.declared.RiskModel.{RiskModel}
+use Rattle.risk.specs.declared.RiskModel.{RiskModel}
+use Rattle.quadratic.specs.Root.{rootOf}
 use Rattle.factors.specs.declared.DeviationReply.{DeviationReply}
 use Rattle.factors.specs.Form.{formFor, inThousands}
-use Rattle.factors.specs.Root.{rootOf}
 use Rattle.factors.specs.Refusals.{checkFactors}
 
 -- the deviation in thousand francs

@@ -1,24 +1,18 @@
 -- The mean of the five is exact: its sum is a double, and so is an eighth of it. Assumes nothing.
 use mathlib.Core.Path.{_≡_, refl, ap, _∙_}
 use mathlib.Core.Bool.{true, false, true≢false}
-use Prim.Native.Nat.{ℕ, _*_, _^_, _≤_, _<_}
+use Prim.Native.Nat.{ℕ, _*_, _^_, _<_}
 use native.Mathlib.Nat.{mul-pos, mul-assoc, mul-comm, mul-left-comm, mul-right-comm, eq-of-mul-eq-mul-right}
 use native.Mathlib.Nat.{lt-of-lt-of-le, mul-lt-mul-of-pos-right}
 use native.Mathlib.Omega.{arith}
-use lib.Dec.{T, le→leb, lit<, lit≤}
-use lib.IntN.{pos}
-use lib.Ieee.{Float, fin, binary64, up, down, div, inFloat, ofInt, round}
+use lib.Dec.{lit<, lit≤}
+use lib.Ieee.{Float, fin, binary64, up, down, div, ofInt, round}
 use lib.Ieee.Back.{round-whole}
 use lib.Ieee.Exact.{HasValue, round-exact}
 use lib.Ieee.Fits.{down-pos}
-use Rattle.spread.specs.Spread.{double, eight, weighted, meanOf}
-use Rattle.spread.specs.Accepted.{Ranked}
-use Rattle.spread.specs.declared.Summary.{Summary}
-
--- a whole number up to 2 ^ 53 is a double
-pub whole-fits : (n : ℕ) → n ≤ 80000000 → T (inFloat binary64 (pos n))
-unfolding inFloat
-whole-fits n h = le→leb n (2 ^ 53) (omega arith)
+use Rattle.variation.specs.Estimates.{double, eight, weighted, meanOf}
+use Rattle.variation.specs.Ranked.{Ranked}
+use Rattle.variation.specs.declared.Summary.{Summary}
 
 -- the same double as a fraction in lower terms
 lower : (x : Float) (k d n c : ℕ) → 0 < d → k ≡ n * d → HasValue x false k (c * d) → HasValue x false n c

@@ -15,12 +15,13 @@ use lib.Ieee.Order.{le-of-values, round-mono}
 use lib.Ieee.Positive.{first-pos}
 use lib.Ieee.Scale.{finite}
 use borrow.Author.Tests.{ltb-false, ne-eqb}
-use Rattle.spread.specs.Spread.{double, half, weighted, meanOf, deviationOf, coefficientOf}
+use Rattle.conditions.proofs.Joined.{or-left}
+use Rattle.variation.specs.Estimates.{double, half, weighted, meanOf, deviationOf, estimatesOf}
+use Rattle.variation.specs.Ranked.{Ranked}
+use Rattle.variation.specs.declared.Summary.{Summary}
+use Rattle.variation.specs.declared.SampleFactors.{SampleFactors}
 use Rattle.spread.specs.Refusals.{leastFactor, highestFactor, badFactor}
 use Rattle.spread.specs.Replies.{nought}
-use Rattle.spread.specs.Accepted.{Ranked}
-use Rattle.spread.specs.declared.Summary.{Summary}
-use Rattle.spread.proofs.Passed.{or-left}
 use Rattle.spread.proofs.ExactMean.{mean-exact, weighted-some}
 
 -- finite, not negative and at most n
@@ -159,22 +160,22 @@ value-least (inf s) n k p h = h
 value-least (fin t m e) n k p h = (h .0, omega (arith, h .1, mul-le-mul-right (down e) p))
 
 -- ---- together: at most 2 * 10,000,000 * 1,024 over a mean of at least 1 / 8
-pub coefficient-upto : (s : Summary) (xi eta : Float) → Ranked s → badFactor xi ≡ false → badFactor eta ≡ false
-    → UpTo 163840000000 (coefficientOf s xi eta)
-unfolding coefficientOf deviationOf
-coefficient-upto s xi eta r gx ge =
+pub coefficient-upto : (s : Summary) (f : SampleFactors) → Ranked s → badFactor (f .xi) ≡ false
+    → badFactor (f .eta) ≡ false → UpTo 163840000000 (estimatesOf s f .coefficient)
+unfolding estimatesOf deviationOf
+coefficient-upto s f r gx ge =
     let whole = double (s .highest - s .lowest) in
     let inner = double (s .quartile3 - s .quartile1) in
-    let first = div binary64 whole xi in
-    let second = div binary64 inner eta in
+    let first = div binary64 whole (f .xi) in
+    let second = div binary64 inner (f .eta) in
     let together = add binary64 first second in
     let whole-upto = double-upto (s .highest - s .lowest) 10000000 (omega arith) (lit≤ tt) in
     let inner-upto = double-upto (s .quartile3 - s .quartile1) 10000000 (omega arith) (lit≤ tt) in
     div-upto 20480000000 8 (mul binary64 together half) (meanOf s) (lit≤ tt)
     (half-upto 20480000000 together (lit≤ tt)
     (add-upto 10240000000 10240000000 first second (lit≤ tt)
-    (div-upto 10000000 1024 whole xi (lit≤ tt) whole-upto (factor-least xi gx))
-    (div-upto 10000000 1024 inner eta (lit≤ tt) inner-upto (factor-least eta ge))))
+    (div-upto 10000000 1024 whole (f .xi) (lit≤ tt) whole-upto (factor-least (f .xi) gx))
+    (div-upto 10000000 1024 inner (f .eta) (lit≤ tt) inner-upto (factor-least (f .eta) ge))))
     (value-least (meanOf s) (weighted s) 8 (weighted-some s r) (mean-exact s r))
 
 -- ---- what a bound and an exact value say

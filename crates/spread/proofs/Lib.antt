@@ -2,4 +2,3 @@ pub mod Passed
 pub mod ExactMean
 pub mod Finite
 pub mod Promised
-pub mod Examples

@@ -1,15 +1,17 @@
 -- What a summary is that passed 27, and what factors are that passed 28. Assumes nothing.
 use mathlib.Core.Path.{_≡_, refl}
-use mathlib.Core.Bool.{Bool, true, false, not, _&&_, _||_, true≢false}
+use mathlib.Core.Bool.{true, false, not, _&&_, _||_}
 use Prim.Native.Nat.{ℕ, _*_}
 use lib.Dec.{leb, ltb}
 use lib.Ieee.{Float, nan, inf, fin, ne, isNan, up, down}
 use borrow.Author.Tests.{eq-eqb, leb-true, ltb-true, not-true}
 use Rattle.field.specs.declared.Verdict.the-variants.{Accepted}
 use Rattle.field.proofs.Verdicts.{need-true, then-left}
+use Rattle.conditions.proofs.Joined.{and-left, and-right, or-left, or-right}
+use Rattle.variation.specs.Ranked.{Ranked}
+use Rattle.variation.specs.declared.Summary.{Summary}
+use Rattle.variation.specs.declared.SampleFactors.{SampleFactors}
 use Rattle.spread.specs.Refusals.{highestClaims, rising, withinLimit, badFactor, checkSpread}
-use Rattle.spread.specs.Accepted.{Ranked}
-use Rattle.spread.specs.declared.Summary.{Summary}
 
 -- a double differs from itself exactly where it is not a number
 pub differs : (x : Float) → ne x x ≡ isNan x
@@ -19,22 +21,6 @@ differs (inf true) = refl
 differs (inf false) = refl
 differs (fin true m e) = rw (eq-eqb (m * up e * down e) (m * up e * down e) refl)
 differs (fin false m e) = rw (eq-eqb (m * up e * down e) (m * up e * down e) refl)
-
-and-left : (a b : Bool) → (a && b) ≡ true → a ≡ true
-and-left true b e = refl
-and-left false b e = e
-
-and-right : (a b : Bool) → (a && b) ≡ true → b ≡ true
-and-right true b e = e
-and-right false b e = absurd (true≢false (cc))
-
-pub or-left : (a b : Bool) → (a || b) ≡ false → a ≡ false
-or-left true b e = e
-or-left false b e = refl
-
-or-right : (a b : Bool) → (a || b) ≡ false → b ≡ false
-or-right true b e = absurd (true≢false e)
-or-right false b e = e
 
 -- 27 passed
 pub summary-ranked : (s : Summary) → (rising s && withinLimit s && ltb 0 (s .highest)) ≡ true → Ranked s
@@ -72,6 +58,6 @@ pub second-good : (xi eta : Float) → not (badFactor xi || badFactor eta) ≡ t
 second-good xi eta e = or-right (badFactor xi) (badFactor eta) (not-true _ e)
 
 -- what the whole check leaves to the estimates
-pub accepted-ranked : (s : Summary) (xi eta : Float) (n : ℕ) → checkSpread s xi eta ≡ Accepted n → Ranked s
+pub accepted-ranked : (s : Summary) (f : SampleFactors) (n : ℕ) → checkSpread s f ≡ Accepted n → Ranked s
 unfolding checkSpread
-accepted-ranked s xi eta n e = summary-ranked s (need-true _ _ _ _ (then-left _ _ _ e))
+accepted-ranked s f n e = summary-ranked s (need-true _ _ _ _ (then-left _ _ _ e))

@@ -1,4 +1,2 @@
-pub mod Spread
 pub mod Refusals
 pub mod Replies
-pub mod Accepted

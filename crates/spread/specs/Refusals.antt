@@ -6,7 +6,8 @@ use lib.IntN.{pos, negsuc}
 use lib.Ieee.{Float, fin, lt, isNan}
 use Rattle.field.specs.Verdicts.{need, _andThen_}
 use Rattle.field.specs.declared.Verdict.{Verdict}
-use Rattle.spread.specs.declared.Summary.{Summary}
+use Rattle.variation.specs.declared.Summary.{Summary}
+use Rattle.variation.specs.declared.SampleFactors.{SampleFactors}
 
 -- in centimes
 abbrev pub highestClaims : ℕ
@@ -42,6 +43,7 @@ unfoldable pub badFactor : Float → Bool
 badFactor x = lt x leastFactor || lt highestFactor x || isNan x
 
 -- the verdict: 27 unless the five rise, within the limit and not to 0; then 28 where a factor is bad
-unfoldable pub checkSpread : Summary → Float → Float → Verdict
-checkSpread s xi eta =
-    need (rising s && withinLimit s && ltb 0 (s .highest)) 27 0 andThen need (not (badFactor xi || badFactor eta)) 28 0
+unfoldable pub checkSpread : Summary → SampleFactors → Verdict
+checkSpread s f =
+    need (rising s && withinLimit s && ltb 0 (s .highest)) 27 0 andThen
+    need (not (badFactor (f .xi) || badFactor (f .eta))) 28 0

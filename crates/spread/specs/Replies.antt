@@ -10,10 +10,11 @@ use lib.Ieee.Scale.{finite}
 use Rattle.field.specs.Verdicts.{pick}
 use Rattle.field.specs.declared.Verdict.{Verdict}
 use Rattle.field.specs.declared.Verdict.the-variants.{Accepted, Refused as VerdictRefused}
-use Rattle.spread.specs.Spread.{weighted, estimatesOf}
+use Rattle.variation.specs.Estimates.{weighted, estimatesOf}
+use Rattle.variation.specs.declared.Summary.{Summary}
+use Rattle.variation.specs.declared.SampleFactors.{SampleFactors}
+use Rattle.variation.specs.declared.Estimates.{Estimates}
 use Rattle.spread.specs.Refusals.{checkSpread}
-use Rattle.spread.specs.declared.Summary.{Summary}
-use Rattle.spread.specs.declared.Estimates.{Estimates}
 use Rattle.spread.specs.declared.SpreadReply.{SpreadReply}
 use Rattle.spread.specs.declared.SpreadReply.the-variants.{Coefficient, Level, Refused}
 
@@ -23,8 +24,8 @@ replyFor (Accepted n) level e = pick level (Level (e .mean)) (Coefficient (e .me
 replyFor (VerdictRefused number place) level e = Refused number place
 
 -- the reply to a summary and its factors; the claims are level where the lowest equals the highest
-unfoldable pub spreadReply : Summary → Float → Float → SpreadReply
-spreadReply s xi eta = replyFor (checkSpread s xi eta) (eqb (s .lowest) (s .highest)) (estimatesOf s xi eta)
+unfoldable pub spreadReply : Summary → SampleFactors → SpreadReply
+spreadReply s f = replyFor (checkSpread s f) (eqb (s .lowest) (s .highest)) (estimatesOf s f)
 
 -- 0, with no sign
 abbrev pub nought : Float
@@ -59,8 +60,8 @@ spreadCoefficient (Refused number place) = nought
 
 -- What the call promises. The mean is exact: `HasValue x false a 8` says that x is finite, without a minus, and just
 -- the fraction a / 8. No double of a reply is an infinity or not a number, and none is below zero.
-pub record SpreadPromised (s : Summary) (xi eta : Float) (reply : SpreadReply) : Type 0 where
-  pub reply-is : reply ≡ spreadReply s xi eta
+pub record SpreadPromised (s : Summary) (f : SampleFactors) (reply : SpreadReply) : Type 0 where
+  pub reply-is : reply ≡ spreadReply s f
   pub mean-exact : spreadRefusal reply ≡ 0 → HasValue (spreadMean reply) false (weighted s) 8
   pub mean-finite : T (finite (spreadMean reply))
   pub coefficient-finite : T (finite (spreadCoefficient reply))

@@ -1,32 +1,11 @@
-// The spread of yearly claims (FINMA 5.2.4.2): mean and coefficient out of a five-number summary and two factors.
-// It works in doubles: each operation rounds once, in the paper's order.
+// The spread of yearly claims (FINMA 5.2.4.2): mean and coefficient out of a five-number summary
+// and two sample factors, or what is refused of them.
 ghost use mathlib.Core.Path.{_≡_};
-ghost use Prim.Native.Nat.{_≤_};
-ghost use Rattle.spread.specs.Spread.{double, meanOf, deviationOf, estimatesOf};
 ghost use Rattle.spread.specs.Refusals.{rising, withinLimit, badFactor, checkSpread};
 ghost use Rattle.spread.specs.Replies.{SpreadPromised};
-ghost use Rattle.spread.specs.Accepted.{Ranked};
 use field::Verdict;
-
-// Yearly claims per contract in whole centimes: the lowest, the three quartiles, the second of which is the median, and
-// the highest.
-#[repr(C)]
-pub struct Summary {
-    pub lowest: u64,
-    pub quartile1: u64,
-    pub median: u64,
-    pub quartile3: u64,
-    pub highest: u64,
-}
-
-// The sample factors, and what is estimated with them.
-pub struct Estimates {
-    pub xi: f64,
-    pub eta: f64,
-    pub mean: f64,
-    pub deviation: f64,
-    pub coefficient: f64,
-}
+use variation::SampleFactors;
+use variation::Summary;
 
 // Mean and coefficient; the mean alone where all claims are alike; a refusal's number and place.
 pub enum SpreadReply {
@@ -68,63 +47,24 @@ fn bad_factor(x: f64) -> bool
 }
 
 // 27 is tested before 28, and both before the claims may be level.
-fn check(s: Summary, xi: f64, eta: f64) -> Verdict
-    ensures { λ r. ⌜ r ≡ checkSpread s xi eta ⌝ }
+fn check(s: Summary, factors: SampleFactors) -> Verdict
+    ensures { λ r. ⌜ r ≡ checkSpread s factors ⌝ }
 {
-    field::need(rising(s) & within_limit(s) & (0 < s.highest), 27, 0).require(
-        !(bad_factor(xi) | bad_factor(eta)),
-        28,
-        0,
-    )
+    let ranked = rising(s) & within_limit(s) & (0 < s.highest);
+    let good = !(bad_factor(factors.xi) | bad_factor(factors.eta));
+    field::need(ranked, 27, 0).require(good, 28, 0)
 }
 
-// A whole number as a double: none of these is rounded.
-fn double(n: u64) -> f64
-    requires { ⌜ n ≤ 80000000 ⌝ }
-    ensures { λ r. ⌜ r ≡ double n ⌝ }
+// Mean and coefficient of yearly claims, 'level' with the mean where all are alike, or the first
+// refusal.
+pub fn spread(claims: Summary, factors: SampleFactors) -> SpreadReply
+    ensures { λ r. ⌜ SpreadPromised claims factors r ⌝ }
 {
-    n as f64
-}
-
-// Exact: the sum is far below 2^53, and 8 is a power of two.
-fn mean(s: Summary) -> f64
-    requires { ⌜ Ranked s ⌝ }
-    ensures { λ r. ⌜ r ≡ meanOf s ⌝ }
-{
-    double(s.lowest + 2 * s.quartile1 + 2 * s.median + 2 * s.quartile3 + s.highest) / 8.0
-}
-
-fn deviation(s: Summary, xi: f64, eta: f64) -> f64
-    requires { ⌜ Ranked s ⌝ }
-    ensures { λ r. ⌜ r ≡ deviationOf s xi eta ⌝ }
-{
-    (double(s.highest - s.lowest) / xi + double(s.quartile3 - s.quartile1) / eta) * 0.5
-}
-
-fn estimated(s: Summary, xi: f64, eta: f64) -> Estimates
-    requires { ⌜ Ranked s ⌝ }
-    ensures { λ r. ⌜ r ≡ estimatesOf s xi eta ⌝ }
-{
-    let mean = mean(s);
-    let deviation = deviation(s, xi, eta);
-    Estimates {
-        xi,
-        eta,
-        mean,
-        deviation,
-        coefficient: deviation / mean,
-    }
-}
-
-// Mean and coefficient of yearly claims, 'level' with the mean where all are alike, or the first refusal.
-pub fn spread(claims: Summary, xi: f64, eta: f64) -> SpreadReply
-    ensures { λ r. ⌜ SpreadPromised claims xi eta r ⌝ }
-{
-    let v = check(claims, xi, eta);
+    let v = check(claims, factors);
     if let Verdict::Refused(number, place) = v {
         return SpreadReply::Refused(number, place);
     }
-    let estimates = estimated(claims, xi, eta);
+    let estimates = variation::estimated(claims, factors);
     if claims.lowest == claims.highest {
         SpreadReply::Level(estimates.mean)
     } else {

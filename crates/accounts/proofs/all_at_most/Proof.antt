@@ -5,9 +5,9 @@ use Prim.Native.Nat.{_-_, _≤_}
 use native.Mathlib.Omega.{arith}
 use borrow.Author.Tests.{le-leb, lt-leb}
 use borrow.Author.Needs.{needs}
-use Rattle.accounts.specs.Rates.{every}
+use Rattle.conditions.specs.Every.{every}
 use Rattle.accounts.specs.Refusals.{allAtMost}
-use Rattle.accounts.proofs.Every.{every-more, every-fails}
+use Rattle.conditions.proofs.Every.{every-more, every-fails}
 use Rattle.accounts.proofs.all_at_most.Statement.{statement}
 use Rattle.accounts.proofs.all_at_most.Tie as tie
 

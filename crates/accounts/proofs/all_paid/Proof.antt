@@ -1,6 +1,6 @@
 -- `accounts::all_paid` meets its contract: the five tests in order. Assumes nothing.
 use borrow.Author.Needs.{needs}
-use Rattle.accounts.specs.Rates.{every}
+use Rattle.conditions.specs.Every.{every}
 use Rattle.accounts.proofs.all_paid.Statement.{statement}
 use Rattle.accounts.proofs.all_paid.Tie as tie
 

@@ -1,6 +1,6 @@
 -- `accounts::can_split` meets its contract: the three sums are those of the definition. Assumes nothing.
 use borrow.Author.Needs.{needs}
-use Rattle.accounts.specs.Rates.{every}
+use Rattle.conditions.specs.Every.{every}
 use Rattle.accounts.specs.Refusals.{canSplit}
 use Rattle.accounts.proofs.can_split.Statement.{statement}
 use Rattle.accounts.proofs.can_split.Tie as tie

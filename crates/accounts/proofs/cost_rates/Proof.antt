@@ -1,5 +1,5 @@
 -- `accounts::cost_rates` meets its contract: the reply is the verdict's, its promises follow. Assumes nothing.
-use mathlib.Core.Path.{_≡_, sym, ap, _∙_}
+use mathlib.Core.Path.{sym, ap, _∙_}
 use borrow.Author.Tests.{not-true, not-false}
 use borrow.Author.Needs.{needs}
 use Rattle.field.specs.declared.Verdict.the-variants.{Accepted}

@@ -1,6 +1,6 @@
 -- `accounts::is_paid` meets its contract: the figures and the test are those of the definition. Assumes nothing.
 use borrow.Author.Needs.{needs}
-use Rattle.accounts.specs.Rates.{every}
+use Rattle.conditions.specs.Every.{every}
 use Rattle.accounts.specs.Refusals.{isPaid}
 use Rattle.accounts.proofs.is_paid.Statement.{statement}
 use Rattle.accounts.proofs.is_paid.Tie as tie

@@ -2,8 +2,8 @@
 use native.Mathlib.Omega.{arith}
 use borrow.Author.Needs.{needs}
 use Rattle.factors.specs.Factors.{factorsOf}
-use Rattle.factors.proofs.Sizes.{back}
-use Rattle.factors.proofs.Tests.{coefficients-most}
+use Rattle.signs.proofs.Sizes.{back}
+use Rattle.risk.proofs.Rules.{coefficients-most}
 use Rattle.factors.proofs.factors.Statement.{statement}
 use Rattle.factors.proofs.factors.Tie as tie
 

@@ -1,6 +1,6 @@
 -- `factors::factors_small` meets its contract: four tests in a row. Assumes nothing.
 use borrow.Author.Needs.{needs}
-use Rattle.accounts.specs.Rates.{every}
+use Rattle.conditions.specs.Every.{every}
 use Rattle.factors.specs.Refusals.{factorsSmall}
 use Rattle.factors.proofs.factors_small.Statement.{statement}
 use Rattle.factors.proofs.factors_small.Tie as tie

@@ -6,13 +6,17 @@ use borrow.Author.Needs.{needs}
 use borrow.Author.Tests.{not-true, not-false}
 use lib.IntN.{natAbs}
 use Rattle.field.specs.declared.Verdict.the-variants.{Accepted}
-use Rattle.factors.specs.Form.{formOf, formFor, isNegative}
-use Rattle.factors.specs.Root.{rootOf}
-use Rattle.factors.specs.Refusals.{modelRight, factorsSmall}
+use Rattle.signs.specs.Signs.{isNegative}
+use Rattle.risk.specs.Model.{modelRight}
+use Rattle.risk.proofs.Rules.{model-coefficients, model-correlation, correlation-most}
+use Rattle.quadratic.specs.Form.{formOf}
+use Rattle.quadratic.specs.Root.{rootOf}
+use Rattle.quadratic.proofs.Squares.{root-is}
+use Rattle.factors.specs.Form.{formFor}
+use Rattle.factors.specs.Refusals.{factorsSmall}
 use Rattle.factors.specs.Replies.{deviationFor, replyFor}
-use Rattle.factors.proofs.Tests.{correlation-most, factors-most}
-use Rattle.factors.proofs.Squares.{root-is}
-use Rattle.factors.proofs.Replied.{model-coefficients, model-correlation, Passed}
+use Rattle.factors.proofs.Sizes.{factors-most}
+use Rattle.factors.proofs.Replied.{Passed}
 use Rattle.factors.proofs.Replied.{replied-29, replied-30, replied-31, replied-root}
 use Rattle.factors.proofs.of_differences.Statement.{statement}
 use Rattle.factors.proofs.of_differences.Tie as tie

@@ -1,10 +1,9 @@
 -- `factors::scaled` meets its contract: the size of the difference, scaled, with its sign. Assumes nothing.
-use mathlib.Core.Path.{_≡_, ap, _∙_}
+use mathlib.Core.Path.{ap, _∙_}
 use Prim.Native.Nat.{ℕ, _*_, _/_}
 use native.Mathlib.Omega.{arith}
 use borrow.Author.Needs.{needs}
-use lib.IntN.{natAbs}
-use Rattle.factors.specs.Sizes.{withSign}
+use Rattle.signs.specs.Signs.{withSign}
 use Rattle.factors.proofs.Sizes.{scaled-room, scaled-most, scaled-sign}
 use Rattle.factors.proofs.scaled.Statement.{statement}
 use Rattle.factors.proofs.scaled.Tie as tie

@@ -10,9 +10,9 @@ returns c =
     let m = c .before .before .before in
     rw (
       c .require .ensures,
-      c .before .bad-factor2 .ensures,
-      c .before .before .bad-factor .ensures,
-      m .need .ensures,
+      c .before .need .ensures,
+      c .before .before .bad-factor2 .ensures,
+      m .bad-factor .ensures,
       m .before .before .within-limit .ensures,
       m .before .before .before .rising .ensures,
     )
