@@ -11,7 +11,7 @@ SEED ?= 1
 PREFIX ?= /usr/local
 VERSION := $(shell cat VERSION)
 # The name by which programs ask for the shared library: it changes where an old caller would break.
-SHARED := libxaropinto.so.1
+SHARED := libxaropinto.so.2
 DIST := xaropinto-$(VERSION)-linux-x86_64
 # Paths reach the shell through the environment and as they were given: quotes and dollar signs stay what they are.
 export BOOK_PATH := $(if $(value BOOK),$(value BOOK),$(SAMPLE))
@@ -52,6 +52,7 @@ fuzz: target/bin/test_check target/bin/listing lib ## hold programs and calls ag
 	@python3 -m tests.random_books.check --books $(N) --seed $(SEED)
 	@python3 -m tests.calls.base --books $(N) --seed $(SEED)
 	@python3 -m tests.calls.accounts --accounts $(N) --seed $(SEED)
+	@python3 -m tests.calls.listing --books $(N) --seed $(SEED)
 	@python3 -m tests.calls.report --books $(N) --seed $(SEED)
 	@python3 -m tests.calls.convert --books $(N) --seed $(SEED)
 	@python3 -m tests.calls.desk --desks $(N) --seed $(SEED)
@@ -94,6 +95,7 @@ callers: ## run the tests of the callers in C, Rust and Python
 	@python3 -m tests.callers
 	@python3 -m tests.calls.base
 	@python3 -m tests.calls.accounts
+	@python3 -m tests.calls.listing
 	@python3 -m tests.calls.report
 	@python3 -m tests.calls.convert
 	@python3 -m tests.calls.desk
