@@ -13,7 +13,7 @@ PREFIX ?= /usr/local
 LINKS ?= 1 2 3 4 5
 VERSION := $(shell cat VERSION)
 # The name by which programs ask for the shared library: it changes where an old caller would break.
-SHARED := libxaropinto.so.1
+SHARED := libxaropinto.so.2
 DIST := xaropinto-$(VERSION)-linux-x86_64
 # Paths reach the shell through the environment and as they were given: quotes and dollar signs stay what they are.
 export BOOK_PATH := $(if $(value BOOK),$(value BOOK),$(SAMPLE))

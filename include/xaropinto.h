@@ -5,10 +5,10 @@
  * accounts whole francs.
  *
  * Buffers. The caller owns all that it lends. A call only reads the book. Group writes to numbers 0 to 199 of the
- * table, Report to the first bytes of its buffer, Convert to as many first bytes of `out` as the book has, Write and
- * Practice to as many as the book has that they make, Read to as many first numbers of each list as the book has
- * linked records, Funds to numbers 0 to 7 and 8 to 15, In force to the first 50 of its numbers; nothing else is
- * written. Accounts, values and risk models are handed over by value: no call sees the caller's own. No call keeps a
+ * table, Listing and Report to the first bytes of their buffer, Convert to as many first bytes of `out` as the book
+ * has, Write and Practice to as many as the book has that they make, Read to as many first numbers of each list as the
+ * book has linked records, Funds to numbers 0 to 7 and 8 to 15, In force to the first 50 of its numbers; nothing else
+ * is written. Accounts, values and risk models are handed over by value: no call sees the caller's own. No call keeps a
  * pointer after it returns, and none allocates.
  *
  * Pointers. Each must be valid for its length; where that is 0 it may be null, as that of an empty std::vector is.
@@ -25,7 +25,7 @@
  * Totals, 48 KiB for Group and for In force, 16 KiB for the cost rates, for Write and for Read, 8 KiB for the others.
  * Measured, in a first call that is bound as it is called: 62,232 bytes; 52,568; 49,048; 33,240 and 25,112; 5,735,
  * 10,872 and 8,248; and 3,319. Funds joins a book there, and Practice keeps its lists there: give them 128 KiB and
- * 96 KiB; measured are 91,224 and 64,520 bytes. Give Deviation and Listing as much as Totals: they take 528 and 32
+ * 96 KiB; measured are 91,224 and 64,520 bytes. Give Deviation and Listing as much as Totals: they take 528 and 48
  * bytes more.
  *
  * Replies. A refusal of 0 means accepted. Otherwise `refusal` says which rule is broken and `place` where; every
@@ -123,7 +123,7 @@
 #define XAROPINTO_FACTORS 4
 
 /* The version of this header and of the library that came with it. */
-#define XAROPINTO_VERSION "1.0.0"
+#define XAROPINTO_VERSION "2.0.0"
 
 #ifdef __cplusplus
 extern "C" {
@@ -177,7 +177,7 @@ typedef struct {
     uint64_t rates[XAROPINTO_PRODUCT_GROUPS];
 } xaropinto_cost_rates_reply;
 
-/* length: of the report written, or of the buffer that it wants. */
+/* length: of the listing or report written, or of the buffer that a report wants. */
 typedef struct {
     uint64_t refusal;
     uint64_t place;
@@ -276,10 +276,12 @@ xaropinto_group_reply xaropinto_group(const uint8_t *book, size_t length, size_t
  * book's 49 curve rates is below zero. */
 xaropinto_totals_reply xaropinto_totals(const uint8_t *book, size_t length);
 
-/* Listing: the text to file, a line for each setting with its number, its total and n; for a refused book the line
- * `refused`, number and place. The answer is the text's length, never above XAROPINTO_MOST_LISTING_BYTES; where the
- * buffer is shorter than the text, nothing is written and the answer is 0. No byte past the text is written. */
-size_t xaropinto_listing(const uint8_t *book, size_t length, uint8_t *out, size_t room);
+/* Listing: the text to file, a line for each setting with its number, its total and n. Refusals 1 to 13 and 23, then
+ * 20.
+ *
+ * `bytes` is how many bytes `out` has. The reply's length is that of the text, never above
+ * XAROPINTO_MOST_LISTING_BYTES; bytes after it are as they were. 20 where the buffer is shorter than the text. */
+xaropinto_report_reply xaropinto_listing(const uint8_t *book, size_t length, uint8_t *out, size_t bytes);
 
 /* Record: where record `number`, counted from 1, stands in the book, linked or not. Refusals 1 to 13 and 23; then 9
  * with place 0, the caller's, where the number is 0 or above N. */
@@ -418,7 +420,7 @@ static inline const char *xaropinto_refusal_text(uint64_t refusal)
     case 19:
         return "no cost rate out of the accounts is above 1,000,000 millionths; place: 0; mended by: the insurer's cost sheet";
     case 20:
-        return "the buffer lent for a year report is as long as told; place: 0; mended by: the caller";
+        return "the buffer passed for a listing or a year report is as long as the text; place: 0; mended by: the caller";
     case 21:
         return "on age basis 2 no linked record has class 0; place: record + 2; mended by: the portfolio desk";
     case 22:

@@ -65,10 +65,11 @@ PROGRAMS = [
     script("random listings against the second reckoning and the fractions", "tests.random_books.listing", 25),
 ]
 # What builds the archive and the shared library, and what runs on these once they are built.
-CALLERS = script("callers in C and Rust", "tests.callers", 278)
+CALLERS = script("callers in C and Rust", "tests.callers", 283)
 CALLS = [
     script("calls from Python, on random books", "tests.calls.base", 26),
     script("cost rates from Python, on random accounts", "tests.calls.accounts", 38),
+    script("calls of the listing", "tests.calls.listing", 14),
     script("calls of the report", "tests.calls.report", 27),
     script("conversions from Python, on random books", "tests.calls.convert", 63),
     script("Write and Read from Python, on random values and lists", "tests.calls.desk", 31),

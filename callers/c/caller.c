@@ -1346,21 +1346,38 @@ static void test_practice(void)
 
 /* ---- the listing ---- */
 
+/* Is the reply this one, and the buffer this text and then marks? */
+static int listing_gives(const uint8_t *book, size_t book_length, size_t bytes, xaropinto_report_reply due,
+                         const char *text)
+{
+    uint8_t out[XAROPINTO_MOST_LISTING_BYTES];
+    memset(out, 7, sizeof out);
+    xaropinto_report_reply reply = xaropinto_listing(book, book_length, out, bytes);
+    int holds = reply.refusal == due.refusal && reply.place == due.place && reply.length == due.length &&
+                memcmp(out, text, due.length) == 0;
+    for (size_t at = due.length; at < sizeof out; at++)
+        holds &= out[at] == 7;
+    return holds;
+}
+
 static void test_listing(void)
 {
     static const char text[] = "0 -5000000 1\n1 -5000000 1\n2 -5000000 1\n3 -5000000 1\n"
                                "4 -5000000 1\n5 -4900000 1\n6 -5100000 1\n7 -4800000 1\n";
-    static const char refused[] = "refused 1 0\n";
-    size_t length = sizeof text - 1, short_length = sizeof refused - 1;
+    static const uint8_t zeros[XAROPINTO_HEADER_BYTES];
+    size_t length = sizeof text - 1, most = XAROPINTO_MOST_LISTING_BYTES;
+    xaropinto_report_reply listed = {0, 0, length}, short_buffer = {20, 0, 0}, edition = {2, 0, 0},
+                           too_few = {1, XAROPINTO_HEADER_BYTES - 1, 0};
     parameter_book book = one_record_book();
-    uint8_t out[XAROPINTO_MOST_LISTING_BYTES];
-    memset(out, 7, sizeof out);
-    test("a_buffer_one_byte_short_gets_no_listing",
-         xaropinto_listing(book.bytes, book.length, out, length - 1) == 0 && out[0] == 7);
-    test("the_listing_has_eight_lines", xaropinto_listing(book.bytes, book.length, out, sizeof out) == length &&
-                                            memcmp(out, text, length) == 0 && out[length] == 7);
-    test("a_refused_book_has_one_line", xaropinto_listing(book.bytes, 0, out, sizeof out) == short_length &&
-                                            memcmp(out, refused, short_length) == 0);
+    test("the_listing_has_eight_lines", listing_gives(book.bytes, book.length, most, listed, text));
+    test("a_buffer_of_just_its_length_takes_the_listing",
+         listing_gives(book.bytes, book.length, length, listed, text));
+    test("a_buffer_one_byte_short_is_20_and_stays",
+         listing_gives(book.bytes, book.length, length - 1, short_buffer, ""));
+    test("no_buffer_for_a_listing_is_20", listing_gives(book.bytes, book.length, 0, short_buffer, ""));
+    test("a_refused_book_leaves_the_listings_buffer", listing_gives(zeros, sizeof zeros, most, edition, ""));
+    test("a_refused_listing_has_its_place", listing_gives(zeros, sizeof zeros - 1, most, too_few, ""));
+    test("the_books_refusal_comes_before_20", listing_gives(zeros, sizeof zeros - 1, 0, too_few, ""));
     free(book.bytes);
 }
 
@@ -1382,7 +1399,7 @@ static void test_nulls(void)
     test("check_takes_a_null_of_no_bytes", xaropinto_check(NULL, 0).refusal == 1);
     test("group_takes_nulls", xaropinto_group(NULL, 0, 0, 1, NULL, 0).refusal == 16);
     test("totals_takes_a_null", xaropinto_totals(NULL, 0).refusal == 1);
-    test("listing_takes_nulls", xaropinto_listing(NULL, 0, NULL, 0) == 0);
+    test("listing_takes_nulls", xaropinto_listing(NULL, 0, NULL, 0).refusal == 1);
     test("record_takes_a_null", xaropinto_record(NULL, 0, 1).refusal == 1);
     test("report_takes_nulls", xaropinto_report(NULL, 0, 0, NULL, 0).refusal == 1);
     test("report_room_takes_a_null", xaropinto_report_room(NULL, 0, 0).refusal == 1);

@@ -89,10 +89,10 @@ def totals(book: bytes) -> Totals:
 
 def listing(book: bytes) -> str:
     """The text to file: a line for each setting."""
-    # The proved call writes a refusal's line too; here a refused book has no listing.
-    check(book)
     room = bytearray(MOST_LISTING_BYTES)
-    return room[:calls.listing(book, room)].decode("ascii")
+    reply = calls.listing(book, room)
+    need_accepted(reply.refusal, reply.place, book)
+    return room[:reply.length].decode("ascii")
 
 
 def report(book: bytes, setting: int) -> str:

@@ -64,7 +64,7 @@ class CostRates(NamedTuple):
 
 
 class ReportReply(NamedTuple):
-    """The length of the report written, or of the buffer that it wants."""
+    """The length of the listing or report written, or of the buffer that a report wants."""
 
     refusal: int
     place: int
@@ -238,7 +238,7 @@ def _library():
 _CHECK = _Call("xaropinto_check", _Verdict, *_BOOK)
 _GROUP = _Call("xaropinto_group", _GroupReply, *_BOOK, ctypes.c_size_t, ctypes.c_size_t, *_NUMBERS)
 _TOTALS = _Call("xaropinto_totals", _TotalsReply, *_BOOK)
-_LISTING = _Call("xaropinto_listing", ctypes.c_size_t, *_BOOK, *_BYTES)
+_LISTING = _Call("xaropinto_listing", _ReportReply, *_BOOK, *_BYTES)
 _RECORD = _Call("xaropinto_record", _RecordReply, *_BOOK, ctypes.c_size_t)
 _COST_RATES = _Call("xaropinto_cost_rates", _CostRates, _Accounts)
 _REPORT = _Call("xaropinto_report", _ReportReply, *_BOOK, ctypes.c_size_t, *_BYTES)
@@ -277,13 +277,15 @@ def totals(book: Bytes) -> TotalsReply:
     return TotalsReply(reply.refusal, reply.place, reply.n, tuple(reply.totals), tuple(reply.differences))
 
 
-def listing(book: Bytes, out: Any) -> int:
-    """Write the listing of a book, or the line of its refusal, to the start of a lent buffer of bytes; its length.
+def listing(book: Bytes, out: Any) -> ReportReply:
+    """Write the listing of a book to the start of a lent buffer of bytes; its length.
 
-    No listing is longer than 512 bytes. Where the buffer is too short, it stays as it was and the answer is 0.
+    No listing is longer than 512 bytes. Where refused, and past the listing, the buffer stays as it was; 20 where it
+    is shorter than the listing.
     """
     buffer = _lent_buffer(out)
-    return _LISTING(*_lent_book(book), buffer, len(buffer))
+    reply = _LISTING(*_lent_book(book), buffer, len(buffer))
+    return ReportReply(reply.refusal, reply.place, reply.length)
 
 
 def record(book: Bytes, number: int) -> RecordReply:

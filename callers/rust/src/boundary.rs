@@ -148,7 +148,13 @@ extern "C" {
 
     pub fn xaropinto_totals(book: *const u8, length: usize) -> TotalsReply;
 
-    pub fn xaropinto_listing(book: *const u8, length: usize, out: *mut u8, room: usize) -> usize;
+    pub fn xaropinto_listing(
+        book: *const u8,
+        length: usize,
+        out: *mut u8,
+        bytes: usize,
+    ) -> ReportReply;
+
     pub fn xaropinto_record(book: *const u8, length: usize, number: usize) -> RecordReply;
 
     pub fn xaropinto_cost_rates(accounts: Accounts) -> CostRatesReply;

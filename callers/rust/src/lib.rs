@@ -134,12 +134,16 @@ pub fn totals(book: &[u8]) -> Result<Totals, Refusal> {
     })
 }
 
-/// The listing of a book, or the line of its refusal, at the start of a lent buffer; its length.
+/// The listing of a book, in the first bytes of `out`; its length.
 ///
-/// No listing is longer than 512 bytes. Where the buffer is too short, it stays as it was and the answer is 0.
-pub fn listing(book: &[u8], out: &mut [u8]) -> usize {
+/// No listing is longer than 512 bytes. Where refused, and past the listing, `out` stays as it was;
+/// 20 where it is shorter than the listing.
+pub fn listing(book: &[u8], out: &mut [u8]) -> Result<usize, Refusal> {
     // SAFETY: as in `group`; a buffer of bytes may start anywhere.
-    unsafe { xaropinto_listing(book.as_ptr(), book.len(), out.as_mut_ptr(), out.len()) }
+    let reply =
+        unsafe { xaropinto_listing(book.as_ptr(), book.len(), out.as_mut_ptr(), out.len()) };
+    unless_refused(reply.refusal, reply.place)?;
+    Ok(reply.length as usize)
 }
 
 /// The 24 bytes of a record, linked or not, as a part of the book; records are numbered from 1.

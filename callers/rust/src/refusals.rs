@@ -62,7 +62,7 @@ pub(crate) fn words(number: u64) -> &'static str {
             "no cost rate out of the accounts is above 1,000,000 millionths; mended by: the insurer's cost sheet"
         }
         20 => {
-            "the buffer lent for a year report is as long as told; mended by: the caller"
+            "the buffer passed for a listing or a year report is as long as the text; mended by: the caller"
         }
         21 => {
             "on age basis 2 no linked record has class 0; mended by: the portfolio desk"

@@ -12,9 +12,10 @@ use Rattle.book.specs.Promises.{CheckPromised}
 use Rattle.conversion.specs.Conversion.{convertCheck, ConvertPromised}
 use Rattle.reckoning.specs.Replies.{refusalIn, placeIn, liabilityIn, countIn, groupReply, GroupPromised}
 use Rattle.reckoning.specs.declared.GroupReply.{GroupReply}
-use Rattle.year_report.specs.Report.{reportRefusal, reportPlace, reportLength, writeReply, roomReply}
-use Rattle.year_report.specs.Report.{ReportPromised, RoomPromised}
-use Rattle.year_report.specs.declared.ReportReply.{ReportReply}
+use Rattle.text.specs.Replies.{textRefusal, textPlace, textLength}
+use Rattle.text.specs.declared.TextReply.{TextReply}
+use Rattle.lines.specs.Listing.{listingReply, ListingPromised}
+use Rattle.year_report.specs.Report.{writeReply, roomReply, ReportPromised, RoomPromised}
 use Rattle.contents.specs.Contents.{Contents}
 use Rattle.contents.specs.Promises.{writeRefusal, writePlace, writeLength, writeReply as bookReply, WritePromised}
 use Rattle.contents.specs.declared.WriteReply.{WriteReply}
@@ -54,11 +55,16 @@ pub record GroupHanded (b : List ℕ) (setting g : ℕ) (before after : List ℕ
   pub fields-are : r ≡ groupFields (groupReply b setting g (length before))
   pub promised : GroupPromised b setting g before after (groupReply b setting g (length before))
 
--- the reply of the report's two calls
-abbrev pub reportFields : ReportReply → ReportFields
-reportFields r = record { refusal = reportRefusal r; place = reportPlace r; length = reportLength r }
+-- the reply of Listing and of the report's two calls
+abbrev pub reportFields : TextReply → ReportFields
+reportFields r = record { refusal = textRefusal r; place = textPlace r; length = textLength r }
 
--- both across the boundary: the fields are those of the reply as defined, and of that reply all holds that is promised
+-- the three across the boundary: the fields are those of the reply as defined, and of that reply all holds that is
+-- promised
+pub record ListingHanded (b before after : List ℕ) (r : ReportFields) : Type 0 where
+  pub fields-are : r ≡ reportFields (listingReply b (length before))
+  pub promised : ListingPromised b before after (listingReply b (length before))
+
 pub record ReportHanded (b : List ℕ) (setting : ℕ) (before after : List ℕ) (r : ReportFields) : Type 0 where
   pub fields-are : r ≡ reportFields (writeReply b setting (length before))
   pub promised : ReportPromised b setting before after (writeReply b setting (length before))

@@ -3,15 +3,14 @@
 // of two funds, nothing of the refused one's half.
 ghost use mathlib.Core.Path.{_≡_};
 ghost use Rattle.look.specs.Looker.{locatedIn};
-ghost use Rattle.reckoning.specs.Totals.{totalsReply, TotalsPromised};
-ghost use Rattle.lines.specs.Listing.{listingOf, Listed};
+ghost use Rattle.reckoning.specs.Totals.{TotalsPromised};
 ghost use Rattle.accounts.specs.Replies.{RatesPromised};
 ghost use Rattle.deviation.specs.Deviation.{DeviationPromised};
 ghost use Rattle.contents.specs.Contents.{given};
 ghost use Rattle.contents.specs.Promises.{ReadPromised};
 ghost use Rattle.boundary.specs.Boundary.{verdictFields, CheckHanded, GroupHanded};
 ghost use Rattle.boundary.specs.Boundary.{ConvertHanded, WriteHanded};
-ghost use Rattle.boundary.specs.Boundary.{reportFields, ReportHanded, RoomHanded};
+ghost use Rattle.boundary.specs.Boundary.{reportFields, ListingHanded, ReportHanded, RoomHanded};
 ghost use Rattle.boundary.specs.Boundary.{FundsHanded};
 ghost use Rattle.boundary.specs.Boundary.{InForceHanded};
 ghost use Rattle.boundary.specs.Boundary.{SpreadHanded};
@@ -28,9 +27,9 @@ use reckoning::GroupReply;
 use reckoning::TotalsReply;
 use risk::RiskModel;
 use spread::SpreadReply;
+use text::TextReply;
 use variation::SampleFactors;
 use variation::Summary;
-use year_report::ReportReply;
 
 // A verdict in fields: refusal and place are 0 where accepted, n is 0 where refused.
 #[repr(C)]
@@ -106,14 +105,6 @@ pub extern "C" fn xaropinto_totals(book: &[u8]) -> TotalsReply
     totals::totals(book)
 }
 
-// The listing is never longer than 512 bytes; where the buffer is shorter than it, nothing is written and the answer is 0.
-#[no_mangle]
-pub extern "C" fn xaropinto_listing(book: &[u8], out: &mut [u8]) -> usize
-    ensures { λ r. ⌜ Listed (listingOf (totalsReply (now (book .entry)))) (now (out .entry)) (now (out .exit)) r ⌝ }
-{
-    lines::write_listing(book, out)
-}
-
 #[no_mangle]
 pub extern "C" fn xaropinto_record(book: &[u8], number: usize) -> Located
     ensures { λ r. ⌜ r ≡ locatedIn (now (book .entry)) number ⌝ }
@@ -128,7 +119,7 @@ pub extern "C" fn xaropinto_cost_rates(accounts: Accounts) -> CostRates
     accounts::cost_rates(accounts)
 }
 
-// The reply of the report's two calls in fields: refusal and place are 0 where accepted, the length is 0 where refused.
+// The reply of Listing and of the report's two calls in fields: refusal and place are 0 where accepted, the length is 0 where refused.
 #[repr(C)]
 pub struct ReportFields {
     pub refusal: u64,
@@ -136,21 +127,28 @@ pub struct ReportFields {
     pub length: usize,
 }
 
-fn report_fields(reply: ReportReply) -> ReportFields
+fn report_fields(reply: TextReply) -> ReportFields
     ensures { λ r. ⌜ r ≡ reportFields reply ⌝ }
 {
     match reply {
-        ReportReply::Bytes(length) => ReportFields {
+        TextReply::Bytes(length) => ReportFields {
             refusal: 0,
             place: 0,
             length,
         },
-        ReportReply::Refused(refusal, place) => ReportFields {
+        TextReply::Refused(refusal, place) => ReportFields {
             refusal,
             place,
             length: 0,
         },
     }
+}
+
+#[no_mangle]
+pub extern "C" fn xaropinto_listing(book: &[u8], out: &mut [u8]) -> ReportFields
+    ensures { λ r. ⌜ ListingHanded (now (book .entry)) (now (out .entry)) (now (out .exit)) r ⌝ }
+{
+    report_fields(lines::write_listing(book, out))
 }
 
 #[no_mangle]

@@ -1,14 +1,17 @@
--- The paper's listing and its refusal T11, byte by byte. Assumes nothing.
+-- The paper's listing and the line of its refusal T11, byte by byte; T11 itself. Assumes nothing.
 use mathlib.Core.List.{List, [], _∷_}
 use mathlib.Core.Path.{_≡_, refl}
+use Prim.Native.Nat.{ℕ}
 use lib.Dec.{lit≤}
 use lib.IntN.{ℤ, negsuc}
 use lib.ListN.{replicate}
+use Rattle.field.specs.Verdicts.{_andThen_}
 use Rattle.book.proofs.Trials.{t11}
-use Rattle.reckoning.specs.Totals.{totalsReply}
 use Rattle.text.specs.Text.{spelled, decimal, signed, ended, signedEnded, refusalText, joined}
+use Rattle.text.specs.Replies.{withRoom, textReply, textBuffer}
+use Rattle.text.specs.declared.TextReply.the-variants.{Refused as TextRefused}
 use Rattle.text.proofs.Laws.{decimal-one, decimal-thousands}
-use Rattle.lines.specs.Listing.{listingLine, lineOf, listingText, listingOf}
+use Rattle.lines.specs.Listing.{listingLine, lineOf, listingText, listingReply, listingBuffer}
 
 -- the totals of the paper's book, whose contracts stay at class 120: -5000000 five times, -4900000, -5100000, -4800000
 abbrev pub paperTotals : List ℤ
@@ -59,7 +62,11 @@ pub refused-line : refusalText 2 0 ≡
 unfolding refusalText ended decimal spelled
 refused-line = refl
 
--- T11: it is what 1,220 zero bytes give
-pub t11-line : listingOf (totalsReply (replicate 1220 0)) ≡ refusalText 2 0
-unfolding listingOf totalsReply
-t11-line = rw t11
+-- T11: 1,220 zero bytes are refused with 2 at 0, whatever the buffer, which stays as it was
+pub t11-reply : (room : ℕ) → listingReply (replicate 1220 0) room ≡ TextRefused 2 0
+unfolding textReply withRoom _andThen_
+t11-reply room = rw t11
+
+pub t11-buffer : (before : List ℕ) → listingBuffer (replicate 1220 0) before ≡ before
+unfolding textBuffer withRoom _andThen_
+t11-buffer before = rw t11

@@ -1,12 +1,10 @@
-// The listing, as text in a lent buffer: eight lines where Totals reckons, one line where it refuses.
-use reckoning::TotalsReply;
+// The listing of a book, as text in a passed buffer: eight lines, one a setting.
+use text::TextReply;
 use text::put_ended;
-use text::put_refusal;
 use text::put_signed_ended;
 ghost use Prim.Native.Nat.{_+_, _<_, _≤_, _^_};
-ghost use Rattle.reckoning.specs.Totals.{totalsReply};
 ghost use Rattle.text.specs.Text.{Wrote};
-ghost use Rattle.lines.specs.Listing.{listingLine, listingText, listingOf, Listed};
+ghost use Rattle.lines.specs.Listing.{listingLine, listingText, ListingPromised};
 
 fn put_line(out: &mut [u8], at: usize, setting: u64, total: i64, n: u64) -> usize
     requires { ⌜ at + 65 < 2 ^ 64 ⌝ }
@@ -27,31 +25,21 @@ fn put_listing(out: &mut [u8], totals: [i64; 8], n: u64) -> usize
     at
 }
 
-fn put_reply(out: &mut [u8], reply: TotalsReply) -> usize
-    ensures { λ r. ⌜ Wrote (now (out .entry)) 0 (listingOf reply) (now (out .exit)) r × (r ≤ 512) ⌝ }
+// Writes the listing, from the book's bytes to the bytes to file, and replies its length. Where the book is refused, or
+// the buffer is shorter than the listing, it replies the refusal and writes nothing.
+pub fn write_listing(book: &[u8], out: &mut [u8]) -> TextReply
+    ensures { λ r. ⌜ ListingPromised (now (book .entry)) (now (out .entry)) (now (out .exit)) r ⌝ }
 {
-    if reply.refusal == 0 {
-        let totals = reply.totals;
-        return put_listing(out, totals, reply.n);
+    let reply = totals::totals(book);
+    if reply.refusal != 0 {
+        return TextReply::Refused(reply.refusal, reply.place);
     }
-    put_refusal(out, reply.refusal, reply.place as u64)
-}
-
-// Answers the text's length, which a trial run on an empty buffer tells. Where the lent buffer is shorter, it stays as it was and the answer is 0.
-pub fn write_reply(reply: TotalsReply, out: &mut [u8]) -> usize
-    ensures { λ r. ⌜ Listed (listingOf reply) (now (out .entry)) (now (out .exit)) r ⌝ }
-{
+    let totals = reply.totals;
+    // On an empty buffer a run of writers tells the length of its text.
     let mut none = [0u8; 0];
-    let length = put_reply(&mut none, reply);
+    let length = put_listing(&mut none, totals, reply.n);
     if out.len() < length {
-        return 0;
+        return TextReply::Refused(20, 0);
     }
-    put_reply(out, reply)
-}
-
-// The listing of a book, from its bytes to the bytes to file.
-pub fn write_listing(book: &[u8], out: &mut [u8]) -> usize
-    ensures { λ r. ⌜ Listed (listingOf (totalsReply (now (book .entry)))) (now (out .entry)) (now (out .exit)) r ⌝ }
-{
-    write_reply(totals::totals(book), out)
+    TextReply::Bytes(put_listing(out, totals, reply.n))
 }

@@ -2,7 +2,7 @@
 // started with; 0, the base, where there is none.
 use libc::STDIN_FILENO;
 use libc::STDOUT_FILENO;
-use year_report::ReportReply;
+use text::TextReply;
 ghost use mathlib.Core.Path.{_≡_};
 ghost use Rattle.report.specs.Words.{settingOf, settingNamed};
 
@@ -41,10 +41,10 @@ fn main() {
     let mut text = [0u8; 9_525];
     let reply = year_report::write_report(&space[..got], setting, &mut text);
     match reply {
-        ReportReply::Bytes(end) => {
+        TextReply::Bytes(end) => {
             io::write_all(STDOUT_FILENO, &text[..end]);
         }
-        ReportReply::Refused(number, place) => {
+        TextReply::Refused(number, place) => {
             let end = text::put_refusal(&mut text, number, place as u64);
             io::write_all(STDOUT_FILENO, &text[..end]);
         }

@@ -3,6 +3,7 @@
 use libc::STDOUT_FILENO;
 use reckoning::TotalsReply;
 use test_stream::Next;
+use text::TextReply;
 
 // A blank, and the number after it.
 fn write_signed(v: i64) {
@@ -37,10 +38,19 @@ fn write_values(reply: TotalsReply) {
     io::write_all(STDOUT_FILENO, b"\n");
 }
 
-fn write_listing(reply: TotalsReply) {
+// The listing, or the line of a refusal.
+fn write_listing(book: &[u8]) {
     let mut text = [0u8; 512];
-    let end = lines::write_reply(reply, &mut text);
-    io::write_all(STDOUT_FILENO, &text[..end]);
+    let reply = lines::write_listing(book, &mut text);
+    match reply {
+        TextReply::Bytes(end) => {
+            io::write_all(STDOUT_FILENO, &text[..end]);
+        }
+        TextReply::Refused(number, place) => {
+            let end = text::put_refusal(&mut text, number, place as u64);
+            io::write_all(STDOUT_FILENO, &text[..end]);
+        }
+    }
 }
 
 // One book; false where the stream has ended.
@@ -53,9 +63,8 @@ fn next_listing() -> bool {
     if (got as u64) < size {
         return false;
     }
-    let reply = totals::totals(&space[..got]);
-    write_values(reply);
-    write_listing(reply);
+    write_values(totals::totals(&space[..got]));
+    write_listing(&space[..got]);
     true
 }
 

@@ -7,7 +7,7 @@ use Prim.Native.Nat.{ℕ, zero, suc, _+_, _-_, _*_, _/_, _%_, _^_, _≤_, _<_}
 use native.Mathlib.Numerals.{add-one}
 use native.Mathlib.Nat.{zero-add, suc-add, not-suc-le-zero, pow-suc, mul-suc}
 use native.Mathlib.Omega.{arith}
-use borrow.Author.Tests.{lt-ltb, le-ltb, le-leb, lt-leb}
+use borrow.Author.Tests.{lt-ltb, le-ltb}
 use lib.Dec.{ltb}
 use lib.IntN.{ℤ, pos, negsuc, natAbs, _-ℤ_}
 use lib.Signed.{mag, ltZ, ltZ-no, _<ℤ_, _≤ℤ_}
@@ -17,7 +17,7 @@ use mir.Val.{SFits, toZ, ofZ}
 use mir.ValLaws.{toZ-ofZ}
 use lib.ListN.{length, length-append, set, drop, take, getD}
 use lib.Seq.{sets, sets-eq, length-sets, take-suc, take-all, length-take-le}
-use Rattle.text.specs.Text.{spelled, decimal, signed, Wrote, Delivered, delivered, told, joined}
+use Rattle.text.specs.Text.{spelled, decimal, signed, Wrote, joined}
 
 pub le-or-lt : (a b : ℕ) → (a ≤ b) ⊎ (b < a)
 le-or-lt zero b = inl (omega arith)
@@ -109,31 +109,6 @@ digits-most k n h = spelled-most n k n h
 -- a trial run tells the length
 pub trial : {o t p : List ℕ} {want : ℕ} → Wrote o 0 t p want → want ≡ length t
 trial {o} {t} v = omega (arith, v .place)
-
--- a text that fits is delivered
-pub fits-whole : {e t x : List ℕ} {r : ℕ} (want : ℕ) → want ≡ length t → want ≤ length e → Wrote e 0 t x r → Delivered t e x r
-unfolding told delivered
-fits-whole {e} {t} {x} {r} want v h w =
-    let fits : length t ≤ length e = omega arith in
-    let inside : r ≤ length x = omega (arith, w .place, kept w) in
-    record {
-      answer = rw (le-leb (length t) (length e) fits) (omega (arith, w .place));
-      bytes = rw (le-leb (length t) (length e) fits) (from-start w fits);
-      within = inside;
-      counts = sym (length-take-le r x inside);
-    }
-
--- one that is too long is not
-pub too-long : (want : ℕ) (t e : List ℕ) → want ≡ length t → length e < want → Delivered t e e 0
-unfolding told delivered
-too-long want t e v h =
-    let long : length e < length t = omega arith in
-    record {
-      answer = rw (lt-leb (length t) (length e) long);
-      bytes = rw (lt-leb (length t) (length e) long);
-      within = omega arith;
-      counts = refl;
-    }
 
 -- ---- a number's digits, one by one
 

@@ -2,10 +2,10 @@
 use mathlib.Core.Bool.{cond}
 use mathlib.Core.List.{List, [], _∷_, _++_}
 use mathlib.Core.Path.{_≡_}
-use Prim.Native.Nat.{ℕ, zero, suc, _+_, _/_, _%_, _≤_}
-use lib.Dec.{ltb, leb}
+use Prim.Native.Nat.{ℕ, zero, suc, _+_, _/_, _%_}
+use lib.Dec.{ltb}
 use lib.IntN.{ℤ, pos, negsuc}
-use lib.ListN.{length, take, drop}
+use lib.ListN.{length}
 use lib.Seq.{sets}
 
 -- the digits of n, the first one not 0 unless n is; `left` is a number of steps that is enough where n ≤ left
@@ -45,18 +45,3 @@ pub record Wrote (entry : List ℕ) (at : ℕ) (text exit : List ℕ) (next : �
 unfoldable pub joined : (ℕ → List ℕ) → ℕ → List ℕ
 joined f zero = []
 joined f (suc n) = joined f n ++ f n
-
--- a lent buffer after a text was asked for: the text and then the bytes as they were, or, where it does not fit, the buffer as it was
-unfoldable pub delivered : List ℕ → List ℕ → List ℕ
-delivered text entry = cond (leb (length text) (length entry)) (text ++ drop (length text) entry) entry
-
--- the answer: the length of the text, or 0 where it does not fit
-unfoldable pub told : List ℕ → List ℕ → ℕ
-told text entry = cond (leb (length text) (length entry)) (length text) 0
-
--- what a call that delivers a text does to the lent buffer, and its answer. The last two parts follow from the first two: by them `&out[..r]` needs no proof
-pub record Delivered (text entry exit : List ℕ) (r : ℕ) : Type 0 where
-  pub answer : r ≡ told text entry
-  pub bytes : exit ≡ delivered text entry
-  pub within : r ≤ length exit
-  pub counts : r ≡ length (take r exit)

@@ -8,6 +8,12 @@ ghost use lib.IntN.{pos, natAbs};
 ghost use lib.Signed.{_<ℤ_};
 ghost use Rattle.text.specs.Text.{decimal, signed, ended, signedEnded, refusalText, Wrote};
 
+// What a call that writes a text into a passed buffer replies: the text's length, or the refusal and its place.
+pub enum TextReply {
+    Bytes(usize),
+    Refused(u64, usize),
+}
+
 pub fn put_byte(out: &mut [u8], at: usize, b: u8) -> usize
     requires { ⌜ at + 1 < 2 ^ 64 ⌝ }
     ensures { λ r. ⌜ Wrote (now (out .entry)) at (b ∷ []) (now (out .exit)) r ⌝ }

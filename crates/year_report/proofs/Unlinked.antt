@@ -22,9 +22,10 @@ use Rattle.reckoning.specs.Portfolio.{groupCells, termsOf}
 use Rattle.reckoning.specs.Replies.{groupCheck, groupTable, tableOf, yearTable}
 use Rattle.reckoning.proofs.Promised.{premium-at, outgo-at}
 use Rattle.reckoning.proofs.Unlinked.{table-same}
+use Rattle.text.specs.Replies.{lengthFor, bufferFor, withRoom, textReply, textBuffer}
 use Rattle.text.proofs.Laws.{joined-same}
-use Rattle.year_report.specs.Report.{heading, yearLine, groupLines, reportText, reportReply, reportCheck, roomOf}
-use Rattle.year_report.specs.Report.{writeCheck, writeReply, bufferOf, reportBuffer, roomReply}
+use Rattle.year_report.specs.Report.{heading, yearLine, groupLines, reportText, reportCheck, roomOf}
+use Rattle.year_report.specs.Report.{writeReply, reportBuffer, roomReply}
 use Rattle.year_report.proofs.Refusals.{report-setting}
 
 -- a table for Group to fill
@@ -98,17 +99,17 @@ module _ (b b′ : List ℕ) (s : SameButUnlinked b b′) (setting : ℕ) where
       cases (Accepted n) e = ap (f (Accepted n)) (text-same n e)
       cases (Refused q p) e = refused q p _ _
 
-  pub reply-same : (lent : ℕ) → writeReply b setting lent ≡ writeReply b′ setting lent
-  unfolding writeReply writeCheck roomOf _andThen_
-  reply-same lent =
-      by-verdict (λ v text. reportReply (v andThen need (leb (length text) lent) 20 0) (length text)) (λ q p x y. refl)
+  pub reply-same : (room : ℕ) → writeReply b setting room ≡ writeReply b′ setting room
+  unfolding textReply withRoom _andThen_
+  reply-same room =
+      by-verdict (λ v text. lengthFor (v andThen need (leb (length text) room) 20 0) (length text)) (λ q p x y. refl)
 
   pub buffer-same : (before : List ℕ) → reportBuffer b setting before ≡ reportBuffer b′ setting before
-  unfolding reportBuffer writeCheck roomOf _andThen_
+  unfolding textBuffer withRoom _andThen_
   buffer-same before =
-      by-verdict (λ v text. bufferOf (v andThen need (leb (length text) (length before)) 20 0) text before)
+      by-verdict (λ v text. bufferFor (v andThen need (leb (length text) (length before)) 20 0) text before)
       (λ q p x y. refl)
 
   pub room-same : roomReply b setting ≡ roomReply b′ setting
   unfolding roomReply roomOf
-  room-same = by-verdict (λ v text. reportReply v (length text)) (λ q p x y. refl)
+  room-same = by-verdict (λ v text. lengthFor v (length text)) (λ q p x y. refl)

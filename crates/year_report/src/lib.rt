@@ -9,12 +9,7 @@ ghost use Rattle.year_report.specs.Tables.{Asked, Years, Measures, repor
 use field::Verdict;
 use settings::Setting;
 use settings::Shifts;
-
-// What both calls answer: the length written or the buffer wanted, or the refusal and its place.
-pub enum ReportReply {
-    Bytes(usize),
-    Refused(u64, usize),
-}
+use text::TextReply;
 
 // The refusals of both calls, in their order.
 fn check_report(book: &[u8], setting: usize) -> Verdict
@@ -83,27 +78,27 @@ fn put_report(years: Measured, out: &mut [u8]) -> usize
 
 // Writes the report where the lent buffer has the room that `report_room` tells; else, and where the book is refused,
 // nothing. The book is checked and reckoned once: length and text are those of the same tables.
-pub fn write_report(book: &[u8], setting: usize, out: &mut [u8]) -> ReportReply
+pub fn write_report(book: &[u8], setting: usize, out: &mut [u8]) -> TextReply
     ensures { λ r. ⌜ ReportPromised (now (book .entry)) setting (now (out .entry)) (now (out .exit)) r ⌝ }
 {
     let v = check_report(book, setting);
     if let Verdict::Refused(number, place) = v {
-        return ReportReply::Refused(number, place);
+        return TextReply::Refused(number, place);
     }
     let years = measured_years(book, setting);
     if out.len() < years.bytes {
-        return ReportReply::Refused(20, 0);
+        return TextReply::Refused(20, 0);
     }
-    ReportReply::Bytes(put_report(years, out))
+    TextReply::Bytes(put_report(years, out))
 }
 
-// Tells the buffer that `write_report` wants: the report's length, to the byte.
-pub fn report_room(book: &[u8], setting: usize) -> ReportReply
+// Replies with the buffer that `write_report` wants: the report's length, to the byte.
+pub fn report_room(book: &[u8], setting: usize) -> TextReply
     ensures { λ r. ⌜ RoomPromised (now (book .entry)) setting r ⌝ }
 {
     let v = check_report(book, setting);
     match v {
-        Verdict::Accepted(_) => ReportReply::Bytes(measured_years(book, setting).bytes),
-        Verdict::Refused(number, place) => ReportReply::Refused(number, place),
+        Verdict::Accepted(_) => TextReply::Bytes(measured_years(book, setting).bytes),
+        Verdict::Refused(number, place) => TextReply::Refused(number, place),
     }
 }

@@ -30,10 +30,32 @@ fn a_listing_tells_the_totals() {
         .map(|setting| format!("{setting} {} {}\n", told.totals[setting], told.n))
         .collect();
     let mut out = [7; 512];
-    assert_eq!(xaropinto::listing(&book, &mut out), lines.len());
+    assert_eq!(xaropinto::listing(&book, &mut out), Ok(lines.len()));
     assert_eq!(&out[..lines.len()], lines.as_bytes());
     assert!(out[lines.len()..].iter().all(|byte| *byte == 7));
-    assert_eq!(xaropinto::listing(&book, &mut out[..lines.len() - 1]), 0);
+    let mut exact = vec![7; lines.len()];
+    assert_eq!(xaropinto::listing(&book, &mut exact), Ok(lines.len()));
+    assert_eq!(exact, lines.as_bytes());
+}
+
+/// What Listing is refused with, and whether a buffer of so many bytes is as it was.
+fn listing_refused(book: &[u8], bytes: usize) -> (u64, u64, bool) {
+    let mut out = vec![7; bytes];
+    let refusal = xaropinto::listing(book, &mut out).expect_err("it is refused");
+    let as_it_was = out.iter().all(|byte| *byte == 7);
+    (refusal.number, refusal.place, as_it_was)
+}
+
+#[test]
+fn a_refused_listing_leaves_the_buffer() {
+    let book = full_book(&mut Chooser::new(8), Kind::Anywhere);
+    let mut out = [0; 512];
+    let length = xaropinto::listing(&book, &mut out).expect("a full book is accepted");
+    assert_eq!(listing_refused(&book, length - 1), (20, 0, true));
+    assert_eq!(listing_refused(&book, 0), (20, 0, true));
+    assert_eq!(listing_refused(&[0; 1_220], 512), (2, 0, true));
+    assert_eq!(listing_refused(&[0; 1_219], 512), (1, 1_219, true));
+    assert_eq!(listing_refused(&[0; 1_219], 0), (1, 1_219, true));
 }
 
 /// The book on age basis 2 that becomes this one, whose records are all linked.
