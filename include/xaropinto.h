@@ -23,10 +23,9 @@
  * Stack. A call takes what it needs from the caller's stack, and no proof says how much. A process that runs out of
  * stack stops. Beside what its own functions need, give a thread 96 KiB for Report, 80 KiB for Report room, 64 KiB for
  * Totals, 48 KiB for Group and for In force, 16 KiB for the cost rates, for Write and for Read, 8 KiB for the others.
- * Measured, in a first call that is bound as it is called: 62,232 bytes; 52,568; 49,048; 33,240 and 25,112; 5,735,
+ * Measured: 62,488 bytes; 52,824; 34,472; 33,480 and 23,512; in a first call that is bound as it is called, 5,735,
  * 10,872 and 8,248; and 3,319. Funds joins a book there, and Practice keeps its lists there: give them 128 KiB and
- * 96 KiB; measured are 91,224 and 64,520 bytes. Give Deviation and Listing as much as Totals: they take 528 and 48
- * bytes more.
+ * 96 KiB; measured are 76,648 and 64,520 bytes. Give Deviation and Listing, which call Totals, as much as Totals.
  *
  * Replies. A refusal of 0 means accepted. Otherwise `refusal` says which rule is broken and `place` where; every
  * other field of the reply is 0, and what was lent is as it was; of Funds, that fund's half of the numbers. No earlier

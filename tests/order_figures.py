@@ -17,11 +17,11 @@ from tests.report import Report
 LIST = ROOT / "tests" / "order_figures.tsv"
 # Steps of the code, as docs/REVIEW.md names them: no caller depends on these.
 STEPS = {
-    "accounts/specs/Usable", "arith/specs/Fractions", "book/specs/Reading", "cell/specs/States",
-    "conversion/specs/Steps", "factors/specs/Sizes", "funds/specs/Reckoned",
-    "projection/specs/Added", "rows/specs/Puts", "rows/specs/Rows", "settling/specs/Settling",
-    "spread/specs/Accepted", "totals/specs/Sums", "walks/specs/Five", "walks/specs/Tables",
-    "walks/specs/Walked", "year_report/specs/Tables", "years/specs/Outcome",
+    "arith/specs/Fractions", "book/specs/Reading", "cell/specs/States", "conversion/specs/Steps",
+    "expenses/specs/Usable", "funds/specs/Reckoned", "projection/specs/Added", "rows/specs/Puts",
+    "rows/specs/Rows", "settling/specs/Settling", "totals/specs/Sums", "variation/specs/Ranked",
+    "walks/specs/Five", "walks/specs/Tables", "walks/specs/Walked", "year_report/specs/Tables",
+    "years/specs/Outcome",
 }
 
 # What is no part of a definition, and levels of types; both are blanked, so that places stay.
