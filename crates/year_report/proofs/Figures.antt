@@ -1,34 +1,18 @@
 -- The figures that the five year tables carry are the book's, and so is the report from them. Assumes nothing.
-use mathlib.Core.Path.{_≡_, sym, ap, subst}
+use mathlib.Core.Path.{_≡_, sym, ap, subst, _∙_}
 use mathlib.Core.Logic.{⊎-elim}
 use mathlib.Core.List.{List, _++_}
-use Prim.Native.Nat.{ℕ, _+_, _<_}
+use Prim.Native.Nat.{ℕ, _+_, _*_, _<_}
 use native.Mathlib.Omega.{arith}
-use lib.ListN.{length, set}
+use lib.ListN.{length, getD, set, length-set}
 use lib.Seq.{getD-set-same, getD-set-other}
-use Rattle.settings.specs.Settings.{decrementsOf}
-use Rattle.reckoning.specs.Portfolio.{groupCells, termsOf}
-use Rattle.reckoning.specs.Replies.{yearTable}
-use Rattle.reckoning.proofs.Promised.{premium-at, outgo-at}
 use Rattle.text.proofs.Laws.{le-or-lt, joined-same}
 use Rattle.sheet.specs.Sheet.{tableLine, tableLines}
 use Rattle.year_report.specs.Report.{heading, yearLine, groupLines, reportText}
-use Rattle.year_report.specs.Tables.{Years, none, numbersAt, FirstYears, linesAt, reportFrom}
+use Rattle.year_report.specs.Tables.{Placed, Years, none, numbersAt, FirstYears, linesAt, reportFrom}
 use Rattle.year_report.specs.declared.YearTable.{YearTable}
 
 module _ (b : List ℕ) (setting : ℕ) where
-  -- a table that starts with the reckoning's fifty years
-  pub years-at : (g : ℕ) (table rest : List ℕ)
-      → table ≡ yearTable (termsOf b setting g) (groupCells b (decrementsOf b setting) g) 50 ++ rest
-      → Years b setting g table
-  years-at g table rest e =
-      let t = termsOf b setting g in
-      let cs = groupCells b (decrementsOf b setting) g in
-      record {
-        premium-is = λ k year. rw e (premium-at t cs 50 k rest year);
-        outgo-is = λ k year. rw e (outgo-at t cs 50 k rest year);
-      }
-
   -- the lines of a table with a product group's years are that group's
   module _ (j : ℕ) (table : List ℕ) (years : Years b setting (j + 1) table) where
     line-same : (k : ℕ) → k < 50 → tableLine (j + 1) table k ≡ yearLine b setting (j + 1) k
@@ -59,3 +43,26 @@ module _ (b : List ℕ) (setting : ℕ) where
   report-same tables all =
       ap (λ (l : List ℕ). heading ++ l)
       (joined-same (linesAt tables) (groupLines b setting) 5 (λ j few. lines-same j (numbersAt tables j) (all j few)))
+
+-- a table with no year yet, and with one year more
+pub placed-none : (premium outgo table : List ℕ) → Placed premium outgo 0 table
+placed-none premium outgo table = record { premium-at = λ k h. absurd (omega arith); outgo-at = λ k h. absurd (omega arith) }
+
+pub placed-more : (premium outgo table : List ℕ) (k : ℕ) → length table ≡ 200 → k < 50 → Placed premium outgo k table
+    → Placed premium outgo (k + 1) (set (set table (4 * k) (getD premium k 0)) (4 * k + 1) (getD outgo k 0))
+placed-more premium outgo table k size few p =
+    let x = getD premium k 0 in
+    let y = getD outgo k 0 in
+    let t = set table (4 * k) x in
+    let long : length t ≡ 200 = length-set table (4 * k) x ∙ size in record {
+      premium-at = λ i h.
+          getD-set-other t (4 * k + 1) (4 * i) y 0 (λ e. absurd (omega arith))
+          ∙ ⊎-elim {C = getD t (4 * i) 0 ≡ getD premium i 0}
+            (λ q. let here : i ≡ k = omega arith in rw here (getD-set-same table (4 * k) x 0 (omega (arith, size))))
+            (λ q. getD-set-other table (4 * k) (4 * i) x 0 (λ e. absurd (omega arith)) ∙ p .premium-at i q) (le-or-lt k i);
+      outgo-at = λ i h.
+          ⊎-elim {C = getD (set t (4 * k + 1) y) (4 * i + 1) 0 ≡ getD outgo i 0}
+          (λ q. let here : i ≡ k = omega arith in rw here (getD-set-same t (4 * k + 1) y 0 (omega (arith, long))))
+          (λ q. getD-set-other t (4 * k + 1) (4 * i + 1) y 0 (λ e. absurd (omega arith))
+          ∙ getD-set-other table (4 * k) (4 * i + 1) x 0 (λ e. absurd (omega arith)) ∙ p .outgo-at i q) (le-or-lt k i);
+    }

@@ -31,6 +31,11 @@ pub record Years (b : List ℕ) (setting g : ℕ) (table : List ℕ) : Type 0 wh
   pub outgo-is : (k : ℕ) → k < 50
       → getD table (4 * k + 1) 0 ≡ outgo rounded (termsOf b setting g) (groupCells b (decrementsOf b setting) g) k
 
+-- the table has the amounts of the first n years at their places
+pub record Placed (premium outgo : List ℕ) (n : ℕ) (table : List ℕ) : Type 0 where
+  pub premium-at : (k : ℕ) → k < n → getD table (4 * k) 0 ≡ getD premium k 0
+  pub outgo-at : (k : ℕ) → k < n → getD table (4 * k + 1) 0 ≡ getD outgo k 0
+
 -- for a place past the end
 abbrev pub none : YearTable
 none = record { numbers = [] }

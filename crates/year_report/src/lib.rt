@@ -5,7 +5,7 @@ ghost use Prim.Native.Nat.{_<_};
 ghost use Rattle.book.specs.Reading.{ValidBook};
 ghost use Rattle.text.specs.Text.{Wrote};
 ghost use Rattle.year_report.specs.Report.{reportCheck, ReportPromised, RoomPromised};
-ghost use Rattle.year_report.specs.Tables.{Asked, Years, Measures, reportFrom};
+ghost use Rattle.year_report.specs.Tables.{Asked, Placed, Years, Measures, reportFrom};
 use field::Verdict;
 use settings::Setting;
 use settings::Shifts;
@@ -22,11 +22,23 @@ fn check_report(book: &[u8], setting: usize) -> Verdict
     acceptance::check(book)
 }
 
-// The four numbers of each of a product group's fifty years.
+// Premium after cap and outgo of each of a product group's fifty years, at the places that they have in a year table.
 struct YearTable {
     numbers: [u64; 200],
 }
 
+fn placed(premium: &[u64; 50], outgo: &[u64; 50]) -> YearTable
+    ensures { λ r. ⌜ Placed (now (premium .entry)) (now (outgo .entry)) 50 (r .numbers) ⌝ }
+{
+    let mut numbers = [0u64; 200];
+    for k in 0usize..50 {
+        numbers[4 * k] = premium[k];
+        numbers[4 * k + 1] = outgo[k];
+    }
+    YearTable { numbers }
+}
+
+// Nothing is discounted: the report has the amounts as they fall due.
 fn year_table(book: &[u8], s: Setting, w: Shifts, group: usize) -> YearTable
     requires { ⌜ Asked (now book) s w group ⌝ }
     ensures { λ r. ⌜ Years (now (book .entry)) (s .number) group (r .numbers) ⌝ }
@@ -34,9 +46,10 @@ fn year_table(book: &[u8], s: Setting, w: Shifts, group: usize) -> YearTable
     let mut rows = [0u64; 2720];
     let mut sums = [0u64; 500];
     projection::group_sums(book, w, group, s.projection, &mut rows, &mut sums);
-    let mut numbers = [0u64; 200];
-    years::settle(book, s, group, &sums, &mut numbers);
-    YearTable { numbers }
+    let years = years::undiscounted(book, s, group, &sums, 0, 50);
+    let premium = years.premium;
+    let outgo = years.outgo;
+    placed(&premium, &outgo)
 }
 
 // The five product groups' tables, and how many bytes their report has: 25 of heading, and the lines. No text is built.

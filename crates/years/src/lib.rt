@@ -35,13 +35,13 @@ pub fn curve_of(book: &[u8]) -> Curve
 }
 
 // Premium after the cap and outgo, year by year.
-struct Years {
-    premium: [u64; 50],
-    outgo: [u64; 50],
+pub struct Years {
+    pub premium: [u64; 50],
+    pub outgo: [u64; 50],
 }
 
 // The years from `from` to before `to`, before discounting, in a setting: whoever settles many groups makes it once.
-fn undiscounted(
+pub fn undiscounted(
     book: &[u8],
     s: Setting,
     group: usize,
