@@ -38,15 +38,15 @@ def script(name, module, least, *words):
     return Part(name, [sys.executable, "-m", module, *words], least)
 
 
-PROOFS = Part("proofs, must-fail edits and programs", ["rt", "ci"], 330)
+PROOFS = Part("proofs, must-fail edits and programs", ["rt", "ci"], 409)
 # The proofs of `quick`: a crate that is as it was when it was proved is not proved again.
-QUICK_PROOFS = Part("proofs and programs", ["rt", "check"], 48)
+QUICK_PROOFS = Part("proofs and programs", ["rt", "check"], 57)
 # What runs on the proved programs, two parts at once.
 PROGRAMS = [
     script("must-fail edits fit the proof files", "tests.must_fail_reasons", 2),
-    script("documents", "tests.documents", 13),
+    script("documents", "tests.documents", 15),
     script("the gate's own habits", "tests.gate_habits", 12),
-    script("numbers of the promises, against the order", "tests.order_figures", 48),
+    script("numbers of the promises, against the order", "tests.order_figures", 54),
     script("declarations of the calls in four languages", "tests.struct_layouts", 20),
     script("refusals, from one table", "tools.refusals", 4, "test"),
     script("second check, by hand-worked examples", "tests.second_check", 43),

@@ -128,7 +128,15 @@ fn all_totals(book: &[u8]) -> [i64; 8]
     for group in 1usize..6 {
         let mut numbers = [0u64; 500];
         projection::group_sums(book, w, group, projection::ALL, &mut rows, &mut numbers);
-        add_group(book, &divisors, &fractions, settings, group, &numbers, &mut totals);
+        add_group(
+            book,
+            &divisors,
+            &fractions,
+            settings,
+            group,
+            &numbers,
+            &mut totals,
+        );
     }
     totals
 }

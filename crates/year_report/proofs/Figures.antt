@@ -58,8 +58,8 @@ placed-more premium outgo table k size few p =
       premium-at = λ i h.
           getD-set-other t (4 * k + 1) (4 * i) y 0 (λ e. absurd (omega arith))
           ∙ ⊎-elim {C = getD t (4 * i) 0 ≡ getD premium i 0}
-            (λ q. let here : i ≡ k = omega arith in rw here (getD-set-same table (4 * k) x 0 (omega (arith, size))))
-            (λ q. getD-set-other table (4 * k) (4 * i) x 0 (λ e. absurd (omega arith)) ∙ p .premium-at i q) (le-or-lt k i);
+          (λ q. let here : i ≡ k = omega arith in rw here (getD-set-same table (4 * k) x 0 (omega (arith, size))))
+          (λ q. getD-set-other table (4 * k) (4 * i) x 0 (λ e. absurd (omega arith)) ∙ p .premium-at i q) (le-or-lt k i);
       outgo-at = λ i h.
           ⊎-elim {C = getD (set t (4 * k + 1) y) (4 * i + 1) 0 ≡ getD outgo i 0}
           (λ q. let here : i ≡ k = omega arith in rw here (getD-set-same t (4 * k + 1) y 0 (omega (arith, long))))

@@ -69,13 +69,7 @@ pub fn undiscounted(
 }
 
 // The liability of a product group from its year sums; the first 200 numbers of the table become the fifty years'.
-pub fn settle(
-    book: &[u8],
-    s: Setting,
-    group: usize,
-    numbers: &[u64; 500],
-    table: &mut [u64],
-) -> i64
+pub fn settle(book: &[u8], s: Setting, group: usize, numbers: &[u64; 500], table: &mut [u64]) -> i64
     requires { ⌜ SettingOf s × (1 ≤ group) × (group ≤ 5) × (200 ≤ length (now table)) × ValidBook 1 (now book) × TableIn (now book) (projectionOf (s .number)) group (now numbers) ⌝ }
     ensures { λ r. ⌜ Settled (now (book .entry)) (s .number) group (now (table .entry)) (now (table .exit)) r ⌝ }
 {
