@@ -10,10 +10,11 @@ UNFIT = ("that can be named from here", "has no field", "is not in scope", "expe
 
 
 def first_error(log):
-    """The first refusal in a log, without its place; empty where there is none."""
-    for line in log.splitlines():
+    """The first refusal in a log, without its place, with the two lines after it; else empty."""
+    lines = log.splitlines()
+    for number, line in enumerate(lines):
         if ": error" in line:
-            return line.split(": error", 1)[1]
+            return " ".join([line.split(": error", 1)[1], *lines[number + 1:number + 3]])
     return ""
 
 
