@@ -57,11 +57,11 @@ fuzz: target/bin/test_check target/bin/listing lib ## hold programs and calls ag
 	@python3 -m tests.gate fuzz --number $(N) --seed $(SEED)
 
 streams: ## write the test programs' streams anew
-	@python3 -m tests.streams.check write
-	@python3 -m tests.streams.look write
-	@python3 -m tests.streams.group write
-	@python3 -m tests.streams.listing write
-	@python3 -m tests.streams.walk write
+	@python3 -m tests.vectors.check write
+	@python3 -m tests.vectors.record_view write
+	@python3 -m tests.vectors.group write
+	@python3 -m tests.vectors.listing write
+	@python3 -m tests.vectors.cell_projection write
 
 samples: ## write the sample books, their listings and their reports anew
 	@python3 -m tools.sample_books write
@@ -77,10 +77,10 @@ lib: ## prove the C boundary and put its archive and shared library under target
 	@mv -f target/lib.new/* target/lib/
 
 install: lib target/bin/listing target/bin/report target/bin/convert ## install under PREFIX, /usr/local unless told, below DESTDIR
-	@sh install/install.sh "$(DESTDIR)$(PREFIX)" $(SHARED) $(VERSION)
+	@sh packaging/install.sh "$(DESTDIR)$(PREFIX)" $(SHARED) $(VERSION)
 
 dist: lib target/bin/listing target/bin/report target/bin/convert ## an archive for machines without the toolchain, under target/dist
-	@rm -rf target/dist && sh install/install.sh target/dist/$(DIST) $(SHARED) $(VERSION)
+	@rm -rf target/dist && sh packaging/install.sh target/dist/$(DIST) $(SHARED) $(VERSION)
 	@tar -C target/dist -czf target/dist/$(DIST).tar.gz $(DIST)
 	@echo target/dist/$(DIST).tar.gz
 
@@ -89,7 +89,7 @@ callers: ## run the tests of the callers in C, Rust and Python
 
 bench: lib ## time the calls beside Rust and Python: make bench OPTIONS=--instructions counts instructions too
 	@mkdir -p target/bench
-	@cd callers/rust && for link in $(LINKS); do \
+	@cd bindings/rust && for link in $(LINKS); do \
 		BENCH_LINK=$$link cargo build --quiet --offline --locked --release --package bench && \
 		cp ../../target/cargo/release/bench ../../target/bench/link_$$link || exit 1; done
 	@target/bench/link_$(firstword $(LINKS)) $(OPTIONS) $(LINKS:%=target/bench/link_%)

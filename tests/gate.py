@@ -10,10 +10,10 @@ import subprocess
 import sys
 from typing import NamedTuple
 
-from tests.checker import checker_line
+from tests.support.checker import checker_line
 from tests import ROOT
-from tests.command import run, run_beside
-from tests.progress import Line, Work, crates_listed, edits_listed
+from tests.support.command import run, run_beside
+from tests.support.progress import Line, Work, crates_listed, edits_listed
 
 TALLY = re.compile(r"^(\d+) passed, (\d+) failed$")
 # The last line of `rt check`, which counts no failures and names them instead.
@@ -43,52 +43,52 @@ PROOFS = Part("proofs, must-fail edits and programs", ["rt", "ci"], 409)
 QUICK_PROOFS = Part("proofs and programs", ["rt", "check"], 57)
 # What runs on the proved programs, two parts at once.
 PROGRAMS = [
-    script("must-fail edits fit the proof files", "tests.must_fail_reasons", 2),
-    script("documents", "tests.documents", 15),
-    script("the gate's own habits", "tests.gate_habits", 12),
-    script("numbers of the promises, against the order", "tests.order_figures", 54),
-    script("declarations of the calls in four languages", "tests.struct_layouts", 20),
+    script("must-fail edits fit the proof files", "tests.repository.must_fail_reasons", 2),
+    script("documents", "tests.repository.test_documents", 15),
+    script("the gate's own habits", "tests.repository.test_gate", 12),
+    script("numbers of the promises, against the order", "tests.repository.test_order_figures", 54),
+    script("declarations of the calls in four languages", "tests.repository.test_struct_layouts", 20),
     script("refusals, from one table", "tools.refusals", 4, "test"),
-    script("second check, by hand-worked examples", "tests.second_check", 43),
-    script("stream of the check", "tests.streams.check", 53, "test"),
-    script("stream of the looker", "tests.streams.look", 12, "test"),
-    script("second reckoning, by hand-worked examples", "tests.second_reckoning", 38),
-    script("table of weights, entry by entry", "tests.table_of_weights", 80),
-    script("stream of Group, against the fractions", "tests.streams.group", 31, "test"),
-    script("stream of listings, against the fractions", "tests.streams.listing", 36, "test"),
-    script("stream of the walk", "tests.streams.walk", 11, "test"),
-    script("listing program, by the paper's figures", "tests.listing_program", 9),
-    script("report program", "tests.report_program", 9),
-    script("convert program, by hand-worked books", "tests.convert_program", 9),
+    script("second check, by hand-worked examples", "tests.reference.test_check", 43),
+    script("stream of the check", "tests.vectors.check", 53, "test"),
+    script("stream of the looker", "tests.vectors.record_view", 12, "test"),
+    script("second reckoning, by hand-worked examples", "tests.reference.test_valuation", 38),
+    script("table of weights, entry by entry", "tests.reference.test_table_of_weights", 80),
+    script("stream of Group, against the fractions", "tests.vectors.group", 31, "test"),
+    script("stream of listings, against the fractions", "tests.vectors.listing", 36, "test"),
+    script("stream of the walk", "tests.vectors.cell_projection", 11, "test"),
+    script("listing program, by the paper's figures", "tests.programs.test_listing_main", 9),
+    script("report program", "tests.programs.test_year_report_main", 9),
+    script("convert program, by hand-worked books", "tests.programs.test_age_basis_main", 9),
     script("sample books", "tools.sample_books", 37, "test"),
-    script("random books against the second check", "tests.random_books.check", 17),
-    script("random listings against the second reckoning and the fractions", "tests.random_books.listing", 25),
+    script("random books against the second check", "tests.fuzz.test_check", 17),
+    script("random listings against the second reckoning and the fractions", "tests.fuzz.test_listing", 25),
 ]
 # What builds the archive and the shared library, and what runs on these once they are built.
-CALLERS = script("callers in C and Rust", "tests.callers", 283)
+CALLERS = script("callers in C and Rust", "tests.bindings.test_callers", 283)
 CALLS = [
-    script("calls from Python, on random books", "tests.calls.base", 26),
-    script("cost rates from Python, on random accounts", "tests.calls.accounts", 38),
-    script("calls of the listing", "tests.calls.listing", 14),
-    script("calls of the report", "tests.calls.report", 27),
-    script("conversions from Python, on random books", "tests.calls.convert", 63),
-    script("Write and Read from Python, on random values and lists", "tests.calls.desk", 31),
-    script("two funds from Python, on random pairs", "tests.calls.funds", 83),
-    script("one cell on the screen from Python, on random cells", "tests.calls.screen", 27),
-    script("spread of claims from Python, on random claims", "tests.calls.spread", 32),
-    script("deviations from Python, on random books and risk models", "tests.calls.deviation", 50),
-    script("practice books from Python, on random start numbers", "tests.calls.practice", 19),
-    script("the command's habits", "tests.front_door.habits", 15),
-    script("the command's answers, against the second reading", "tests.front_door.figures", 19),
-    script("what is installed", "tests.front_door.installed", 8),
+    script("calls from Python, on random books", "tests.api.test_base_calls", 26),
+    script("cost rates from Python, on random accounts", "tests.api.test_cost_rates", 38),
+    script("calls of the listing", "tests.api.test_listing", 14),
+    script("calls of the report", "tests.api.test_year_report", 27),
+    script("conversions from Python, on random books", "tests.api.test_age_basis", 63),
+    script("Write and Read from Python, on random values and lists", "tests.api.test_write_read", 31),
+    script("two funds from Python, on random pairs", "tests.api.test_funds", 83),
+    script("one cell on the screen from Python, on random cells", "tests.api.test_in_force", 27),
+    script("spread of claims from Python, on random claims", "tests.api.test_claims_variation", 32),
+    script("deviations from Python, on random books and risk models", "tests.api.test_standard_deviation", 50),
+    script("practice books from Python, on random start numbers", "tests.api.test_practice_book", 19),
+    script("the command's habits", "tests.cli.test_habits", 15),
+    script("the command's answers, against the second reading", "tests.cli.test_figures", 19),
+    script("what is installed", "tests.cli.test_installed", 8),
 ]
 PARTS = [PROOFS, *PROGRAMS, CALLERS, *CALLS]
 # The module that reads what the prover said of each edit; those whose inputs are drawn; and those
 # that take longest: started first, none of them runs on alone at the end.
-OF_EDITS = "tests.must_fail_reasons"
-DRAWN = ("tests.random_books.", "tests.calls.")
-LONG = ("tests.random_books.listing", "tests.callers", "tests.streams.listing",
-        "tests.front_door.", "tests.calls.funds", "tests.calls.base")
+OF_EDITS = "tests.repository.must_fail_reasons"
+DRAWN = ("tests.fuzz.", "tests.api.")
+LONG = ("tests.fuzz.test_listing", "tests.bindings.test_callers", "tests.vectors.listing",
+        "tests.cli.", "tests.api.test_funds", "tests.api.test_base_calls")
 
 
 def module_of(part):

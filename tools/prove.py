@@ -9,8 +9,8 @@ import sys
 from pathlib import Path
 
 from tests import ROOT
-from tests.command import run, run_beside
-from tests.progress import Line, Work, crates_listed, crates_needed
+from tests.support.command import run, run_beside
+from tests.support.progress import Line, Work, crates_listed, crates_needed
 
 # For the crate and all that it needs, on a slow machine.
 MOST_SECONDS = 90 * 60

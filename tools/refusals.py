@@ -4,7 +4,7 @@ import argparse
 import sys
 
 from tests import ROOT
-from tests.report import Report
+from tests.support.report import Report
 
 sys.path.insert(0, str(ROOT / "python"))
 
@@ -34,7 +34,7 @@ def in_rust(rows):
 
 
 # Where the table stands, and how its lines are made there.
-COPIES = {"docs/BOOK.md": in_book, "include/xaropinto.h": in_header, "callers/rust/src/refusals.rs": in_rust}
+COPIES = {"docs/BOOK.md": in_book, "include/xaropinto.h": in_header, "bindings/rust/src/refusals.rs": in_rust}
 
 
 def filled(text, lines):

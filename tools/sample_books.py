@@ -4,18 +4,18 @@ import argparse
 import sys
 from dataclasses import replace
 
-from second.book import PG2_MEN, Cell, Portfolio, make_book, one_record_book
-from second.layout import changed, record
-from second.reckoning import listing
-from second.report import report_page
+from reference.book import PG2_MEN, Cell, Portfolio, make_book, one_record_book
+from reference.layout import changed, record
+from reference.valuation import listing
+from reference.year_report import report_page
 from tests import ROOT
-from tests.books.insurers import MANY_PRODUCTS, dense_full_book, flat_values, insurer_book
-from tests.books.newer_basis import on_basis_2
-from tests.program import ProgramFailed, verdict_lines
-from tests.report import Report
+from tests.fixtures.insurers import MANY_PRODUCTS, dense_full_book, flat_values, insurer_book
+from tests.fixtures.age_basis_2 import on_basis_2
+from tests.support.program import ProgramFailed, verdict_lines
+from tests.support.report import Report
 
 FOLDER = ROOT / "samples"
-# A page of the command, which tests/front_door holds.
+# A page of the command, which tests/cli holds.
 PAGE = "small_insurer.html"
 # The report program is run with a word: claims up, which moves a figure of the first sample.
 REPORTED_SETTING = 7

@@ -3,13 +3,13 @@
 import argparse
 import sys
 
-from second.layout import MOST_BYTES_TAKEN, SETTINGS
+from reference.layout import MOST_BYTES_TAKEN, SETTINGS
 from tests import ROOT
-from tests.program import ProgramFailed, run_program
+from tests.support.program import ProgramFailed, run_program
 
 sys.path.insert(0, str(ROOT / "python"))
 
-from xaropinto.words import explain  # noqa: E402
+from xaropinto.messages import explain  # noqa: E402
 
 def verdict_of(book):
     """The verdict line of a book, out of what the listing program says of it."""

@@ -6,7 +6,7 @@ import sys
 import time
 from pathlib import Path
 
-from second.reckoning import totals
+from reference.valuation import totals
 
 
 def main():

@@ -2,7 +2,7 @@
 
 import sys
 
-from xaropinto.command.main import main
+from xaropinto.cli.main import main
 
 if __name__ == "__main__":
     sys.exit(main())

@@ -6,7 +6,7 @@ from typing import NamedTuple, Optional, Sequence
 from xaropinto import calls
 from xaropinto.book_values import BookValues, taken_apart
 from xaropinto.layout import HEADER_BYTES, LONGEST_BOOK, MOST_RECORDS, RECORD_BYTES, TABLES_AT, YEARS
-from xaropinto.words import explain
+from xaropinto.messages import explain
 
 TABLE_NUMBERS = 4 * YEARS
 MOST_LISTING_BYTES = 512

@@ -1,0 +1,20 @@
+#!/bin/sh
+# Puts header, libraries, programs, man page and Python package under a folder: install.sh FOLDER SHARED VERSION.
+set -eu
+to=$1 shared=$2 version=$3
+package=$to/share/xaropinto/python/xaropinto
+
+install -d "$to/bin" "$to/include" "$to/lib/pkgconfig" "$to/share/man/man1" "$package/cli"
+install -m 644 include/xaropinto.h "$to/include/"
+install -m 644 target/lib/libxaropinto.a "$to/lib/"
+install -m 755 "target/lib/$shared" "$to/lib/"
+ln -sf "$shared" "$to/lib/libxaropinto.so"
+sed "s/@VERSION@/$version/" packaging/xaropinto.pc.in > "$to/lib/pkgconfig/xaropinto.pc"
+for program in listing report convert; do
+    install -m 755 "target/bin/$program" "$to/bin/xaropinto-$program"
+done
+install -m 755 packaging/xaropinto "$to/bin/"
+install -m 644 packaging/xaropinto.1 "$to/share/man/man1/"
+install -m 644 python/xaropinto/*.py python/xaropinto/refusals.tsv python/xaropinto/py.typed "$package/"
+install -m 644 python/xaropinto/cli/*.py "$package/cli/"
+install -m 755 "target/lib/$shared" "$package/libxaropinto.so"

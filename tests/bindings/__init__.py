@@ -1,0 +1,1 @@
+"""Tests of the callers in C and Rust."""

@@ -1,0 +1,123 @@
+"""What is installed works where it is put: header, libraries, programs, command, Python package; and make's habits."""
+
+import os
+import re
+import shutil
+import subprocess
+import sys
+import tempfile
+import unittest
+from pathlib import Path
+
+from tests import ROOT
+from tests.cli.run import sample
+from tests.support.report import run_unit_tests
+
+MOST_SECONDS = 600
+VERSION = (ROOT / "VERSION").read_text(encoding="ascii").strip()
+LISTING = (ROOT / "samples" / "small_insurer.listing").read_bytes()
+
+
+# What a person's shell has: the gate itself may be run by make, which tells a make below it so.
+SHELL = {name: word for name, word in os.environ.items() if name not in ("MAKEFLAGS", "MAKELEVEL", "MFLAGS")}
+
+
+def run(*words, folder=ROOT, env=None):
+    """Run a command to its end."""
+    return subprocess.run([str(word) for word in words], cwd=folder, stdin=subprocess.DEVNULL, capture_output=True,
+                          timeout=MOST_SECONDS, check=False, env=SHELL if env is None else env)
+
+
+class Installed(unittest.TestCase):
+    """`make install`, `make dist` and pip."""
+
+    def setUp(self):
+        held = tempfile.TemporaryDirectory()
+        self.addCleanup(held.cleanup)
+        self.folder = Path(held.name)
+
+    def hold(self, root):
+        """All that was installed under a folder answers."""
+        for program in ("xaropinto", "xaropinto-listing"):
+            words = ("list", sample("small_insurer")) if program == "xaropinto" else ()
+            with open(sample("small_insurer"), "rb") as book:
+                ended = subprocess.run([root / "bin" / program, *words], stdin=book, capture_output=True, check=False,
+                                       cwd=self.folder)
+            self.assertEqual((ended.returncode, ended.stdout, ended.stderr), (0, LISTING, b""))
+        flags = run("pkg-config", "--cflags", "--libs", "xaropinto",
+                    env={**os.environ, "PKG_CONFIG_PATH": str(root / "lib" / "pkgconfig")})
+        self.assertEqual(flags.returncode, 0, flags.stderr)
+        built = run("cc", "-std=c99", "-Wall", "-Wextra", "-Werror", ROOT / "bindings" / "c" / "examples" / "example.c", "-o",
+                    self.folder / "example", *flags.stdout.decode().split())
+        self.assertEqual(built.returncode, 0, built.stderr)
+        for book, code in (("small_insurer", 0), ("lapse_too_large", 1)):
+            ended = run(self.folder / "example", sample(book), env={"LD_LIBRARY_PATH": str(root / "lib")})
+            self.assertEqual((ended.returncode, ended.stdout), (code, b"" if code else LISTING))
+
+    def test_install(self):
+        ended = run("make", "install", f"DESTDIR={self.folder}", "PREFIX=/usr/it")
+        self.assertEqual(ended.returncode, 0, ended.stderr)
+        self.hold(self.folder / "usr" / "it")
+        manual = self.folder / "usr" / "it" / "share" / "man" / "man1" / "xaropinto.1"
+        self.assertIn(f"xaropinto {VERSION}", manual.read_text(encoding="ascii"))
+
+    def test_dist(self):
+        ended = run("make", "dist")
+        self.assertEqual(ended.returncode, 0, ended.stderr)
+        archive = ROOT / ended.stdout.decode().split()[-1]
+        self.assertEqual(run("tar", "-xzf", archive, "-C", self.folder).returncode, 0)
+        self.hold(self.folder / archive.name.removesuffix(".tar.gz"))
+
+    def test_pip(self):
+        shutil.copytree(ROOT / "python", self.folder / "python")
+        ended = run(sys.executable, "-m", "pip", "install", "--quiet", "--no-build-isolation", "--no-deps",
+                    "--no-index", "--disable-pip-version-check", "--target", self.folder / "there",
+                    self.folder / "python")
+        self.assertEqual(ended.returncode, 0, ended.stderr)
+        self.assertTrue((self.folder / "there" / "bin" / "xaropinto").is_file())
+        ended = run(sys.executable, "-c", "import xaropinto, sys; print(xaropinto.__version__, xaropinto.check("
+                    "open(sys.argv[1], 'rb').read()))", sample("small_insurer"), folder=self.folder,
+                    env={"PYTHONPATH": str(self.folder / "there")})
+        self.assertEqual((ended.stdout.decode(), ended.stderr), (f"{VERSION} 315\n", b""))
+
+
+class Version(unittest.TestCase):
+    """One version everywhere."""
+
+    def test_version(self):
+        for name, pattern in (("include/xaropinto.h", r'#define XAROPINTO_VERSION "(.*)"'),
+                              ("python/xaropinto/version.py", r'VERSION = "(.*)"'),
+                              ("bindings/rust/Cargo.toml", r'(?m)^version = "(.*)"'),
+                              ("packaging/xaropinto.1", r'"xaropinto (.*?)"')):
+            self.assertEqual(re.search(pattern, (ROOT / name).read_text(encoding="utf-8"))[1], VERSION, name)
+
+
+class Make(unittest.TestCase):
+    """`make list` lists what it is told to, or fails."""
+
+    def test_sample_is_told(self):
+        ended = run("make", "list")
+        self.assertEqual(ended.returncode, 0)
+        self.assertIn(b"the sample", ended.stderr)
+
+    def test_book(self):
+        ended = run("make", "list", f"BOOK={sample('small_insurer')}")
+        self.assertEqual((ended.returncode, ended.stdout, ended.stderr), (0, LISTING, b""))
+
+    def test_names_with_quotes_and_dollars(self):
+        with tempfile.TemporaryDirectory() as folder:
+            path = Path(folder) / "it's $(HOME) \"mine\" $x.book"
+            path.write_bytes(sample("small_insurer").read_bytes())
+            ended = run("make", "list", f"BOOK={path}")
+            self.assertEqual((ended.returncode, ended.stdout), (0, LISTING))
+
+    def test_wrong_words(self):
+        for words in (("list", "mine.book"), ("list", "book=mine.book"), ("check", "samples/full.book"),
+                      ("list", "BOOK=/nowhere"), ("list", "BOOK=samples"),
+                      ("list", f"BOOK={sample('lapse_too_large')}"), ("check", f"BOOK={sample('lapse_too_large')}")):
+            with self.subTest(words=words):
+                self.assertNotEqual(run("make", *words).returncode, 0)
+
+
+if __name__ == "__main__":
+    sys.exit(run_unit_tests(sys.modules[__name__]))

@@ -1,0 +1,1 @@
+"""The built programs, run as a user runs them."""

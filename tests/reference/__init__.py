@@ -1,0 +1,1 @@
+"""Tests of the reference implementation itself, by figures worked by hand."""

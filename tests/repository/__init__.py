@@ -1,0 +1,1 @@
+"""Tests of documents, declarations and of the gate."""

@@ -1,0 +1,156 @@
+"""Tests of the gate itself, on parts that are made up: its tally, its failures, its progress."""
+
+import contextlib
+import io
+import os
+import signal
+import subprocess
+import sys
+import tempfile
+import time
+import unittest
+from pathlib import Path
+from unittest.mock import patch
+
+from tests import ROOT, gate
+from tests.support.progress import Line, Work, crates_listed, crates_needed
+from tests.support.report import run_unit_tests
+
+# What `rt` prints as it goes: a crate proved, one that is not, one unchanged; edits; programs.
+PRINTED = """rt: text proved (12 s)
+rt: field proved (unchanged since it was last proved)
+rt: book NOT PROVED (exit 1, 7 s)
+rt: look NOT PROVED: its dependency book is not proved
+rt: must-fail text/one: refused, as it must be (first at proofs/x/Proof.antt:3:5; 8 s)
+rt: must-fail text/two: NOT REFUSED: the crate is still proved with this edit (9 s)
+rt: must-fail text/three: BAD EDIT: an 'old:' text is not in src/lib.rt
+rt: listing ran as nobody, and wrote what its file 'stdout' has (0 s)
+rt: report proved, and its run FAILED (1 s)
+"""
+# A gate in a process of its own, of one part that writes its number to a file and goes on for long.
+LONG_RUN = """
+import sys, tests.gate as gate
+words = ["sh", "-c", 'echo $$ > "$1"; exec sleep 9999', "sh", sys.argv.pop()]
+gate.PROOFS = gate.Part("proofs", words, 1)
+try:
+    gate.main()
+except KeyboardInterrupt:
+    sys.exit(gate.INTERRUPTED)
+"""
+MOST_SECONDS = 60
+
+
+def part(name, printed, code=0, least=1):
+    """A part that prints something and ends."""
+    words = f"import sys; print({printed!r}); sys.exit({code})"
+    return gate.Part(name, [sys.executable, "-c", words], least)
+
+
+class Tally(unittest.TestCase):
+    """The last line counts the tests; a part that fails is shown whole."""
+
+    def run_gate(self, proofs, *tests):
+        """The exit code and the lines of a gate of these parts."""
+        written = io.StringIO()
+        with contextlib.redirect_stdout(written), patch.object(gate, "CALLS", []), \
+                patch.object(gate, "CALLERS", part("callers", "5 passed, 0 failed")):
+            code = gate.run_gate(proofs, list(tests), {"text/one"})
+        return code, written.getvalue().splitlines()
+
+    def test_all_passes(self):
+        code, lines = self.run_gate(part("proofs", "3 passed, 0 failed"),
+                                    part("one", "detail\nseed 7\n2 passed, 0 failed"))
+        self.assertEqual((code, lines[-1]), (0, "10 passed, 0 failed"))
+        self.assertIn("seed 7", lines)
+        self.assertNotIn("detail", lines)
+
+    def test_quick_proofs(self):
+        code, lines = self.run_gate(part("proofs", "rt: ok, 48 crates proved", least=48))
+        self.assertEqual((code, lines[-1]), (0, "53 passed, 0 failed"))
+
+    def test_part_fails(self):
+        for each in (part("one", "detail\n1 passed, 1 failed", 1), part("one", "detail\nno tally"),
+                     part("one", "detail\n2 passed, 0 failed", least=3),
+                     part("one", "detail\n2 passed, 0 failed", 1)):
+            code, lines = self.run_gate(part("proofs", "3 passed, 0 failed"), each)
+            self.assertEqual((code, lines[-1].endswith(" 1 failed")), (1, True), lines)
+            self.assertIn("detail", lines)
+
+    def test_proofs_fail(self):
+        code, lines = self.run_gate(part("proofs", "2 passed, 1 failed", 1), part("one", "detail"))
+        self.assertEqual((code, lines[-1]), (1, "2 passed, 1 failed"))
+
+    def test_part_cannot_be_started(self):
+        code, lines = self.run_gate(gate.Part("proofs", ["/nowhere/rt", "ci"], 1))
+        self.assertEqual((code, lines[-1]), (1, "0 passed, 1 failed"))
+
+    def test_interrupted(self):
+        with tempfile.TemporaryDirectory() as folder:
+            number = Path(folder, "number")
+            started = subprocess.Popen([sys.executable, "-c", LONG_RUN, str(number)], cwd=ROOT,
+                                       stdout=subprocess.DEVNULL)
+            until = time.monotonic() + MOST_SECONDS
+            while time.monotonic() < until and not (number.is_file() and number.read_text()):
+                time.sleep(0.05)
+            time.sleep(1)
+            started.send_signal(signal.SIGINT)
+            self.assertEqual(started.wait(MOST_SECONDS), gate.INTERRUPTED)
+            with self.assertRaises(ProcessLookupError):
+                os.kill(int(number.read_text()), 0)
+
+
+class Progress(unittest.TestCase):
+    """What is read off the lines of `rt`, and what is shown."""
+
+    def work(self):
+        """Work of which some is done."""
+        edits = {"text/one", "text/two", "text/three", "text/four"}
+        work = Work({"text", "field", "book", "look", "report"}, edits, ["proofs", "one", "two"])
+        work.read(PRINTED.splitlines())
+        return work
+
+    def test_read(self):
+        work = self.work()
+        self.assertEqual(work.proved, {"text": 12, "field": 0, "book": 7, "look": 0})
+        self.assertEqual(work.tried, {"text/one": 8, "text/two": 9, "text/three": 0})
+        self.assertEqual(work.unchanged, {"field"})
+        self.assertEqual(list(work.bad), ["book", "look", "text/two", "text/three", "report"])
+
+    def test_words(self):
+        words = self.work().words(["one", "two"])
+        for each in ("0:00 so far", "crates 4 of 5, edits 3 of 4", "FAILED book, look",
+                     "part 2 and 3 of 3: one; two"):
+            self.assertIn(each, words)
+
+    def test_seconds_left(self):
+        # Done are 36 seconds of work in 18; left: an edit of 12, a crate and two tests of 9.5.
+        self.assertEqual(self.work().seconds_left(18), (12 + 3 * 9.5) / 2)
+        self.assertEqual(Work({"text"}, (), ["proofs"]).seconds_left(0), 5)
+
+    def test_slowest(self):
+        work = self.work()
+        work.ended = {f"part {seconds}": seconds for seconds in range(20)}
+        lines = list(work.slowest())
+        self.assertEqual((lines[:2], lines[10]), (["slowest parts:", "    19 s  part 19"],
+                                                  "    10 s  part 10"))
+        self.assertEqual(lines[-3:], ["slowest must-fail edits:", "     9 s  text/two",
+                                      "     8 s  text/one"])
+
+    def test_line_elsewhere(self):
+        shown = io.StringIO()
+        with patch("sys.stderr", io.StringIO()), patch("sys.stdout", io.StringIO()):
+            line = Line(shown)
+        line.show(lambda: "too early")
+        line.due = time.monotonic()
+        line.show(lambda: "due")
+        line.show(lambda: "too early")
+        line.clear()
+        self.assertEqual(shown.getvalue(), "due\n")
+
+    def test_crates(self):
+        self.assertEqual(crates_needed("front"), {"field", "book", "front"})
+        self.assertLess(crates_needed("boundary"), set(crates_listed()))
+
+
+if __name__ == "__main__":
+    sys.exit(run_unit_tests(sys.modules["__main__"]))

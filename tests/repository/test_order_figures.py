@@ -1,0 +1,195 @@
+"""Holds every number of the promises and trial figures against the list of the order's figures.
+
+tests/repository/order_figures.tsv says for each number which paper and section has it, and in which definition
+of the specifications it stands. A promise may stay provable with a weaker number; here that differs
+from the list. The test also changes each number in memory and looks whether it notices.
+"""
+
+import argparse
+import re
+import sys
+from collections import defaultdict
+from typing import NamedTuple
+
+from tests import ROOT
+from tests.support.report import Report
+
+LIST = ROOT / "tests" / "order_figures.tsv"
+# Steps of the code, as docs/REVIEW.md names them: no caller depends on these.
+STEPS = {
+    "arith/specs/Fractions", "book/specs/Reading", "cell/specs/States", "conversion/specs/Steps",
+    "expenses/specs/Usable", "funds/specs/Reckoned", "projection/specs/Added", "rows/specs/Puts",
+    "rows/specs/Rows", "settling/specs/Settling", "totals/specs/Sums", "variation/specs/Ranked",
+    "walks/specs/Five", "walks/specs/Tables", "walks/specs/Walked", "year_report/specs/Tables",
+    "years/specs/Outcome",
+}
+
+# What is no part of a definition, and levels of types; both are blanked, so that places stay.
+NOT_READ = re.compile(r"(?<!\S)--.*|^(?:use|pub mod|infix\w*|module) .*"
+                      r"|\bType \d+|\bUnit \{\d+\}", re.M)
+# A definition, a record of statements or fields, and a field of one.
+BEGINNING = re.compile(r"^ *(?:(?:abbrev|unfoldable) )+(?:pub )?(?P<name>\S+) :"
+                       r"|^pub (?P<plain>\S+) :"
+                       r"|^pub record (?P<record>[^\s:(){}]+)"
+                       r"|^  pub (?P<field>\S+) :", re.M)
+EDGE = r"[\s(){};,]"
+NUMBER = re.compile(rf"(?:(?<={EDGE})|^)\d[\d_]*(?={EDGE}|$)")
+ANY_DIGITS = re.compile(r"(?<![\w′.-])\d[\d_]*")
+
+
+class Definition(NamedTuple):
+    """Where a definition stands in the text of its file; a field of a record is RECORD.FIELD."""
+
+    name: str
+    start: int
+    end: int
+
+    def numbers(self, text):
+        """Its numbers in their order."""
+        return [int(found[0]) for found in NUMBER.finditer(text, self.start, self.end)]
+
+    def is_statement(self):
+        """Whether it is a field of a record."""
+        return "." in self.name
+
+
+def read_text(spec):
+    """The text of a specification, with all that is not read blanked."""
+    text = (ROOT / "crates" / f"{spec}.antt").read_text(encoding="utf-8")
+    return NOT_READ.sub(lambda found: " " * len(found[0]), text)
+
+
+def definitions(text):
+    """The definitions of a text by name; a record's head is one too."""
+    found, record = [], ""
+    for each in BEGINNING.finditer(text):
+        name = each["name"] or each["plain"] or each["record"] or f"{record}.{each['field']}"
+        record = each["record"] or (record if each["field"] else "")
+        found.append((name, each.start()))
+    ends = [start for _, start in found[1:]] + [len(text)]
+    return {name: Definition(name, start, end) for (name, start), end in zip(found, ends)}
+
+
+class Row(NamedTuple):
+    """A row of the list."""
+
+    paper: str
+    section: str
+    figure: str
+    specification: str
+    definition: str
+    numbers: str
+
+
+def read_list():
+    """The rows of the list."""
+    lines = LIST.read_text(encoding="utf-8").splitlines()
+    rows = [Row(*line.split("\t")) for line in lines if not line.startswith("#")]
+    return rows[1:]
+
+
+def numbers_due(rows):
+    """The numbers of the rows, by specification and definition."""
+    due = defaultdict(lambda: defaultdict(list))
+    for row in rows:
+        due[row.specification][row.definition] += map(int, row.numbers.split())
+    return due
+
+
+def must_be_listed(definition, numbers):
+    """Every number of a statement, and of a definition with a number above 1."""
+    return bool(numbers) and (definition.is_statement() or max(numbers) > 1)
+
+
+def differences(text, due):
+    """What differs between a specification and the list: the definition, its numbers, those due."""
+    there = definitions(text)
+    for name, definition in there.items():
+        numbers = definition.numbers(text)
+        if (name in due or must_be_listed(definition, numbers)) and numbers != due.get(name):
+            yield name, numbers, due.get(name)
+    for name in due.keys() - there.keys():
+        yield name, None, due[name]
+
+
+def changed_numbers(text, due):
+    """The text with one number of the listed definitions one higher, for each number."""
+    for name, definition in definitions(text).items():
+        if name not in due:
+            continue
+        for found in ANY_DIGITS.finditer(text, definition.start, definition.end):
+            yield name, text[:found.start()] + str(int(found[0]) + 1) + text[found.end():]
+
+
+def specifications():
+    """All that there are, each as CRATE/specs/FILE."""
+    paths = sorted((ROOT / "crates").glob("*/specs/*.antt"))
+    return [f"{path.parent.parent.name}/specs/{path.stem}" for path in paths]
+
+
+def test_specification(report, spec, due):
+    """Its numbers are those of the list, and each change is noticed; how many were tried."""
+    text = read_text(spec)
+    wrong = [f"{name} has {numbers}, due are {numbers_listed}"
+             for name, numbers, numbers_listed in differences(text, due)]
+    inside = sum(len(each.numbers(text)) for each in definitions(text).values())
+    if inside != len(ANY_DIGITS.findall(text)):
+        wrong.append("a number stands in no definition")
+    changes = list(changed_numbers(text, due))
+    # A change of a number that is wrong already may put it right.
+    for name, changed in changes if not wrong else ():
+        if name not in [each for each, _, _ in differences(changed, due)]:
+            wrong.append(f"a change in {name} is not noticed")
+    if due or wrong:
+        report.test(f"numbers of {spec}: {len(changes)}", not wrong, "; ".join(wrong))
+    return len(changes)
+
+
+def moved_rows(rows, spec, name, numbers):
+    """The rows of a definition of this name and these numbers that another specification had."""
+    for other, due in numbers_due(rows).items():
+        if other != spec and due.get(name) == numbers:
+            return [row._replace(specification=spec) for row in rows
+                    if (row.specification, row.definition) == (other, name)]
+    return []
+
+
+def print_unlisted(rows, due):
+    """Rows for what differs from the list: those of a definition that was moved, or empty ones."""
+    found = {spec: read_text(spec) for spec in specifications() if spec not in STEPS}
+    gone = {name for spec, listed in due.items()
+            for name in listed.keys() - definitions(found.get(spec, "")).keys()}
+    for spec, text in found.items():
+        differing = [name for name, _, _ in differences(text, due[spec])]
+        for name, definition in definitions(text).items():
+            numbers = definition.numbers(text)
+            known = moved_rows(rows, spec, name, numbers) if name in gone else []
+            if numbers and name in differing:
+                known = known or [Row("", "", "", spec, name, " ".join(map(str, numbers)))]
+            for row in known:
+                print(*row, sep="\t")
+
+
+def main():
+    """One test for each specification, and for the list as a whole."""
+    parser = argparse.ArgumentParser(description=__doc__)
+    parser.add_argument("--unlisted", action="store_true",
+                        help="print rows for what differs from the list")
+    rows = read_list()
+    due = numbers_due(rows)
+    if parser.parse_args().unlisted:
+        print_unlisted(rows, due)
+        return 0
+    report = Report()
+    found = specifications()
+    tried = sum(test_specification(report, spec, due[spec]) for spec in found if spec not in STEPS)
+    report.covers("every step of the code is there", STEPS, found)
+    listed = {row.specification for row in rows}
+    report.covers("every specification of the list is there", listed, found)
+    numbers = sum(len(row.numbers.split()) for row in rows)
+    report.test(f"each of the {numbers} numbers was changed", tried == numbers > 0, f"{tried} were")
+    return report.finish()
+
+
+if __name__ == "__main__":
+    sys.exit(main())
