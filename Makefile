@@ -35,25 +35,25 @@ test: ## prove everything from nothing, try every must-fail edit and run the out
 quick: ## for daily work: prove what has changed and run the outside tests; no must-fail edits
 	@exec python3 -m tests.gate quick
 
-check: target/bin/listing ## say the verdict on a book in words: make check BOOK=path
+check: target/bin/listing_main ## say the verdict on a book in words: make check BOOK=path
 	@python3 -m tools.say_verdict "$$BOOK_PATH"
 
-list: target/bin/listing ## write the listing of a book: make list BOOK=path
+list: target/bin/listing_main ## write the listing of a book: make list BOOK=path
 	@$(or $(if $(value BOOK),:),echo "no BOOK=path is given: this is the sample $(SAMPLE)" >&2)
-	@target/bin/listing < "$$BOOK_PATH" > target/listing.text
+	@target/bin/listing_main < "$$BOOK_PATH" > target/listing.text
 	@cat target/listing.text && ! grep -q '^refused' target/listing.text
 
-report: target/bin/report ## write the year report of a book in a setting: make report BOOK=path SETTING=0
-	@target/bin/report "$$SETTING_WORD" < "$$BOOK_PATH"
+report: target/bin/year_report_main ## write the year report of a book in a setting: make report BOOK=path SETTING=0
+	@target/bin/year_report_main "$$SETTING_WORD" < "$$BOOK_PATH"
 
-convert: target/bin/convert ## turn a book of age basis 2 into basis 1: make convert BOOK=path OUT=path
-	@target/bin/convert < "$$BOOK_PATH" > "$$OUT_PATH" && test -s "$$OUT_PATH" || { rm -f "$$OUT_PATH"; exit 1; }
+convert: target/bin/age_basis_main ## turn a book of age basis 2 into basis 1: make convert BOOK=path OUT=path
+	@target/bin/age_basis_main < "$$BOOK_PATH" > "$$OUT_PATH" && test -s "$$OUT_PATH" || { rm -f "$$OUT_PATH"; exit 1; }
 
 practice: export OUT_PATH := $(if $(value OUT),$(value OUT),target/practice.book)
 practice: lib ## write the practice book of a start number: make practice START=1 OUT=path
 	@PYTHONPATH=python python3 -m xaropinto practice "$$START_WORD" -o "$$OUT_PATH"
 
-fuzz: target/bin/test_check target/bin/listing lib ## hold programs and calls against Python: make fuzz N=2000 SEED=1
+fuzz: target/bin/test_check target/bin/listing_main lib ## hold programs and calls against Python: make fuzz N=2000 SEED=1
 	@python3 -m tests.gate fuzz --number $(N) --seed $(SEED)
 
 streams: ## write the test programs' streams anew
@@ -68,18 +68,18 @@ samples: ## write the sample books, their listings and their reports anew
 
 lib: ## prove the C boundary and put its archive and shared library under target/lib
 	@rm -rf target/lib.new && mkdir -p target/lib target/lib.new
-	@python3 -m tools.prove staticlib boundary target/lib.new/build.log
-	@cp target/staticlib/libboundary.a target/lib.new/libxaropinto.a
+	@python3 -m tools.prove staticlib c_api target/lib.new/build.log
+	@cp target/staticlib/libc_api.a target/lib.new/libxaropinto.a
 	@$(CC) -shared -Wl,-soname,$(SHARED) -o target/lib.new/$(SHARED) \
 		-Wl,--whole-archive target/lib.new/libxaropinto.a -Wl,--no-whole-archive
 	@ln -s $(SHARED) target/lib.new/libxaropinto.so
 	@cp target/lib.new/$(SHARED) target/lib.new/beside && mv -f target/lib.new/beside python/xaropinto/libxaropinto.so
 	@mv -f target/lib.new/* target/lib/
 
-install: lib target/bin/listing target/bin/report target/bin/convert ## install under PREFIX, /usr/local unless told, below DESTDIR
+install: lib target/bin/listing_main target/bin/year_report_main target/bin/age_basis_main ## install under PREFIX, /usr/local unless told, below DESTDIR
 	@sh packaging/install.sh "$(DESTDIR)$(PREFIX)" $(SHARED) $(VERSION)
 
-dist: lib target/bin/listing target/bin/report target/bin/convert ## an archive for machines without the toolchain, under target/dist
+dist: lib target/bin/listing_main target/bin/year_report_main target/bin/age_basis_main ## an archive for machines without the toolchain, under target/dist
 	@rm -rf target/dist && sh packaging/install.sh target/dist/$(DIST) $(SHARED) $(VERSION)
 	@tar -C target/dist -czf target/dist/$(DIST).tar.gz $(DIST)
 	@echo target/dist/$(DIST).tar.gz
@@ -99,6 +99,6 @@ clean: ## remove all that was built; the next run proves everything again
 	@find . -name __pycache__ -not -path './.git/*' -prune -exec rm -rf {} +
 
 # A program is proved before it is built; where nothing has changed since, that takes a moment.
-target/bin/test_check target/bin/listing target/bin/report target/bin/convert: target/bin/%: FORCE
+target/bin/test_check target/bin/listing_main target/bin/year_report_main target/bin/age_basis_main: target/bin/%: FORCE
 	@[ -f $@ ] || echo "proving and building $*: the first time takes some minutes" >&2
 	@python3 -m tools.prove check $* target/check-$*.log

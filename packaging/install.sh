@@ -10,9 +10,9 @@ install -m 644 target/lib/libxaropinto.a "$to/lib/"
 install -m 755 "target/lib/$shared" "$to/lib/"
 ln -sf "$shared" "$to/lib/libxaropinto.so"
 sed "s/@VERSION@/$version/" packaging/xaropinto.pc.in > "$to/lib/pkgconfig/xaropinto.pc"
-for program in listing report convert; do
-    install -m 755 "target/bin/$program" "$to/bin/xaropinto-$program"
-done
+install -m 755 target/bin/listing_main "$to/bin/xaropinto-listing"
+install -m 755 target/bin/year_report_main "$to/bin/xaropinto-report"
+install -m 755 target/bin/age_basis_main "$to/bin/xaropinto-convert"
 install -m 755 packaging/xaropinto "$to/bin/"
 install -m 644 packaging/xaropinto.1 "$to/share/man/man1/"
 install -m 644 python/xaropinto/*.py python/xaropinto/refusals.tsv python/xaropinto/py.typed "$package/"

@@ -70,10 +70,10 @@ def files():
 def copies():
     """What the proofs of the programs run them on: a sample, and what comes of it; its report in another setting."""
     name, book, _ = SAMPLES[0]
-    listed = {"crates/listing/stdin": book, "crates/listing/stdout": files()[f"{name}.listing"]}
-    reported = {"crates/report/stdin": book, "crates/report/args": f"{REPORTED_SETTING}\n".encode("ascii"),
-                "crates/report/stdout": report_page(book, REPORTED_SETTING)}
-    converted = {"crates/convert/stdin": on_basis_2(worked_book()), "crates/convert/stdout": worked_book()}
+    listed = {"crates/listing_main/stdin": book, "crates/listing_main/stdout": files()[f"{name}.listing"]}
+    reported = {"crates/year_report_main/stdin": book, "crates/year_report_main/args": f"{REPORTED_SETTING}\n".encode("ascii"),
+                "crates/year_report_main/stdout": report_page(book, REPORTED_SETTING)}
+    converted = {"crates/age_basis_main/stdin": on_basis_2(worked_book()), "crates/age_basis_main/stdout": worked_book()}
     return listed | reported | converted
 
 

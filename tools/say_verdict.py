@@ -13,7 +13,7 @@ from xaropinto.messages import explain  # noqa: E402
 
 def verdict_of(book):
     """The verdict line of a book, out of what the listing program says of it."""
-    written, code = run_program("listing", book)
+    written, code = run_program("listing_main", book)
     lines = written.decode("ascii").splitlines()
     if code == 0 and len(lines) == 1 and lines[0].startswith("refused "):
         return lines[0]

@@ -123,7 +123,7 @@ def test_listings(report, library):
         out = bytearray(LONGEST_BOOK)
         library.practice(start, out)
         try:
-            written, code = run_program("listing", bytes(out))
+            written, code = run_program("listing_main", bytes(out))
         except ProgramFailed as trouble:
             written, code = str(trouble).encode(), 1
         report.test(f"the listing of start number {start}",

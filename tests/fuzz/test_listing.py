@@ -131,7 +131,7 @@ class Tally:
     def found_listing(self, number, book):
         """The program's listing and its exit code; an input that it cannot end on is kept."""
         try:
-            return run_program("listing", book)
+            return run_program("listing_main", book)
         except ProgramFailed as trouble:
             path = keep_book(book, "listing", self.seed, number)
             raise ProgramFailed(f"{path}: {trouble}") from trouble
@@ -182,7 +182,7 @@ def main():
     wanted = read_arguments(__doc__, DEFAULT_BOOKS, DEFAULT_SEED)
     report, tally = Report(), Tally(wanted.seed)
     try:
-        program_path("listing")
+        program_path("listing_main")
         for number, book in enumerate(random_inputs(wanted.count, wanted.seed)):
             if number % INPUTS_A_LINE == 0 and number != 0:
                 print(f"{number} inputs, {tally.differing} differ", flush=True)

@@ -30,7 +30,7 @@ class Conversions(unittest.TestCase):
 
     def hold(self, sent, written, told=b""):
         """The program writes just this."""
-        self.assertEqual(run_with_errors("convert", sent), (written, told, 0))
+        self.assertEqual(run_with_errors("age_basis_main", sent), (written, told, 0))
 
     def test_sample_becomes_the_worked_example(self):
         self.hold((SAMPLES / "newer_basis.book").read_bytes(), (SAMPLES / "worked_example.book").read_bytes())
@@ -58,14 +58,14 @@ class Input(unittest.TestCase):
     def test_largest_book_is_taken_whole(self):
         older = full_book(random.Random(121), shuffle=True)
         newer = on_basis_2(older)
-        self.assertEqual(run_with_errors("convert", newer), (older, b"", 0))
+        self.assertEqual(run_with_errors("age_basis_main", newer), (older, b"", 0))
         pieces = cut(newer, 7, 1_219, 4_096, LONGEST_BOOK - 1)
-        self.assertEqual(run_in_pieces(pieces, "convert"), (older, 0))
+        self.assertEqual(run_in_pieces(pieces, "age_basis_main"), (older, 0))
 
     def test_41877_bytes_are_taken_and_no_more(self):
         book = on_basis_2(full_book(random.Random(121)))
         for more in (1, 100_000):
-            self.assertEqual(run_with_errors("convert", book + bytes(more)), (b"", b"refused 5 41877\n", 0))
+            self.assertEqual(run_with_errors("age_basis_main", book + bytes(more)), (b"", b"refused 5 41877\n", 0))
 
 
 class Shown(unittest.TestCase):

@@ -27,7 +27,7 @@ def send(pipe, piece):
     time.sleep(PAUSE_SECONDS)
 
 
-def run_in_pieces(pieces, program="listing"):
+def run_in_pieces(pieces, program="listing_main"):
     """What the program writes and the exit code where the input comes piece by piece."""
     with subprocess.Popen([program_path(program)], stdin=subprocess.PIPE,
                           stdout=subprocess.PIPE) as run:
@@ -50,7 +50,7 @@ class Listings(unittest.TestCase):
 
     def hold(self, sent, due):
         """The program writes just this."""
-        self.assertEqual(run_program("listing", sent), (due, 0))
+        self.assertEqual(run_program("listing_main", sent), (due, 0))
 
     def test_paper_listing(self):
         self.hold(one_record_book(), PAPER_LISTING)
@@ -76,7 +76,7 @@ class Input(unittest.TestCase):
     def test_largest_book_is_taken_whole(self):
         book = full_book(random.Random(1_694), shuffle=True)
         self.assertEqual(len(book), 41_876)
-        self.assertEqual(run_program("listing", book), (listing(book), 0))
+        self.assertEqual(run_program("listing_main", book), (listing(book), 0))
         pieces = cut(book, 7, 1_219, 4_096, LONGEST_BOOK - 1)
         self.assertEqual(run_in_pieces(pieces), (listing(book), 0))
 
@@ -84,7 +84,7 @@ class Input(unittest.TestCase):
         book = full_book(random.Random(1_694))
         for more in (1, 2, 100_000):
             sent = book + bytes(more)
-            self.assertEqual(run_program("listing", sent), (b"refused 5 41877\n", 0))
+            self.assertEqual(run_program("listing_main", sent), (b"refused 5 41877\n", 0))
             pieces = cut(sent, 7, LONGEST_BOOK)
             self.assertEqual(run_in_pieces(pieces), (b"refused 5 41877\n", 0))
 
@@ -103,7 +103,7 @@ class Samples(unittest.TestCase):
         self.assertTrue(books)
         for path in books:
             due = path.with_suffix(".listing").read_bytes()
-            self.assertEqual(run_program("listing", path.read_bytes()), (due, 0), path.name)
+            self.assertEqual(run_program("listing_main", path.read_bytes()), (due, 0), path.name)
 
 
 if __name__ == "__main__":

@@ -19,7 +19,7 @@ class Words(unittest.TestCase):
 
     def hold(self, words, due, book=one_record_book()):
         """The program writes just this, and its exit code is 0 for a refusal too."""
-        self.assertEqual(run_program("report", book, *words), (due, 0), words)
+        self.assertEqual(run_program("year_report_main", book, *words), (due, 0), words)
 
     def test_no_word_is_the_base(self):
         self.hold([], report_page(one_record_book(), 0))
@@ -47,19 +47,19 @@ class Input(unittest.TestCase):
     """How much is taken."""
 
     def test_no_records_give_zeros(self):
-        page, code = run_program("report", empty_book())
+        page, code = run_program("year_report_main", empty_book())
         self.assertEqual((page, code), (report_page(empty_book(), 0), 0))
         self.assertEqual(len(page), 2_225)
 
     def test_refused_books_t11_t12(self):
-        self.assertEqual(run_program("report", bytes(1_220)), (b"refused 2 0\n", 0))
-        self.assertEqual(run_program("report", bytes(1_219)), (b"refused 1 1219\n", 0))
+        self.assertEqual(run_program("year_report_main", bytes(1_220)), (b"refused 2 0\n", 0))
+        self.assertEqual(run_program("year_report_main", bytes(1_219)), (b"refused 1 1219\n", 0))
 
     def test_41877_bytes_are_taken_and_no_more(self):
         book = full_book(random.Random(1_694), shuffle=True)
-        self.assertEqual(run_program("report", book, "3"), (report_page(book, 3), 0))
+        self.assertEqual(run_program("year_report_main", book, "3"), (report_page(book, 3), 0))
         for more in (1, 2, 100_000):
-            self.assertEqual(run_program("report", book + bytes(more)), (b"refused 5 41877\n", 0))
+            self.assertEqual(run_program("year_report_main", book + bytes(more)), (b"refused 5 41877\n", 0))
 
 
 class Samples(unittest.TestCase):
@@ -70,7 +70,7 @@ class Samples(unittest.TestCase):
         self.assertTrue(books)
         for path in books:
             due = path.with_suffix(".report").read_bytes()
-            self.assertEqual(run_program("report", path.read_bytes()), (due, 0), path.name)
+            self.assertEqual(run_program("year_report_main", path.read_bytes()), (due, 0), path.name)
 
 
 if __name__ == "__main__":

@@ -14,14 +14,14 @@ from typing import NamedTuple
 from tests import ROOT
 from tests.support.report import Report
 
-LIST = ROOT / "tests" / "order_figures.tsv"
+LIST = ROOT / "tests" / "repository" / "order_figures.tsv"
 # Steps of the code, as docs/REVIEW.md names them: no caller depends on these.
 STEPS = {
-    "arith/specs/Fractions", "book/specs/Reading", "cell/specs/States", "conversion/specs/Steps",
-    "expenses/specs/Usable", "funds/specs/Reckoned", "projection/specs/Added", "rows/specs/Puts",
-    "rows/specs/Rows", "settling/specs/Settling", "totals/specs/Sums", "variation/specs/Ranked",
-    "walks/specs/Five", "walks/specs/Tables", "walks/specs/Walked", "year_report/specs/Tables",
-    "years/specs/Outcome",
+    "arith/specs/Fractions", "book/specs/Reading", "cell/specs/States", "age_basis/specs/Steps",
+    "cost_rate_shares/specs/Usable", "funds/specs/Reckoned", "group_projection/specs/Added", "rate_table/specs/Puts",
+    "rate_table/specs/Rows", "cash_flow/specs/Settling", "totals/specs/Sums", "claims_estimates/specs/Ranked",
+    "cell_projection/specs/Five", "cell_projection/specs/Tables", "cell_projection/specs/Walked", "year_report/specs/Tables",
+    "present_value/specs/Outcome",
 }
 
 # What is no part of a definition, and levels of types; both are blanked, so that places stay.

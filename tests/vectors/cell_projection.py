@@ -163,4 +163,4 @@ def cover(report, entries):
 
 
 if __name__ == "__main__":
-    sys.exit(run_verbs(__doc__, "test_walk", build, cover))
+    sys.exit(run_verbs(__doc__, "test_cell_projection", build, cover))

@@ -126,4 +126,4 @@ def cover_refused(report, entries):
 
 
 if __name__ == "__main__":
-    sys.exit(run_verbs(__doc__, "test_look", build, cover))
+    sys.exit(run_verbs(__doc__, "test_record_view", build, cover))

@@ -1,20 +1,19 @@
 -- Laws of n. Assumes nothing.
 use mathlib.Core.Path.{_≡_, refl}
 use mathlib.Core.List.{List}
-use mathlib.Core.Bool.{Bool, true, false}
+use mathlib.Core.Bool.{Bool, true, false, cond}
 use Prim.Native.Nat.{ℕ, zero, suc, _<_, _≤_}
 use native.Mathlib.Omega.{arith}
 use borrow.Author.Tests.{ne-eqb}
 use lib.Dec.{eqb}
-use Rattle.field.specs.Verdicts.{pick}
 use Rattle.book.specs.Layout.{fieldOf, countOffset}
 use Rattle.book.specs.Cells.{holds, heldFrom, sumOf, heldOfGroup, heldInAll}
 
-pub holds-some : (b : List ℕ) (i : ℕ) → 0 < i → holds b i ≡ pick (eqb (fieldOf b i countOffset) 0) 0 1
+pub holds-some : (b : List ℕ) (i : ℕ) → 0 < i → holds b i ≡ cond (eqb (fieldOf b i countOffset) 0) 0 1
 unfolding holds
 holds-some b i h = rw (ne-eqb i 0 (λ z. absurd (omega arith)))
 
-pick-one : (t u : Bool) → pick t 0 (pick u 0 1) ≤ 1
+pick-one : (t u : Bool) → cond t 0 (cond u 0 1) ≤ 1
 pick-one true u = omega arith
 pick-one false true = omega arith
 pick-one false false = omega arith

@@ -1,17 +1,17 @@
 -- Laws of the check of a chain: one record, one step, and how much is counted. Assumes nothing.
 use mathlib.Core.Path.{_≡_, _∙_}
 use mathlib.Core.List.{List}
-use mathlib.Core.Bool.{Bool, true, false}
+use mathlib.Core.Bool.{Bool, true, false, cond}
 use Prim.Native.Nat.{ℕ, zero, suc, _+_, _-_, _<_, _≤_, zero-le}
 use native.Mathlib.Nat.{pos-of-ne-zero, le-trans}
 use native.Mathlib.Numerals.{add-one}
 use native.Mathlib.Omega.{arith}
 use borrow.Author.Tests.{leb-true, eqb-false, ne-eqb, not-true}
 use lib.Dec.{leb, eqb}
-use Rattle.field.specs.Verdicts.{pick, _andThen_, need, plus, countOf}
-use Rattle.field.specs.declared.Verdict.{Verdict}
-use Rattle.field.specs.declared.Verdict.the-variants.{Accepted, Refused}
-use Rattle.field.proofs.Verdicts.{plus-plus, plus-count, then-count, need-true, then-left, then-right, accepted}
+use Rattle.verdict.specs.Verdicts.{_andThen_, need, plus, countOf}
+use Rattle.verdict.specs.declared.Verdict.{Verdict}
+use Rattle.verdict.specs.declared.Verdict.the-variants.{Accepted, Refused}
+use Rattle.verdict.proofs.Verdicts.{plus-plus, plus-count, then-count, need-true, then-left, then-right, accepted}
 use Rattle.book.specs.Layout.{lowestClass, records, headPlace, headOf, recordAt, classOf, nextOf}
 use Rattle.book.specs.Check.{checkOwner, checkClass, checkAmounts, endsRight, checkLink, checkFrom, checkChain}
 use Rattle.book.specs.Cells.{holds}
@@ -73,7 +73,7 @@ module _ (b : List ℕ) (last k : ℕ) where
         let t : endsRight left (nextOf b i) ≡ true = link-ends in
         pos-of-ne-zero (eqb-false _ _ (not-true _ (rw (ne-eqb left 0 (λ z. absurd (omega arith))) at t)))
 
-pick-count : (t : Bool) (v : Verdict) (n : ℕ) → countOf v ≤ n → countOf (pick t (Accepted 0) v) ≤ n
+pick-count : (t : Bool) (v : Verdict) (n : ℕ) → countOf v ≤ n → countOf (cond t (Accepted 0) v) ≤ n
 pick-count true v n h = zero-le
 pick-count false v n h = h
 

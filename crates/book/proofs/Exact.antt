@@ -3,18 +3,18 @@
 use mathlib.Core.Path.{_≡_, refl, sym}
 use mathlib.Core.Logic.{⊎-elim}
 use mathlib.Core.List.{List}
-use mathlib.Core.Bool.{Bool, true, false}
+use mathlib.Core.Bool.{Bool, true, false, cond}
 use Prim.Native.Nat.{ℕ, zero, suc, _+_, _-_, _<_, _≤_, zero-le}
 use native.Mathlib.Nat.{pos-of-ne-zero, add-zero, eq-or-lt-of-le}
 use native.Mathlib.Omega.{arith}
 use borrow.Author.Tests.{le-leb, eq-eqb, ne-eqb, eqb-true, eqb-false}
 use lib.Dec.{leb, eqb}
 use lib.ListN.{length}
-use Rattle.field.specs.Verdicts.{pick, _andThen_, need, joinAll}
-use Rattle.field.specs.declared.Verdict.{Verdict}
-use Rattle.field.specs.declared.Verdict.the-variants.{Accepted}
-use Rattle.field.proofs.Verdicts.{need-good, then-good}
-use Rattle.field.proofs.Ranges.{within-good, field-good, fields-good}
+use Rattle.verdict.specs.Verdicts.{_andThen_, need, joinAll}
+use Rattle.verdict.specs.declared.Verdict.{Verdict}
+use Rattle.verdict.specs.declared.Verdict.the-variants.{Accepted}
+use Rattle.verdict.proofs.Verdicts.{need-good, then-good}
+use Rattle.le_bytes.proofs.Ranges.{within-good, field-good, fields-good}
 use Rattle.book.specs.Layout.{headerSize, lastClass, lowestClass, edition, chains, records, headPlace, headOf, recordAt, classOf, nextOf, fieldOf, linkFrom, linkAt}
 use Rattle.book.specs.Check.{checkSpare, checkPercents, checkByEdition, checkHeader, checkTables, checkOwner, checkClass, checkAmounts, endsRight, checkLink, checkFrom, checkChain, checkChains, checkBook}
 use Rattle.book.specs.Cells.{heldFrom, heldIn, sumOf, heldInAll}
@@ -180,7 +180,7 @@ module _ (b : List ℕ) (last k : ℕ) where
   chain-good c = by-head (eqb (headOf b k) 0) refl
     where
       by-head : (t : Bool) → eqb (headOf b k) 0 ≡ t
-          → pick t (Accepted 0) (need (leb (headOf b k) (records b)) 9 (headPlace k) andThen checkFrom b last k (last - classOf b (headOf b k)) (headOf b k))
+          → cond t (Accepted 0) (need (leb (headOf b k) (records b)) 9 (headPlace k) andThen checkFrom b last k (last - classOf b (headOf b k)) (headOf b k))
           ≡ Accepted (heldFrom b (headOf b k) (last + 1))
       by-head true e = let none : headOf b k ≡ 0 = eqb-true _ _ e in rw (none, held-none b (last + 1))
       by-head false e =

@@ -2,16 +2,16 @@
 -- Assumes nothing.
 use mathlib.Core.Path.{_≡_, refl}
 use mathlib.Core.List.{List}
-use mathlib.Core.Bool.{Bool, true, false}
+use mathlib.Core.Bool.{Bool, true, false, cond}
 use Prim.Native.Nat.{ℕ, zero, suc, _+_, zero-le}
 use native.Mathlib.Omega.{arith}
 use borrow.Author.Tests.{le-leb}
 use lib.Dec.{T, leb, eqb}
-use Rattle.field.specs.Bytes.{byteAt}
-use Rattle.field.specs.Verdicts.{pick, need, _andThen_, plus, join, joinAll, countOf, refusalOf}
-use Rattle.field.specs.Fields.{checkField, checkFields}
-use Rattle.field.specs.declared.Verdict.{Verdict}
-use Rattle.field.specs.declared.Verdict.the-variants.{Accepted, Refused}
+use Rattle.le_bytes.specs.Bytes.{byteAt}
+use Rattle.verdict.specs.Verdicts.{need, _andThen_, plus, join, joinAll, countOf, refusalOf}
+use Rattle.le_bytes.specs.Fields.{checkField, checkFields}
+use Rattle.verdict.specs.declared.Verdict.{Verdict}
+use Rattle.verdict.specs.declared.Verdict.the-variants.{Accepted, Refused}
 use Rattle.book.specs.Layout.{lastClass, lowestClass, edition, headOf, nextOf}
 use Rattle.book.specs.Cells.{holds}
 use Rattle.book.specs.Check.{checkSpare, checkPercents, checkByEdition, checkHeader, checkTables, checkOwner, checkClass, checkAmounts, checkLink, checkFrom, checkChain, checkChains, checkBook}
@@ -19,7 +19,7 @@ use Rattle.book.specs.Check.{checkSpare, checkPercents, checkByEdition, 
 -- a number from 1 to 13, or 23; 21 only where some class is below the lowest
 abbrev listed : ℕ → ℕ → Bool
 listed last q =
-    pick (pick (leb 1 q) (leb q 13) false) true (pick (eqb q 23) true (pick (eqb q 21) (leb 1 (lowestClass last)) false))
+    cond (cond (leb 1 q) (leb q 13) false) true (cond (eqb q 23) true (cond (eqb q 21) (leb 1 (lowestClass last)) false))
 
 -- accepted, or refused with such a number
 abbrev pub Numbered : ℕ → Verdict → Type 0
@@ -54,7 +54,7 @@ module _ (last : ℕ) where
       → Numbered last (w andThen need ok q p)
   by-test ok q p l w h = by-then w (need ok q p) h (by-need ok q p l)
 
-  by-pick : (t : Bool) (v w : Verdict) → Numbered last v → Numbered last w → Numbered last (pick t v w)
+  by-pick : (t : Bool) (v w : Verdict) → Numbered last v → Numbered last w → Numbered last (cond t v w)
   by-pick true v w hv hw = hv
   by-pick false v w hv hw = hw
 

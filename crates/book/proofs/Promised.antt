@@ -2,7 +2,7 @@
 use mathlib.Core.Path.{_≡_}
 use mathlib.Core.List.{List}
 use Prim.Native.Nat.{ℕ}
-use Rattle.field.specs.declared.Verdict.{Verdict}
+use Rattle.verdict.specs.declared.Verdict.{Verdict}
 use Rattle.book.specs.Check.{checkBook}
 use Rattle.book.specs.Promises.{CheckPromised}
 use Rattle.book.proofs.Exact.{accepted-rules, rules-accepted, accepted-held}

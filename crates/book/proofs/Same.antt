@@ -4,7 +4,7 @@ use mathlib.Core.Path.{_≡_}
 use mathlib.Core.List.{List}
 use Prim.Native.Nat.{ℕ, _+_, _-_, _<_, _≤_}
 use native.Mathlib.Omega.{arith}
-use Rattle.field.proofs.Same.{Same, u16-same, u32-same}
+use Rattle.le_bytes.proofs.Same.{Same, u16-same, u32-same}
 use Rattle.book.specs.Layout.{headerSize, recordSize, chains, records, headPlace, headOf, recordAt, sexOf, classOf, nextOf, fieldOf, linkAt}
 use Rattle.book.specs.Check.{checkSpare, checkPercents, checkByEdition, checkHeader}
 use Rattle.book.specs.Rules.{SameButUnlinked}

@@ -4,9 +4,9 @@ use mathlib.Core.List.{List}
 use Prim.Native.Nat.{ℕ}
 use native.Mathlib.Omega.{arith}
 use lib.ListN.{length, replicate}
-use Rattle.field.specs.Verdicts.{_andThen_, need}
-use Rattle.field.specs.Fields.{within}
-use Rattle.field.specs.declared.Verdict.the-variants.{Refused}
+use Rattle.verdict.specs.Verdicts.{_andThen_, need}
+use Rattle.le_bytes.specs.Fields.{within}
+use Rattle.verdict.specs.declared.Verdict.the-variants.{Refused}
 use Rattle.book.specs.Check.{checkHeader, checkBook}
 use Rattle.book.proofs.Whole.{book-short}
 

@@ -1,18 +1,18 @@
 -- Bytes of unlinked records have no effect: two books that differ in nothing else have the same verdict. Assumes nothing.
 use mathlib.Core.Path.{_≡_, refl, _∙_}
 use mathlib.Core.List.{List}
-use mathlib.Core.Bool.{Bool, true, false}
+use mathlib.Core.Bool.{Bool, true, false, cond}
 use Prim.Native.Nat.{ℕ, zero, suc, _+_, _-_, _<_}
 use native.Mathlib.Nat.{pos-of-ne-zero}
 use native.Mathlib.Omega.{arith}
 use borrow.Author.Tests.{eqb-true, eqb-false, ne-eqb}
 use lib.Dec.{leb, eqb}
 use lib.ListN.{length}
-use Rattle.field.specs.Verdicts.{pick, _andThen_, need, plus, refusalOf, placeOf}
-use Rattle.field.specs.declared.Verdict.{Verdict}
-use Rattle.field.specs.declared.Verdict.the-variants.{Accepted, Refused}
-use Rattle.field.proofs.Verdicts.{all-same}
-use Rattle.field.proofs.Same.{u16-same, field-same, fields-same}
+use Rattle.verdict.specs.Verdicts.{_andThen_, need, plus, refusalOf, placeOf}
+use Rattle.verdict.specs.declared.Verdict.{Verdict}
+use Rattle.verdict.specs.declared.Verdict.the-variants.{Accepted, Refused}
+use Rattle.verdict.proofs.Verdicts.{all-same}
+use Rattle.le_bytes.proofs.Same.{u16-same, field-same, fields-same}
 use Rattle.book.specs.Layout.{lastClass, chains, records, headPlace, headOf, costPlace, curvePlace, mortalityPlace, mostRate, curveLift, curveSpan, recordAt, classOf, nextOf, linkFrom, linkAt}
 use Rattle.book.specs.Check.{checkTables, checkOwner, checkClass, checkAmounts, endsRight, checkLink, checkFrom, checkChain, checkChains, checkBook}
 use Rattle.book.specs.Cells.{holds}
@@ -100,7 +100,7 @@ module _ (b b′ : List ℕ) (last k : ℕ) (count : records b ≡ records b′)
       chain : List ℕ → Verdict
       chain c = need (leb (headOf b k) (records c)) 9 (headPlace k) andThen checkFrom c last k (last - classOf c (headOf b k)) (headOf b k)
 
-      by-head : (t : Bool) → eqb (headOf b k) 0 ≡ t → pick t (Accepted 0) (chain b) ≡ pick t (Accepted 0) (chain b′)
+      by-head : (t : Bool) → eqb (headOf b k) 0 ≡ t → cond t (Accepted 0) (chain b) ≡ cond t (Accepted 0) (chain b′)
       by-head true e = refl
       by-head false e =
           let some : 0 < headOf b k = pos-of-ne-zero (eqb-false _ _ e) in

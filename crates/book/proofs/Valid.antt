@@ -7,9 +7,9 @@ use native.Mathlib.Numerals.{add-one}
 use native.Mathlib.Omega.{arith}
 use lib.ListN.{length}
 use borrow.Author.Tests.{leb-true, eqb-true, eq-eqb, ne-eqb}
-use Rattle.field.specs.declared.Verdict.the-variants.{Accepted}
-use Rattle.field.proofs.Verdicts.{need-true, then-left, then-right, plus-right, all-each}
-use Rattle.field.proofs.Ranges.{within-means, field-bound, fields-bound}
+use Rattle.verdict.specs.declared.Verdict.the-variants.{Accepted}
+use Rattle.verdict.proofs.Verdicts.{need-true, then-left, then-right, plus-right, all-each}
+use Rattle.le_bytes.proofs.Ranges.{within-means, field-bound, fields-bound}
 use Rattle.book.specs.Layout.{lastClass, lowestClass, edition, records, spareBytes, percentAt, mostPercent, chains, headOf, classOf, nextOf, fieldOf, mostRate, curveLift, curveSpan, costPlace, curvePlace, mortalityPlace}
 use Rattle.book.specs.Check.{checkSpare, checkPercents, checkByEdition, checkHeader, checkTables, checkOwner, checkClass, checkAmounts, endsRight, checkLink, checkFrom, checkChain, checkChains, checkBook}
 use Rattle.book.specs.Rules.{HeaderRules, TableRules, RecordRules}

@@ -5,10 +5,10 @@ use Prim.Native.Nat.{ℕ, _<_, _≤_}
 use native.Mathlib.Omega.{arith}
 use borrow.Author.Tests.{leb-true, eqb-true, le-leb, lt-leb}
 use lib.ListN.{length}
-use Rattle.field.specs.Verdicts.{_andThen_, need}
-use Rattle.field.specs.declared.Verdict.{Verdict}
-use Rattle.field.specs.declared.Verdict.the-variants.{Accepted, Refused}
-use Rattle.field.proofs.Verdicts.{need-true, then-left, then-right}
+use Rattle.verdict.specs.Verdicts.{_andThen_, need}
+use Rattle.verdict.specs.declared.Verdict.{Verdict}
+use Rattle.verdict.specs.declared.Verdict.the-variants.{Accepted, Refused}
+use Rattle.verdict.proofs.Verdicts.{need-true, then-left, then-right}
 use Rattle.book.specs.Layout.{headerSize, mostSize, lastClass}
 use Rattle.book.specs.Check.{checkHeader, checkTables, checkChains, checkBook}
 use Rattle.book.specs.Reading.{Sized}

@@ -1,13 +1,13 @@
 -- n is document 01's term: how many linked records hold contracts, that is, have a count that is not 0.
+use mathlib.Core.Bool.{cond}
 use Prim.Native.Nat.{ℕ, zero, suc, _+_, _*_}
 use mathlib.Core.List.{List}
 use lib.Dec.{eqb}
-use Rattle.field.specs.Verdicts.{pick}
 use Rattle.book.specs.Layout.{chains, headOf, fieldOf, countOffset, after}
 
 -- 1 where record i holds contracts; 0 where its count is 0, and for no record
 unfoldable pub holds : List ℕ → ℕ → ℕ
-holds b i = pick (eqb i 0) 0 (pick (eqb (fieldOf b i countOffset) 0) 0 1)
+holds b i = cond (eqb i 0) 0 (cond (eqb (fieldOf b i countOffset) 0) 0 1)
 
 -- of the first m records along the chain from record i
 unfoldable pub heldFrom : List ℕ → ℕ → ℕ → ℕ
@@ -25,10 +25,10 @@ sumOf f k (suc left) = f k + sumOf f (k + 1) left
 
 -- Product group g, 1 to 5: PG1 has the chains of codes 1, 2 and 3, each later group those of one code.
 abbrev pub firstChain : ℕ → ℕ
-firstChain g = pick (eqb g 1) 0 (2 * g + 2)
+firstChain g = cond (eqb g 1) 0 (2 * g + 2)
 
 abbrev pub chainsOf : ℕ → ℕ
-chainsOf g = pick (eqb g 1) 6 2
+chainsOf g = cond (eqb g 1) 6 2
 
 -- n of product group g
 unfoldable pub heldOfGroup : List ℕ → ℕ → ℕ → ℕ

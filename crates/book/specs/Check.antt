@@ -2,14 +2,14 @@
 -- basis is the age basis that the book must have, last its last class, lowest its lowest.
 use Prim.Native.Nat.{ℕ, zero, suc, _+_, _-_, _*_}
 use mathlib.Core.List.{List}
-use mathlib.Core.Bool.{Bool, not}
+use mathlib.Core.Bool.{Bool, not, cond}
 use lib.ListN.{length}
 use lib.Dec.{leb, eqb}
-use Rattle.field.specs.Bytes.{byteAt, readU16}
-use Rattle.field.specs.Verdicts.{pick, need, _andThen_, plus, joinAll}
-use Rattle.field.specs.Fields.{within, checkField, checkFields}
-use Rattle.field.specs.declared.Verdict.{Verdict}
-use Rattle.field.specs.declared.Verdict.the-variants.{Accepted}
+use Rattle.le_bytes.specs.Bytes.{byteAt, readU16}
+use Rattle.verdict.specs.Verdicts.{need, _andThen_, plus, joinAll}
+use Rattle.le_bytes.specs.Fields.{within, checkField, checkFields}
+use Rattle.verdict.specs.declared.Verdict.{Verdict}
+use Rattle.verdict.specs.declared.Verdict.the-variants.{Accepted}
 use Rattle.book.specs.Layout.{headerSize, recordSize, mostRecords, lastClass, lowestClass, edition, ageBasis, sstYear, firstYear, lastYear, records, spareBytes, percentPlace, percentAt, mostPercent, chains, chainCode, chainSex, headPlace, headOf, costPlace, curvePlace, mortalityPlace, mostRate, curveLift, curveSpan, recordAt, classOf, nextOf, countOffset, lapseOffset, premiumOffset, claimsOffset, mostCount, mostAmount}
 use Rattle.book.specs.Cells.{holds}
 
@@ -25,7 +25,7 @@ checkPercents b =
 
 -- bytes 6 and 7, as the edition has them
 unfoldable pub checkByEdition : List ℕ → Verdict
-checkByEdition b = pick (eqb (edition b) 2) (checkPercents b) (checkSpare b)
+checkByEdition b = cond (eqb (edition b) 2) (checkPercents b) (checkSpare b)
 
 -- 2 neither edition, 3 age basis, 4 year and N, 4 or 23 bytes 6 and 7, 5 the length that N asks for. size is the length
 -- of the book that begins with these bytes.
@@ -70,7 +70,7 @@ checkAmounts b at =
 
 -- a chain ends where no class is left, and nowhere else
 unfoldable pub endsRight : ℕ → ℕ → Bool
-endsRight left next = pick (eqb left 0) (eqb next 0) (not (eqb next 0))
+endsRight left next = cond (eqb left 0) (eqb next 0) (not (eqb next 0))
 
 -- record i of chain k, with left classes above its own: 10, 21, 11, 12, 13 for its end, then 9 for its next
 unfoldable pub checkLink : List ℕ → ℕ → ℕ → ℕ → ℕ → Verdict
@@ -92,7 +92,7 @@ checkFrom b last k (suc left) i =
 -- is left, and it is 11.
 unfoldable pub checkChain : List ℕ → ℕ → ℕ → Verdict
 checkChain b last k =
-    pick (eqb (headOf b k) 0) (Accepted 0)
+    cond (eqb (headOf b k) 0) (Accepted 0)
     (need (leb (headOf b k) (records b)) 9 (headPlace k) andThen
     checkFrom b last k (last - classOf b (headOf b k)) (headOf b k))
 

@@ -1,10 +1,10 @@
 -- Where everything stands in a book, and the ranges of its fields. Places and sizes are in bytes; records are numbered from 1.
 -- Book is document 01's term for the input file of a valuation: an insurer's contracts and the tables of one SST year.
+use mathlib.Core.Bool.{cond}
 use Prim.Native.Nat.{ℕ, zero, suc, _+_, _-_, _*_, _/_, _%_}
 use mathlib.Core.List.{List}
 use lib.Dec.{eqb}
-use Rattle.field.specs.Bytes.{byteAt, readU16, readU32}
-use Rattle.field.specs.Verdicts.{pick}
+use Rattle.le_bytes.specs.Bytes.{byteAt, readU16, readU32}
 
 -- sizes: what stands before the first record, and a record
 abbrev pub headerSize : ℕ
@@ -146,7 +146,7 @@ mostAmount = 10000000
 
 -- the record after record i; after the end (0) there is none
 abbrev pub after : List ℕ → ℕ → ℕ
-after b i = pick (eqb i 0) 0 (nextOf b i)
+after b i = cond (eqb i 0) 0 (nextOf b i)
 
 -- the record j steps along the chain from record i, 0 past the chain's end
 unfoldable pub linkFrom : List ℕ → ℕ → ℕ → ℕ

@@ -2,8 +2,8 @@
 use mathlib.Core.Path.{_≡_}
 use mathlib.Core.List.{List}
 use Prim.Native.Nat.{ℕ}
-use Rattle.field.specs.Verdicts.{refusalOf, countOf}
-use Rattle.field.specs.declared.Verdict.{Verdict}
+use Rattle.verdict.specs.Verdicts.{refusalOf, countOf}
+use Rattle.verdict.specs.declared.Verdict.{Verdict}
 use Rattle.book.specs.Layout.{lastClass}
 use Rattle.book.specs.Cells.{heldInAll}
 use Rattle.book.specs.Check.{checkBook}

@@ -3,8 +3,8 @@ use Prim.Native.Nat.{ℕ, _+_, _*_, _<_, _≤_}
 use mathlib.Core.Path.{_≡_}
 use mathlib.Core.List.{List}
 use lib.ListN.{length}
-use Rattle.field.specs.Bytes.{byteAt, readU16, readU32}
-use Rattle.field.specs.Fields.{raised}
+use Rattle.le_bytes.specs.Bytes.{byteAt, readU16, readU32}
+use Rattle.le_bytes.specs.Fields.{raised}
 use Rattle.book.specs.Layout.{headerSize, recordSize, mostRecords, lastClass, lowestClass, edition, ageBasis, sstYear, firstYear, lastYear, records, spareBytes, percentAt, mostPercent, chains, chainCode, chainSex, headOf, costPlace, curvePlace, mortalityPlace, mostRate, curveLift, curveSpan, recordAt, codeOf, sexOf, classOf, nextOf, fieldOf, countOffset, lapseOffset, premiumOffset, claimsOffset, mostCount, mostAmount, linkAt}
 
 pub record HeaderRules (basis : ℕ) (b : List ℕ) : Type 0 where

@@ -7,7 +7,7 @@ ghost use Rattle.book.specs.Layout.{headerSize, lastClass, lowestClass, 
 ghost use Rattle.book.specs.Cells.{holds};
 ghost use Rattle.book.specs.Check.{checkAmounts};
 ghost use Rattle.book.specs.Reading.{Inside};
-use field::Verdict;
+use verdict::Verdict;
 
 pub const HEADER_SIZE: usize = 1220;
 
@@ -81,7 +81,7 @@ pub fn edition(b: &[u8]) -> usize
     requires { ⌜ headerSize ≤ length (now b) ⌝ }
     ensures { λ r. ⌜ (r ≡ edition (now (b .entry))) × (r < 256) ⌝ }
 {
-    field::read_u8(b, 0)
+    le_bytes::read_u8(b, 0)
 }
 
 // The percentage that edition 2 has for a sex: 0 men, 1 women.
@@ -89,7 +89,7 @@ pub fn percent_at(b: &[u8], sex: usize) -> usize
     requires { ⌜ (sex ≤ 1) × (headerSize ≤ length (now b)) ⌝ }
     ensures { λ r. ⌜ (r ≡ percentAt (now (b .entry)) sex) × (r < 256) ⌝ }
 {
-    field::read_u8(b, PERCENT_PLACE + sex)
+    le_bytes::read_u8(b, PERCENT_PLACE + sex)
 }
 
 // N, the number of records.
@@ -97,7 +97,7 @@ pub fn records(b: &[u8]) -> usize
     requires { ⌜ headerSize ≤ length (now b) ⌝ }
     ensures { λ r. ⌜ (r ≡ records (now (b .entry))) × (r < 65536) ⌝ }
 {
-    field::read_u16(b, 4)
+    le_bytes::read_u16(b, 4)
 }
 
 // The first record of chain k, 0 where it is empty.
@@ -105,7 +105,7 @@ pub fn head_of(b: &[u8], k: usize) -> usize
     requires { ⌜ (k < 14) × (headerSize ≤ length (now b)) ⌝ }
     ensures { λ r. ⌜ (r ≡ headOf (now (b .entry)) k) × (r < 65536) ⌝ }
 {
-    field::read_u16(b, HEADS_PLACE + 2 * k)
+    le_bytes::read_u16(b, HEADS_PLACE + 2 * k)
 }
 
 // Where record i starts.
@@ -121,7 +121,7 @@ pub fn class_of(b: &[u8], i: usize) -> usize
     requires { ⌜ Inside (now b) i ⌝ }
     ensures { λ r. ⌜ (r ≡ classOf (now (b .entry)) i) × (r < 256) ⌝ }
 {
-    field::read_u8(b, record_at(i) + 2)
+    le_bytes::read_u8(b, record_at(i) + 2)
 }
 
 // The record that follows record i in its chain, 0 where the chain ends.
@@ -129,7 +129,7 @@ pub fn next_of(b: &[u8], i: usize) -> usize
     requires { ⌜ Inside (now b) i ⌝ }
     ensures { λ r. ⌜ (r ≡ nextOf (now (b .entry)) i) × (r < 65536) ⌝ }
 {
-    field::read_u16(b, record_at(i) + 4)
+    le_bytes::read_u16(b, record_at(i) + 4)
 }
 
 // Record i's four-byte field at an offset.
@@ -137,7 +137,7 @@ pub fn field_of(b: &[u8], i: usize, offset: usize) -> u64
     requires { ⌜ Inside (now b) i × (offset ≤ 20) ⌝ }
     ensures { λ r. ⌜ (r ≡ fieldOf (now (b .entry)) i offset) × (r < 4294967296) ⌝ }
 {
-    field::read_u32(b, record_at(i) + offset)
+    le_bytes::read_u32(b, record_at(i) + offset)
 }
 
 // 1 where record i holds contracts, else 0.
@@ -154,10 +154,10 @@ pub fn check_amounts(b: &[u8], at: usize) -> Verdict
     requires { ⌜ at + 24 ≤ length (now b) ⌝ }
     ensures { λ r. ⌜ r ≡ checkAmounts (now (b .entry)) at ⌝ }
 {
-    let count = field::check_field(b, 12, 0, MOST_COUNT, at + COUNT_OFFSET);
-    let lapse = field::check_field(b, 12, 0, MOST_RATE, at + LAPSE_OFFSET);
-    let premium = field::check_field(b, 12, 0, MOST_AMOUNT, at + PREMIUM_OFFSET);
-    let claims = field::check_field(b, 12, 0, MOST_AMOUNT, at + CLAIMS_OFFSET);
+    let count = le_bytes::check_field(b, 12, 0, MOST_COUNT, at + COUNT_OFFSET);
+    let lapse = le_bytes::check_field(b, 12, 0, MOST_RATE, at + LAPSE_OFFSET);
+    let premium = le_bytes::check_field(b, 12, 0, MOST_AMOUNT, at + PREMIUM_OFFSET);
+    let claims = le_bytes::check_field(b, 12, 0, MOST_AMOUNT, at + CLAIMS_OFFSET);
     count.and_then(lapse).and_then(premium).and_then(claims)
 }
 

@@ -13,12 +13,12 @@ use Rattle.settings.specs.Settings.{weightOf, mortalityWeight, decrementsOf, mo
 use Rattle.settings.proofs.Laws.{each-setting}
 use Rattle.settings.proofs.Held.{living-low, staying-low}
 use Rattle.settings.specs.declared.Decrements.{Decrements}
-use Rattle.reckoning.specs.Arithmetic.{rounded}
-use Rattle.reckoning.specs.Steps.{inForce, cellPremium, cellClaims}
-use Rattle.reckoning.specs.Portfolio.{mortalityOf, oneLess, onward, rowAt, cellOf}
-use Rattle.reckoning.proofs.Rows.{row-standing}
-use Rattle.rows.specs.Rows.{rate, rateOf, RowReady, RowOf, RowsOf}
-use Rattle.rows.proofs.Order.{row-ordered}
+use Rattle.valuation.specs.Arithmetic.{rounded}
+use Rattle.valuation.specs.Steps.{inForce, cellPremium, cellClaims}
+use Rattle.valuation.specs.Portfolio.{mortalityOf, oneLess, onward, rowAt, cellOf}
+use Rattle.valuation.proofs.Rows.{row-standing}
+use Rattle.rate_table.specs.Rows.{rate, rateOf, RowReady, RowOf, RowsOf}
+use Rattle.rate_table.proofs.Order.{row-ordered}
 use Rattle.cell.specs.States.{cellIn, Walkable, premiumBy, claimsBy, premiumAt, claimsAt}
 use Rattle.cell.proofs.Cells.{share-le}
 

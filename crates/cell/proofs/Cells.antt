@@ -9,9 +9,9 @@ use native.Mathlib.Omega.{arith}
 use Rattle.settings.specs.Settings.{livingColumn, stayingColumn, columnsOf, livesIn, staysIn}
 use Rattle.settings.specs.declared.Columns.{Columns}
 use Rattle.settings.proofs.Held.{living-low, staying-low, lives-is, stays-is}
-use Rattle.reckoning.specs.Arithmetic.{rounded}
-use Rattle.reckoning.specs.Steps.{inForce, cellPremium, cellClaims}
-use Rattle.rows.specs.Rows.{rate, RowReady}
+use Rattle.valuation.specs.Arithmetic.{rounded}
+use Rattle.valuation.specs.Steps.{inForce, cellPremium, cellClaims}
+use Rattle.rate_table.specs.Rows.{rate, RowReady}
 use Rattle.cell.specs.declared.Cell.{Cell}
 use Rattle.cell.specs.States.{cellIn, Walkable, Ready, nextBy, nextYear, stateIn, premiumIn, claimsIn, premiumBy, claimsBy}
 

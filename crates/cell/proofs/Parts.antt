@@ -8,7 +8,7 @@ use native.Mathlib.Omega.{arith}
 use lib.ListN.{getD}
 use Rattle.arith.specs.Fractions.{nearTop}
 use Rattle.arith.proofs.Division.{part-sure, part-short, part-below}
-use Rattle.rows.specs.Rows.{RowReady}
+use Rattle.rate_table.specs.Rows.{RowReady}
 use Rattle.cell.specs.States.{ShareAt, shareOf}
 
 module _ (t : List ℕ) (at : ℕ) (share : ShareAt t at) (x q : ℕ) (few : x ≤ 100000000000000) (upper : q ≡ x * getD t at 0 / 18446744073709551616) where

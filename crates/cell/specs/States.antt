@@ -6,11 +6,11 @@ use lib.ListN.{getD}
 use Rattle.arith.specs.Fractions.{Fraction}
 use Rattle.settings.specs.Settings.{livingColumn, stayingColumn}
 use Rattle.settings.specs.declared.Decrements.{Decrements}
-use Rattle.reckoning.specs.Arithmetic.{rounded}
-use Rattle.reckoning.specs.Steps as steps
-use Rattle.reckoning.specs.Steps.{inForce, cellPremium, cellClaims}
-use Rattle.reckoning.specs.Portfolio.{cellOf}
-use Rattle.rows.specs.Rows.{rate, RowReady, RowOrdered}
+use Rattle.valuation.specs.Arithmetic.{rounded}
+use Rattle.valuation.specs.Steps as steps
+use Rattle.valuation.specs.Steps.{inForce, cellPremium, cellClaims}
+use Rattle.valuation.specs.Portfolio.{cellOf}
+use Rattle.rate_table.specs.Rows.{rate, RowReady, RowOrdered}
 use Rattle.cell.specs.declared.Cell.{Cell}
 
 -- the cell that starts at row r of the table t with n contracts, in a setting: in year k it has reached row r + k

@@ -9,12 +9,12 @@ use borrow.Author.Tests.{lt-leb}
 use lib.IntN.{ℤ, pos}
 use lib.ListN.{length, getD, take, drop, length-drop, take-append-drop, List·getD-append}
 use lib.Seq.{length-take-le, take-at, drop-at, take-add, drop-drop, getD-drop}
-use Rattle.field.specs.Verdicts.{need, _andThen_}
-use Rattle.field.specs.declared.Verdict.{Verdict}
-use Rattle.field.specs.declared.Verdict.the-variants.{Accepted, Refused}
+use Rattle.verdict.specs.Verdicts.{need, _andThen_}
+use Rattle.verdict.specs.declared.Verdict.{Verdict}
+use Rattle.verdict.specs.declared.Verdict.the-variants.{Accepted, Refused}
 use Rattle.book.specs.Check.{checkBook}
-use Rattle.reckoning.specs.Totals.{totalsOf, totalsFor, totalsReply}
-use Rattle.text.proofs.Laws.{le-or-lt}
+use Rattle.valuation.specs.Totals.{totalsOf, totalsFor, totalsReply}
+use Rattle.buffer.proofs.Laws.{le-or-lt}
 use Rattle.funds.specs.Funds.{joinedBook, checkLent, fundReply, halfFor, fundHalf, fundsReply, firstHalf, secondHalf, fundsNumbers, FirstApart, SecondApart}
 use Rattle.funds.specs.Reckoned.{FundReckoned}
 use Rattle.funds.specs.declared.FundsReply.{FundsReply}

@@ -2,18 +2,18 @@
 -- joined book. Assumes nothing.
 use mathlib.Core.Path.{_≡_, refl, sym, ap, _∙_}
 use mathlib.Core.List.{List, _++_}
-use mathlib.Core.Bool.{Bool, true, false}
+use mathlib.Core.Bool.{Bool, true, false, cond}
 use Prim.Native.Nat.{ℕ, _+_, _-_, _<_, _≤_}
 use native.Mathlib.Omega.{arith}
 use borrow.Author.Tests.{leb-true, eqb-true, le-leb, lt-leb, eq-eqb, ne-eqb}
 use lib.Dec.{leb, eqb}
 use lib.ListN.{length, take, drop, length-append, length-drop, List·getD-append}
 use lib.Seq.{length-take-le, getD-take, take-all, take-at}
-use Rattle.field.specs.Verdicts.{pick, need, _andThen_, countOf}
-use Rattle.field.specs.declared.Verdict.{Verdict}
-use Rattle.field.specs.declared.Verdict.the-variants.{Accepted, Refused}
-use Rattle.field.proofs.Verdicts.{need-true, then-left, then-right, Told, told-need, told-then}
-use Rattle.field.proofs.Same.{Same}
+use Rattle.verdict.specs.Verdicts.{need, _andThen_, countOf}
+use Rattle.verdict.specs.declared.Verdict.{Verdict}
+use Rattle.verdict.specs.declared.Verdict.the-variants.{Accepted, Refused}
+use Rattle.verdict.proofs.Verdicts.{need-true, then-left, then-right, Told, told-need, told-then}
+use Rattle.le_bytes.proofs.Same.{Same}
 use Rattle.book.specs.Layout.{mostSize, lastClass}
 use Rattle.book.specs.Cells.{heldInAll}
 use Rattle.book.specs.Check.{checkHeader, checkBook}
@@ -22,10 +22,10 @@ use Rattle.book.proofs.Whole.{book-long}
 use Rattle.book.proofs.Valid.{valid}
 use Rattle.book.proofs.Numbers.{zero-accepted}
 use Rattle.book.proofs.Exact.{accepted-held}
-use Rattle.reckoning.specs.Totals.{totalsOf, differencesOf, totalsFor, totalsReply}
-use Rattle.reckoning.specs.declared.TotalsReply.{TotalsReply}
-use Rattle.text.specs.Text.{Wrote}
-use Rattle.text.proofs.Laws.{from-start, kept}
+use Rattle.valuation.specs.Totals.{totalsOf, differencesOf, totalsFor, totalsReply}
+use Rattle.valuation.specs.declared.TotalsReply.{TotalsReply}
+use Rattle.buffer.specs.Text.{Wrote}
+use Rattle.buffer.proofs.Laws.{from-start, kept}
 use Rattle.funds.specs.Funds.{frontSize, tableSize, joinedBook, verdictIn, checkLent, fundReply}
 
 -- a refusal is no acceptance
@@ -83,7 +83,7 @@ pub told-accepted : (reply : TotalsReply) (n : ℕ) → verdictIn reply ≡ Acce
 told-accepted reply n = by (eqb (reply .refusal) 0) refl
   where
     by : (t : Bool) → eqb (reply .refusal) 0 ≡ t
-        → pick t (Accepted (reply .n)) (Refused (reply .refusal) (reply .place)) ≡ Accepted n
+        → cond t (Accepted (reply .n)) (Refused (reply .refusal) (reply .place)) ≡ Accepted n
         → (reply .refusal ≡ 0) × (reply .n ≡ n)
     by true e a = (eqb-true _ _ e, ap countOf a)
     by false e a = absurd (never-accepted a)

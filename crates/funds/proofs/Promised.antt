@@ -5,14 +5,14 @@ use mathlib.Core.List.{List}
 use Prim.Native.Nat.{ℕ, _+_, _<_, _≤_}
 use lib.IntN.{ℤ, pos}
 use lib.ListN.{length, getD}
-use Rattle.field.specs.Verdicts.{refusalOf, countOf}
-use Rattle.field.specs.declared.Verdict.the-variants.{Accepted}
-use Rattle.field.proofs.Verdicts.{then-left, then-right, Told}
-use Rattle.reckoning.specs.Portfolio.{NoRateBelowZero}
-use Rattle.reckoning.specs.Bounds.{Within}
-use Rattle.reckoning.specs.Promises.{totalDistanceOf, halfTotalDistanceOf}
-use Rattle.reckoning.specs.Totals.{exactTotalOf, totalsReply}
-use Rattle.reckoning.proofs.Total.{totals-promised}
+use Rattle.verdict.specs.Verdicts.{refusalOf, countOf}
+use Rattle.verdict.specs.declared.Verdict.the-variants.{Accepted}
+use Rattle.verdict.proofs.Verdicts.{then-left, then-right, Told}
+use Rattle.valuation.specs.Portfolio.{NoRateBelowZero}
+use Rattle.valuation.specs.Bounds.{Within}
+use Rattle.valuation.specs.Promises.{totalDistanceOf, halfTotalDistanceOf}
+use Rattle.valuation.specs.Totals.{exactTotalOf, totalsReply}
+use Rattle.valuation.proofs.Total.{totals-promised}
 use Rattle.funds.specs.Funds.{joinedBook, fundReply, fundHalf, fundsReply, firstHalf, secondHalf, fundsNumbers, FundsPromised}
 use Rattle.funds.specs.declared.FundsReply.{FundsReply}
 use Rattle.funds.proofs.Joined.{lent-good, told-accepted, fund-told}

@@ -1,20 +1,21 @@
 -- Two funds on the same tables (W-208): the book that a fund file and the table file make together, each fund's reply
 -- and half, and the lent numbers afterwards. What is said of a joined book is what Totals says of it.
+use mathlib.Core.Bool.{cond}
 use Prim.Native.Nat.{ℕ, _+_, _-_, _<_}
 use mathlib.Core.Path.{_≡_}
 use mathlib.Core.List.{List, _++_}
 use lib.Dec.{leb, eqb}
 use lib.IntN.{ℤ, pos}
 use lib.ListN.{length, getD, take, drop}
-use Rattle.field.specs.Verdicts.{pick, need, _andThen_, refusalOf, countOf}
-use Rattle.field.specs.declared.Verdict.{Verdict}
-use Rattle.field.specs.declared.Verdict.the-variants.{Accepted, Refused}
+use Rattle.verdict.specs.Verdicts.{need, _andThen_, refusalOf, countOf}
+use Rattle.verdict.specs.declared.Verdict.{Verdict}
+use Rattle.verdict.specs.declared.Verdict.the-variants.{Accepted, Refused}
 use Rattle.book.specs.Layout.{headerSize, curvePlace}
-use Rattle.reckoning.specs.Portfolio.{NoRateBelowZero}
-use Rattle.reckoning.specs.Bounds.{Within}
-use Rattle.reckoning.specs.Promises.{totalDistanceOf, halfTotalDistanceOf}
-use Rattle.reckoning.specs.Totals.{exactTotalOf, totalsReply}
-use Rattle.reckoning.specs.declared.TotalsReply.{TotalsReply}
+use Rattle.valuation.specs.Portfolio.{NoRateBelowZero}
+use Rattle.valuation.specs.Bounds.{Within}
+use Rattle.valuation.specs.Promises.{totalDistanceOf, halfTotalDistanceOf}
+use Rattle.valuation.specs.Totals.{exactTotalOf, totalsReply}
+use Rattle.valuation.specs.declared.TotalsReply.{TotalsReply}
 use Rattle.funds.specs.declared.FundsReply.{FundsReply}
 
 -- sizes: what a fund file has before its records, bytes 0 to 55 of a book; and the table file, bytes 56 to 1,219
@@ -30,7 +31,7 @@ joinedBook table fund = take frontSize fund ++ table ++ drop frontSize fund
 
 -- what a reply of Totals tells: n, or the refusal
 abbrev pub verdictIn : TotalsReply → Verdict
-verdictIn reply = pick (eqb (reply .refusal) 0) (Accepted (reply .n)) (Refused (reply .refusal) (reply .place))
+verdictIn reply = cond (eqb (reply .refusal) 0) (Accepted (reply .n)) (Refused (reply .refusal) (reply .place))
 
 -- for both funds, where so many numbers are lent: 16 under 16 of them, 24 a table file of another size
 unfoldable pub checkLent : ℕ → List ℕ → Verdict

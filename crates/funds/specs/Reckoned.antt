@@ -4,7 +4,7 @@ use mathlib.Core.Path.{_≡_}
 use mathlib.Core.List.{List, _++_}
 use lib.IntN.{ℤ}
 use lib.ListN.{length, take, drop}
-use Rattle.field.specs.declared.Verdict.{Verdict}
+use Rattle.verdict.specs.declared.Verdict.{Verdict}
 use Rattle.funds.specs.Funds.{fundReply, fundHalf}
 
 pub record FundReckoned (table fund : List ℕ) (at : ℕ) (before after : List ℤ) (reply : Verdict) : Type 0 where

@@ -6,16 +6,16 @@ ghost use mathlib.Core.List.{_++_};
 ghost use Prim.Native.Nat.{_+_, _≤_};
 ghost use lib.ListN.{length, take, drop};
 ghost use Rattle.book.specs.Layout.{mostSize};
-ghost use Rattle.reckoning.specs.Totals.{TotalsPromised};
-ghost use Rattle.text.specs.Text.{Wrote};
+ghost use Rattle.valuation.specs.Totals.{TotalsPromised};
+ghost use Rattle.buffer.specs.Text.{Wrote};
 ghost use Rattle.funds.specs.Funds.{frontSize, tableSize, joinedBook, checkLent, FundsPromised};
 ghost use Rattle.funds.specs.Reckoned.{FundReckoned};
 use book::CURVE_PLACE;
 use book::HEADER_SIZE;
 use book::MOST_SIZE;
-use field::Verdict;
-use reckoning::TotalsReply;
-use text::put_bytes;
+use buffer::put_bytes;
+use valuation::TotalsReply;
+use verdict::Verdict;
 
 // What a fund file has before its records.
 pub const FRONT_SIZE: usize = CURVE_PLACE;
@@ -73,7 +73,7 @@ fn reckon_fund(table: &[u8], fund: &[u8], numbers: &mut [i64], at: usize) -> Ver
     let size = fund.len() + TABLE_SIZE;
     // No book is so long: its header refuses it, and the fund file begins with the header.
     if MOST_SIZE < size {
-        return front::check_header(fund, size, 1);
+        return book_check_header::check_header(fund, size, 1);
     }
     let reply = joined_totals(table, fund);
     if reply.refusal == 0 {
@@ -88,7 +88,7 @@ fn reckon_fund(table: &[u8], fund: &[u8], numbers: &mut [i64], at: usize) -> Ver
 fn check_lent(count: usize, table: &[u8]) -> Verdict
     ensures { λ r. ⌜ r ≡ checkLent count (now (table .entry)) ⌝ }
 {
-    field::need(16 <= count, 16, 0).require(table.len() == TABLE_SIZE, 24, 0)
+    verdict::need(16 <= count, 16, 0).require(table.len() == TABLE_SIZE, 24, 0)
 }
 
 // The first fund's totals come in numbers 0 to 7, the second's in 8 to 15; a refused fund's stay as they were.

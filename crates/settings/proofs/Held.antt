@@ -1,10 +1,9 @@
 -- Laws of the columns: what is picked for the year k is the column of the year k. Assumes nothing.
 use mathlib.Core.Path.{_≡_, refl}
-use mathlib.Core.Bool.{Bool, true, false, _&&_}
+use mathlib.Core.Bool.{Bool, true, false, _&&_, cond}
 use Prim.Native.Nat.{ℕ, _≤_}
 use native.Mathlib.Omega.{arith}
 use lib.Dec.{ltb, eqb}
-use Rattle.field.specs.Verdicts.{pick}
 use Rattle.settings.specs.Settings.{weightIn, weightOf, sameMortality, livingColumn, stayingColumn, columnsOf, livesIn, staysIn}
 use Rattle.settings.proofs.Laws.{pick-le}
 
@@ -25,9 +24,9 @@ module _ (setting k : ℕ) where
       same t weight = eqb (weightIn t setting 0) weight && eqb (weightIn t setting 1) weight
 
       of : Bool → ℕ
-      of t = pick (same t 10) 0 (pick (same t 12) 1 2)
+      of t = cond (same t 10) 0 (cond (same t 12) 1 2)
 
-      by : (t : Bool) → pick t (of true) (of false) ≡ of t
+      by : (t : Bool) → cond t (of true) (of false) ≡ of t
       by true = refl
       by false = refl
 
@@ -36,8 +35,8 @@ module _ (setting k : ℕ) where
   stays-is = by (ltb k 5)
     where
       of : Bool → ℕ
-      of t = pick (eqb (weightIn t setting 2) 1000) 3 (pick (eqb (weightIn t setting 2) 1300) 4 5)
+      of t = cond (eqb (weightIn t setting 2) 1000) 3 (cond (eqb (weightIn t setting 2) 1300) 4 5)
 
-      by : (t : Bool) → pick t (of true) (of false) ≡ of t
+      by : (t : Bool) → cond t (of true) (of false) ≡ of t
       by true = refl
       by false = refl

@@ -1,17 +1,16 @@
 -- Laws of the weights: their bounds, and what the weights of a year are.
 -- Assumes nothing.
 use mathlib.Core.Path.{_≡_, refl}
-use mathlib.Core.Bool.{Bool, true, false}
+use mathlib.Core.Bool.{Bool, true, false, cond}
 use mathlib.Core.List.{List}
 use Prim.Native.Nat.{ℕ, zero, suc, _*_, _<_, _≤_}
 use native.Mathlib.Nat.{le-refl, mul-le-mul, div-le-of-le-mul}
 use native.Mathlib.Omega.{arith}
 use lib.Dec.{ltb, eqb}
-use Rattle.field.specs.Verdicts.{pick}
 use Rattle.settings.specs.Settings.{baseWeight, shift, weightIn, weightOf, percentOf, mortalityWeight}
 use Rattle.settings.specs.Settings.{decrementsOf, outgoingsOf, mortalityIn, lapseIn, costsIn, claimsIn}
 
-pub pick-le : (t : Bool) {a b : ℕ} (m : ℕ) → a ≤ m → b ≤ m → pick t a b ≤ m
+pub pick-le : (t : Bool) {a b : ℕ} (m : ℕ) → a ≤ m → b ≤ m → cond t a b ≤ m
 pick-le true m p q = p
 pick-le false m p q = q
 
@@ -24,7 +23,7 @@ shift-most setting kind =
     (pick-le (eqb kind 2) 130 (two 3 4 (omega arith) (omega arith))
     (pick-le (eqb kind 3) 130 (two 5 6 (omega arith) (omega arith)) (pick-le (eqb setting 7) 130 (omega arith) (omega arith))))
   where
-    two : (up down : ℕ) {a b : ℕ} → a ≤ 130 → b ≤ 130 → pick (eqb setting up) a (pick (eqb setting down) b 100) ≤ 130
+    two : (up down : ℕ) {a b : ℕ} → a ≤ 130 → b ≤ 130 → cond (eqb setting up) a (cond (eqb setting down) b 100) ≤ 130
     two up down p q = pick-le (eqb setting up) 130 p (pick-le (eqb setting down) 130 q (omega arith))
 
 -- no weight is above 1,300 thousandths
@@ -55,7 +54,7 @@ pub multiple-most : (setting sex k : ℕ) → sex ≤ 1 → weightOf setting sex
 unfolding weightOf
 multiple-most setting sex k h = by-sex sex h
   where
-    shifted : (down : ℕ) → down ≤ 120 → pick (ltb k 5) (pick (eqb setting 1) 120 (pick (eqb setting 2) down 100)) 100 ≤ 120
+    shifted : (down : ℕ) → down ≤ 120 → cond (ltb k 5) (cond (eqb setting 1) 120 (cond (eqb setting 2) down 100)) 100 ≤ 120
     shifted down h =
         pick-le (ltb k 5) 120
         (pick-le (eqb setting 1) 120 (omega arith) (pick-le (eqb setting 2) 120 h (omega arith)))
@@ -67,13 +66,13 @@ multiple-most setting sex k h = by-sex sex h
     by-sex (suc (suc sex)) h = absurd (omega arith)
 
 -- the first five years are as year 0, the later ones as year 5
-weight-by : (setting kind : ℕ) (t : Bool) → pick t (weightOf setting kind 0) (weightOf setting kind 5) ≡ weightIn t setting kind
+weight-by : (setting kind : ℕ) (t : Bool) → cond t (weightOf setting kind 0) (weightOf setting kind 5) ≡ weightIn t setting kind
 unfolding weightOf
 weight-by setting kind true = refl
 weight-by setting kind false = refl
 
 percent-by : (percent setting kind : ℕ) (t : Bool)
-    → pick t (percent * weightOf setting kind 0) (percent * weightOf setting kind 5) ≡ percent * weightIn t setting kind
+    → cond t (percent * weightOf setting kind 0) (percent * weightOf setting kind 5) ≡ percent * weightIn t setting kind
 unfolding weightOf
 percent-by percent setting kind true = refl
 percent-by percent setting kind false = refl

@@ -1,12 +1,11 @@
 -- The weights of the eight settings, in thousandths (paper, section Settings). Assumes nothing.
 -- Setting is document 01's term for a scenario: 0 is the base, 1 to 7 shift one of its weights (FINMA 5.2.2).
 -- Kinds: 0 mortality of men, 1 mortality of women, 2 lapse, 3 costs, 4 claims. A weight of mortality is so much for each percent of it.
-use mathlib.Core.Bool.{Bool, _&&_}
+use mathlib.Core.Bool.{Bool, _&&_, cond}
 use mathlib.Core.List.{List}
 use mathlib.Core.Path.{_≡_}
 use Prim.Native.Nat.{ℕ, _*_, _/_, _<_, _≤_}
 use lib.Dec.{ltb, eqb}
-use Rattle.field.specs.Verdicts.{pick}
 use Rattle.book.specs.Layout.{edition, percentAt}
 use Rattle.settings.specs.declared.Columns.{Columns}
 use Rattle.settings.specs.declared.FiveColumns.{FiveColumns}
@@ -19,19 +18,19 @@ use Rattle.settings.specs.declared.Shifts.{Shifts}
 
 -- the base, setting 0: for mortality ten for each percent
 abbrev pub baseWeight : ℕ → ℕ
-baseWeight kind = pick (ltb kind 2) 10 1000
+baseWeight kind = cond (ltb kind 2) 10 1000
 
 -- what a setting makes of the base weight of a kind, in percent (FINMA 5.2.2)
 abbrev pub shift : ℕ → ℕ → ℕ
 shift setting kind =
-    pick (ltb kind 2) (pick (eqb setting 1) 120 (pick (eqb setting 2) 80 100))
-    (pick (eqb kind 2) (pick (eqb setting 3) 130 (pick (eqb setting 4) 70 100))
-    (pick (eqb kind 3) (pick (eqb setting 5) 120 (pick (eqb setting 6) 80 100))
-    (pick (eqb setting 7) 105 100)))
+    cond (ltb kind 2) (cond (eqb setting 1) 120 (cond (eqb setting 2) 80 100))
+    (cond (eqb kind 2) (cond (eqb setting 3) 130 (cond (eqb setting 4) 70 100))
+    (cond (eqb kind 3) (cond (eqb setting 5) 120 (cond (eqb setting 6) 80 100))
+    (cond (eqb setting 7) 105 100)))
 
 -- a shift of the lapse holds in all years, any other in the first five
 abbrev pub shiftIn : Bool → ℕ → ℕ → ℕ
-shiftIn early setting kind = pick early (shift setting kind) (pick (eqb kind 2) (shift setting kind) 100)
+shiftIn early setting kind = cond early (shift setting kind) (cond (eqb kind 2) (shift setting kind) 100)
 
 -- the weight of a kind, in the first five years or later
 abbrev pub weightIn : Bool → ℕ → ℕ → ℕ
@@ -43,7 +42,7 @@ weightOf setting kind k = weightIn (ltb k 5) setting kind
 
 -- the mortality percentage of a sex, 0 men, 1 women: 87 and 86 (FINMA 4.4.3), unless the book is of edition 2 and carries its own
 unfoldable pub percentOf : List ℕ → ℕ → ℕ
-percentOf b sex = pick (eqb (edition b) 2) (percentAt b sex) (pick (eqb sex 0) 87 86)
+percentOf b sex = cond (eqb (edition b) 2) (percentAt b sex) (cond (eqb sex 0) 87 86)
 
 -- the weight of the mortality of a sex in the year k: ten times its percentage, twelve or eight times where a setting shifts it
 unfoldable pub mortalityWeight : List ℕ → ℕ → ℕ → ℕ → ℕ
@@ -69,23 +68,23 @@ outgoingsOf setting = record { first = outgoAt setting 0; later = outgoAt settin
 -- What is read here for a year is the weight of that year: laws `mortality-is`, `lapse-is`, `costs-is`, `claims-is` (proofs/Laws).
 -- of the weights of a year, that of the mortality of a sex
 abbrev pub ofSex : ℕ → DecrementWeights → ℕ
-ofSex sex w = pick (eqb sex 0) (w .men) (w .women)
+ofSex sex w = cond (eqb sex 0) (w .men) (w .women)
 
 -- the weight of the mortality of a sex in the year k
 abbrev pub mortalityIn : Decrements → ℕ → ℕ → ℕ
-mortalityIn w sex k = pick (ltb k 5) (ofSex sex (w .first)) (ofSex sex (w .later))
+mortalityIn w sex k = cond (ltb k 5) (ofSex sex (w .first)) (ofSex sex (w .later))
 
 -- the weight of the lapse in the year k
 abbrev pub lapseIn : Decrements → ℕ → ℕ
-lapseIn w k = pick (ltb k 5) (w .first .lapse) (w .later .lapse)
+lapseIn w k = cond (ltb k 5) (w .first .lapse) (w .later .lapse)
 
 -- the weight of the costs in the year k
 abbrev pub costsIn : Outgoings → ℕ → ℕ
-costsIn w k = pick (ltb k 5) (w .first .costs) (w .later .costs)
+costsIn w k = cond (ltb k 5) (w .first .costs) (w .later .costs)
 
 -- the weight of the claims in the year k
 abbrev pub claimsIn : Outgoings → ℕ → ℕ
-claimsIn w k = pick (ltb k 5) (w .first .claims) (w .later .claims)
+claimsIn w k = cond (ltb k 5) (w .first .claims) (w .later .claims)
 
 -- w are the weights of mortality and lapse of a setting in year 0, none of them above 1,300 thousandths
 pub record WeightsOf (b : List ℕ) (setting : ℕ) (w : DecrementWeights) : Type 0 where
@@ -116,11 +115,11 @@ sameMortality setting k other =
 
 -- the column of the weights of mortality that hold in year k of a setting: 0 the base's, 1 of more deaths, 2 of fewer
 unfoldable pub livingColumn : ℕ → ℕ → ℕ
-livingColumn setting k = pick (sameMortality setting k 0) 0 (pick (sameMortality setting k 1) 1 2)
+livingColumn setting k = cond (sameMortality setting k 0) 0 (cond (sameMortality setting k 1) 1 2)
 
 -- the column of the weight of the lapse: 3 the base's, 4 of more lapses, 5 of fewer
 unfoldable pub stayingColumn : ℕ → ℕ → ℕ
-stayingColumn setting k = pick (eqb (weightOf setting 2 k) (weightOf 0 2 0)) 3 (pick (eqb (weightOf setting 2 k) (weightOf 3 2 0)) 4 5)
+stayingColumn setting k = cond (eqb (weightOf setting 2 k) (weightOf 0 2 0)) 3 (cond (eqb (weightOf setting 2 k) (weightOf 3 2 0)) 4 5)
 
 -- both for the first five years and for the later ones
 unfoldable pub columnsOf : ℕ → Columns
@@ -132,10 +131,10 @@ columnsOf setting = record {
 }
 
 abbrev pub livesIn : Columns → ℕ → ℕ
-livesIn c k = pick (ltb k 5) (c .firstlives) (c .laterlives)
+livesIn c k = cond (ltb k 5) (c .firstlives) (c .laterlives)
 
 abbrev pub staysIn : Columns → ℕ → ℕ
-staysIn c k = pick (ltb k 5) (c .firststays) (c .laterstays)
+staysIn c k = cond (ltb k 5) (c .firststays) (c .laterstays)
 
 -- those of the five settings that serve all
 unfoldable pub fiveColumns : FiveColumns
@@ -158,10 +157,10 @@ sameColumns c d =
 -- of the five projections, those of the settings 0 to 4, the first that serves a setting: it has the setting's columns
 unfoldable pub projectionOf : ℕ → ℕ
 projectionOf setting =
-    pick (sameColumns (columnsOf setting) (columnsOf 0)) 0
-    (pick (sameColumns (columnsOf setting) (columnsOf 1)) 1
-    (pick (sameColumns (columnsOf setting) (columnsOf 2)) 2
-    (pick (sameColumns (columnsOf setting) (columnsOf 3)) 3 4)))
+    cond (sameColumns (columnsOf setting) (columnsOf 0)) 0
+    (cond (sameColumns (columnsOf setting) (columnsOf 1)) 1
+    (cond (sameColumns (columnsOf setting) (columnsOf 2)) 2
+    (cond (sameColumns (columnsOf setting) (columnsOf 3)) 3 4)))
 
 -- s is the setting of its number
 pub record SettingOf (s : Setting) : Type 0 where

@@ -1,7 +1,7 @@
 // The check on a stream of books: each book follows its length in four bytes, and each verdict is a line.
-use field::Verdict;
 use libc::STDOUT_FILENO;
 use test_stream::Next;
+use verdict::Verdict;
 
 fn write_verdict(v: Verdict) {
     match v {
@@ -29,7 +29,7 @@ fn next_verdict() -> bool {
     if (got as u64) < size {
         return false;
     }
-    write_verdict(acceptance::check(&space[..got]));
+    write_verdict(book_check::check(&space[..got]));
     true
 }
 

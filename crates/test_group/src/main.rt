@@ -5,7 +5,7 @@ ghost use Prim.Native.Nat.{_≤_};
 ghost use lib.ListN.{length};
 use libc::STDIN_FILENO;
 use libc::STDOUT_FILENO;
-use reckoning::GroupReply;
+use valuation::GroupReply;
 
 // What number k of the table holds before the call is this and k.
 const MARK: u64 = 9_000_000_000_000_000_000;
@@ -17,7 +17,7 @@ fn write_number(n: u64) {
 
 fn write_signed(v: i64) {
     let mut line = [0u8; 24];
-    let end = text::put_signed_ended(&mut line, 0, v, 32);
+    let end = buffer::put_signed_ended(&mut line, 0, v, 32);
     io::write_all(STDOUT_FILENO, &line[..end]);
 }
 
@@ -69,7 +69,7 @@ fn write_reply(book: &[u8], setting: usize, group: usize, numbers: &mut [u64])
     requires { ⌜ length (now numbers) ≤ 300 ⌝ }
 {
     mark(numbers);
-    let reply = liability::group(book, setting, group, numbers);
+    let reply = group_liability::group(book, setting, group, numbers);
     match reply {
         GroupReply::Reckoned(liability, n) => {
             io::write_all(STDOUT_FILENO, b"0 0 ");
@@ -114,8 +114,8 @@ fn next_reply() -> bool {
     answer(
         setting as usize,
         group as usize,
-        field::read_u32(&head, 16),
-        field::read_u32(&head, 20),
+        le_bytes::read_u32(&head, 16),
+        le_bytes::read_u32(&head, 20),
     )
 }
 

@@ -1,14 +1,14 @@
 // Totals and the listing on a stream of books: each book follows its length in four bytes. For each book a line has refusal, place, n, the
 // eight totals and the four differences, and the listing follows.
+use buffer::TextReply;
 use libc::STDOUT_FILENO;
-use reckoning::TotalsReply;
 use test_stream::Next;
-use text::TextReply;
+use valuation::TotalsReply;
 
 // A blank, and the number after it.
 fn write_signed(v: i64) {
     let mut number = [0u8; 21];
-    let end = text::put_signed(&mut number, 0, v);
+    let end = buffer::put_signed(&mut number, 0, v);
     io::write_all(STDOUT_FILENO, b" ");
     io::write_all(STDOUT_FILENO, &number[..end]);
 }
@@ -41,13 +41,13 @@ fn write_values(reply: TotalsReply) {
 // The listing, or the line of a refusal.
 fn write_listing(book: &[u8]) {
     let mut text = [0u8; 512];
-    let reply = lines::write_listing(book, &mut text);
+    let reply = listing::write_listing(book, &mut text);
     match reply {
         TextReply::Bytes(end) => {
             io::write_all(STDOUT_FILENO, &text[..end]);
         }
         TextReply::Refused(number, place) => {
-            let end = text::put_refusal(&mut text, number, place as u64);
+            let end = buffer::put_refusal(&mut text, number, place as u64);
             io::write_all(STDOUT_FILENO, &text[..end]);
         }
     }

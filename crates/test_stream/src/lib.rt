@@ -2,7 +2,7 @@
 ghost use mathlib.Core.Path.{_≡_};
 ghost use Prim.Native.Nat.{_+_, _≤_};
 ghost use lib.ListN.{length};
-ghost use Rattle.field.specs.Bytes.{readU64};
+ghost use Rattle.le_bytes.specs.Bytes.{readU64};
 ghost use Rattle.io.specs.Counts.{Counts};
 use libc::STDIN_FILENO;
 
@@ -17,7 +17,7 @@ pub fn next_u32() -> Next {
     if io::read_full(STDIN_FILENO, &mut bytes) < 4 {
         return Next::Ended;
     }
-    Next::Number(field::read_u32(&bytes, 0))
+    Next::Number(le_bytes::read_u32(&bytes, 0))
 }
 
 // The number of eight bytes at a place.
@@ -25,7 +25,7 @@ pub fn read_u64(b: &[u8], at: usize) -> u64
     requires { ⌜ at + 8 ≤ length (now b) ⌝ }
     ensures { λ r. ⌜ r ≡ readU64 (now (b .entry)) at ⌝ }
 {
-    field::read_u32(b, at) + 4_294_967_296 * field::read_u32(b, at + 4)
+    le_bytes::read_u32(b, at) + 4_294_967_296 * le_bytes::read_u32(b, at + 4)
 }
 
 pub fn next_u64() -> Next {

@@ -18,14 +18,14 @@ use mir.ValLaws.{toZ-ofZ}
 use borrow.Author.Tests.{le-ltb, ltb-true, ltb-false}
 use Rattle.settings.specs.Settings.{decrementsOf, outgoingsOf}
 use Rattle.settings.proofs.Laws.{each-setting}
-use Rattle.years.specs.declared.Amounts.{Amounts}
-use Rattle.settling.proofs.Settling.{liability-is, less-mag}
-use Rattle.years.specs.Outcome.{SettledIn, outgoIn, premiumIn}
-use Rattle.reckoning.specs.Arithmetic.{rounded}
-use Rattle.reckoning.specs.Steps.{outgo, countedPremium, discountedOutgo, discountedPremium, sumYears}
-use Rattle.reckoning.specs.Portfolio.{termsOf}
-use Rattle.reckoning.specs.Replies.{groupLiability}
-use Rattle.reckoning.specs.Totals.{sumGroups, totalOf, totalsOf}
+use Rattle.present_value.specs.declared.Amounts.{Amounts}
+use Rattle.cash_flow.proofs.Settling.{liability-is, less-mag}
+use Rattle.present_value.specs.Outcome.{SettledIn, outgoIn, premiumIn}
+use Rattle.valuation.specs.Arithmetic.{rounded}
+use Rattle.valuation.specs.Steps.{outgo, countedPremium, discountedOutgo, discountedPremium, sumYears}
+use Rattle.valuation.specs.Portfolio.{termsOf}
+use Rattle.valuation.specs.Replies.{groupLiability}
+use Rattle.valuation.specs.Totals.{sumGroups, totalOf, totalsOf}
 use Rattle.totals.specs.Sums.{Sum, Sums, Sizes}
 
 sub-mag : (a b m : ℕ) → a ≤ m → b ≤ m → mag (subℕ a b) ≤ m

@@ -9,9 +9,9 @@ use Rattle.book.specs.Reading.{ValidBook}
 use Rattle.settings.specs.Settings.{SettingOf}
 use Rattle.settings.specs.declared.OutgoWeights.{OutgoWeights}
 use Rattle.settings.specs.declared.Setting.{Setting}
-use Rattle.reckoning.specs.Replies.{groupLiability}
-use Rattle.reckoning.specs.Totals.{sumGroups}
-use Rattle.projection.specs.Added.{TableOf}
+use Rattle.valuation.specs.Replies.{groupLiability}
+use Rattle.valuation.specs.Totals.{sumGroups}
+use Rattle.group_projection.specs.Added.{TableOf}
 
 -- t is the table of product group g of an accepted book
 pub record GroupTable (b : List ℕ) (g : ℕ) (t : List ℕ) : Type 0 where

@@ -4,18 +4,18 @@ ghost use mathlib.Core.List.{[]};
 ghost use Prim.Native.Nat.{_+_, _-_, _<_, _≤_};
 ghost use lib.IntN.{_+ℤ_, _-ℤ_};
 ghost use lib.Signed.{mag};
-ghost use Rattle.field.specs.declared.Verdict.the-variants.{Accepted, Refused};
+ghost use Rattle.verdict.specs.declared.Verdict.the-variants.{Accepted, Refused};
 ghost use Rattle.book.specs.Reading.{ValidBook};
 ghost use Rattle.settings.specs.Settings.{SettingOf};
-ghost use Rattle.reckoning.specs.Totals.{totalOf, totalsOf, differencesOf, totalsFor, TotalsPromised};
-ghost use Rattle.reckoning.specs.Replies.{groupLiability};
-ghost use Rattle.years.specs.Outcome.{CurveOf, SettledIn};
+ghost use Rattle.valuation.specs.Totals.{totalOf, totalsOf, differencesOf, totalsFor, TotalsPromised};
+ghost use Rattle.valuation.specs.Replies.{groupLiability};
+ghost use Rattle.present_value.specs.Outcome.{CurveOf, SettledIn};
 ghost use Rattle.totals.specs.Sums.{EightSettings, GroupTable, Sums, Sizes};
-use field::Verdict;
-use reckoning::TotalsReply;
+use present_value::Amounts;
 use settings::Setting;
 use settings::Shifts;
-use years::Amounts;
+use valuation::TotalsReply;
+use verdict::Verdict;
 
 fn plus(a: i64, b: i64) -> i64
     requires { ⌜ mag a + mag b < 9223372036854775807 ⌝ }
@@ -66,7 +66,7 @@ fn later_years(
     if s.later_as(base) {
         return shared;
     }
-    years::settle_in(book, divisors, fractions, s, group, numbers, 5, 50)
+    present_value::settle_in(book, divisors, fractions, s, group, numbers, 5, 50)
 }
 
 // The liability of a product group in a setting: its first five years, and its later ones.
@@ -84,9 +84,9 @@ fn liability_of(
         × SettledIn (now book) (base .number) group 5 50 shared ⌝ }
     ensures { λ r. ⌜ (r ≡ groupLiability (now (book .entry)) (s .number) group) × (mag r ≤ 495000000000000000) ⌝ }
 {
-    let first = years::settle_in(book, divisors, fractions, s, group, numbers, 0, 5);
+    let first = present_value::settle_in(book, divisors, fractions, s, group, numbers, 0, 5);
     let later = later_years(book, divisors, fractions, s, group, numbers, base, shared);
-    settling::less(first.outgo + later.outgo, first.premium + later.premium)
+    cash_flow::less(first.outgo + later.outgo, first.premium + later.premium)
 }
 
 // Adds a product group's liabilities to the eight totals. The later years of the base are settled once.
@@ -104,7 +104,7 @@ fn add_group(
     ensures { λ _. ⌜ Sums (now (book .entry)) group (now (totals .exit)) ⌝ }
 {
     let base = settings[0];
-    let shared = years::settle_in(book, divisors, fractions, base, group, numbers, 5, 50);
+    let shared = present_value::settle_in(book, divisors, fractions, base, group, numbers, 5, 50);
     for j in 0usize..8 {
         let s = settings[j];
         let liability = liability_of(book, divisors, fractions, s, group, numbers, base, shared);
@@ -118,7 +118,7 @@ fn all_totals(book: &[u8]) -> [i64; 8]
     requires { ⌜ ValidBook 1 (now book) ⌝ }
     ensures { λ a. ⌜ (a ≡ totalsOf (now (book .entry))) × Sizes a ⌝ }
 {
-    let curve = years::curve_of(book);
+    let curve = present_value::curve_of(book);
     let divisors = curve.divisors;
     let fractions = curve.fractions;
     let w = Shifts::new(book);
@@ -127,7 +127,14 @@ fn all_totals(book: &[u8]) -> [i64; 8]
     let mut totals = [0i64; 8];
     for group in 1usize..6 {
         let mut numbers = [0u64; 500];
-        projection::group_sums(book, w, group, projection::ALL, &mut rows, &mut numbers);
+        group_projection::group_sums(
+            book,
+            w,
+            group,
+            group_projection::ALL,
+            &mut rows,
+            &mut numbers,
+        );
         add_group(
             book,
             &divisors,
@@ -178,7 +185,7 @@ fn refused(number: u64, place: usize) -> TotalsReply
 pub fn totals(book: &[u8]) -> TotalsReply
     ensures { λ r. ⌜ TotalsPromised (now (book .entry)) r ⌝ }
 {
-    let v = acceptance::check(book);
+    let v = book_check::check(book);
     match v {
         Verdict::Accepted(n) => reckoned(book, n),
         Verdict::Refused(number, place) => refused(number, place),

@@ -4,13 +4,13 @@ use mathlib.Core.Path.{_≡_, refl}
 use mathlib.Core.List.{List}
 use Prim.Native.Nat.{ℕ, _≤_}
 use native.Mathlib.Omega.{arith}
-use Rattle.field.specs.Verdicts.{countOf}
-use Rattle.field.specs.declared.Verdict.{Verdict}
-use Rattle.field.specs.declared.Verdict.the-variants.{Accepted, Refused}
-use Rattle.field.proofs.Verdicts.{Told, told-need, told-then}
+use Rattle.verdict.specs.Verdicts.{countOf}
+use Rattle.verdict.specs.declared.Verdict.{Verdict}
+use Rattle.verdict.specs.declared.Verdict.the-variants.{Accepted, Refused}
+use Rattle.verdict.proofs.Verdicts.{Told, told-need, told-then}
 use Rattle.book.proofs.Numbers.{zero-accepted}
-use Rattle.text.specs.Replies.{textRefusal, textLength, lengthFor}
-use Rattle.text.specs.declared.TextReply.{TextReply}
+use Rattle.buffer.specs.Replies.{textRefusal, textLength, lengthFor}
+use Rattle.buffer.specs.declared.TextReply.{TextReply}
 use Rattle.year_report.specs.Report.{reportCheck, roomOf, roomReply, RoomPromised}
 use Rattle.year_report.proofs.Lengths.{report-most}
 use Rattle.year_report.proofs.Refusals.{report-valid}

@@ -12,16 +12,16 @@ use Rattle.book.specs.Reading.{ValidBook}
 use Rattle.settings.specs.Settings.{decrementsOf}
 use Rattle.settings.specs.declared.Decrements.{Decrements}
 use Rattle.settings.proofs.Laws.{pick-le}
-use Rattle.reckoning.specs.Arithmetic.{rounded}
-use Rattle.reckoning.specs.Steps.{Cell, Terms, premiumSum, claimsSum, outgo, cappedIf, capped, countedPremium}
-use Rattle.reckoning.specs.Bounds.{GoodTerms}
-use Rattle.reckoning.specs.Portfolio.{chainLinks, linksOf, groupLinks, groupCells, termsOf}
-use Rattle.reckoning.proofs.Accepted.{chains-few, divisor-low, good-terms}
+use Rattle.valuation.specs.Arithmetic.{rounded}
+use Rattle.valuation.specs.Steps.{Cell, Terms, premiumSum, claimsSum, outgo, cappedIf, capped, countedPremium}
+use Rattle.valuation.specs.Bounds.{GoodTerms}
+use Rattle.valuation.specs.Portfolio.{chainLinks, linksOf, groupLinks, groupCells, termsOf}
+use Rattle.valuation.proofs.Accepted.{chains-few, divisor-low, good-terms}
 use Rattle.cell.specs.States.{premiumAt, claimsAt}
 use Rattle.cell.proofs.Agreement.{premium-at-le, claims-at-le}
-use Rattle.walks.specs.Tables.{addedAll, AtMost}
-use Rattle.projection.proofs.Adding.{Small, sumOver, added-append, sum-from-zero, links-most, zero-most}
-use Rattle.projection.proofs.Adding.{premium-sum-is, claims-sum-is}
+use Rattle.cell_projection.specs.Tables.{addedAll, AtMost}
+use Rattle.group_projection.proofs.Adding.{Small, sumOver, added-append, sum-from-zero, links-most, zero-most}
+use Rattle.group_projection.proofs.Adding.{premium-sum-is, claims-sum-is}
 
 -- 121 classes a chain, 6 chains, and 1,000,000,000,000 a cell
 abbrev mostSum : ℕ

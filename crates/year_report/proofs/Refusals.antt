@@ -3,8 +3,8 @@ use mathlib.Core.Path.{_≡_}
 use mathlib.Core.List.{List}
 use Prim.Native.Nat.{ℕ, _<_}
 use borrow.Author.Tests.{ltb-true}
-use Rattle.field.specs.declared.Verdict.the-variants.{Accepted}
-use Rattle.field.proofs.Verdicts.{need-true, then-left, then-right}
+use Rattle.verdict.specs.declared.Verdict.the-variants.{Accepted}
+use Rattle.verdict.proofs.Verdicts.{need-true, then-left, then-right}
 use Rattle.book.specs.Reading.{ValidBook}
 use Rattle.book.proofs.Valid.{valid}
 use Rattle.year_report.specs.Report.{reportCheck}

@@ -7,23 +7,23 @@ use native.Mathlib.Omega.{arith}
 use borrow.Author.Tests.{lt-ltb, le-leb}
 use lib.Dec.{leb}
 use lib.ListN.{length, getD, drop, replicate, length-replicate}
-use Rattle.field.specs.Verdicts.{need, _andThen_}
-use Rattle.field.specs.declared.Verdict.{Verdict}
-use Rattle.field.specs.declared.Verdict.the-variants.{Accepted, Refused}
-use Rattle.field.proofs.Verdicts.{need-good, then-good, then-right}
-use Rattle.field.proofs.Ranges.{within-good}
+use Rattle.verdict.specs.Verdicts.{need, _andThen_}
+use Rattle.verdict.specs.declared.Verdict.{Verdict}
+use Rattle.verdict.specs.declared.Verdict.the-variants.{Accepted, Refused}
+use Rattle.verdict.proofs.Verdicts.{need-good, then-good, then-right}
+use Rattle.le_bytes.proofs.Ranges.{within-good}
 use Rattle.book.specs.Check.{checkBook}
 use Rattle.book.specs.Rules.{SameButUnlinked}
 use Rattle.book.proofs.Unlinked.{unlinked-same}
 use Rattle.settings.specs.Settings.{decrementsOf}
-use Rattle.reckoning.specs.Arithmetic.{rounded}
-use Rattle.reckoning.specs.Steps.{outgo, countedPremium}
-use Rattle.reckoning.specs.Portfolio.{groupCells, termsOf}
-use Rattle.reckoning.specs.Replies.{groupCheck, groupTable, tableOf, yearTable}
-use Rattle.reckoning.proofs.Promised.{premium-at, outgo-at}
-use Rattle.reckoning.proofs.Unlinked.{table-same}
-use Rattle.text.specs.Replies.{lengthFor, bufferFor, withRoom, textReply, textBuffer}
-use Rattle.text.proofs.Laws.{joined-same}
+use Rattle.valuation.specs.Arithmetic.{rounded}
+use Rattle.valuation.specs.Steps.{outgo, countedPremium}
+use Rattle.valuation.specs.Portfolio.{groupCells, termsOf}
+use Rattle.valuation.specs.Replies.{groupCheck, groupTable, tableOf, yearTable}
+use Rattle.valuation.proofs.Promised.{premium-at, outgo-at}
+use Rattle.valuation.proofs.Unlinked.{table-same}
+use Rattle.buffer.specs.Replies.{lengthFor, bufferFor, withRoom, textReply, textBuffer}
+use Rattle.buffer.proofs.Laws.{joined-same}
 use Rattle.year_report.specs.Report.{heading, yearLine, groupLines, reportText, reportCheck, roomOf}
 use Rattle.year_report.specs.Report.{writeReply, reportBuffer, roomReply}
 use Rattle.year_report.proofs.Refusals.{report-setting}

@@ -4,17 +4,17 @@ use mathlib.Core.Path.{_≡_}
 use Prim.Native.Nat.{ℕ, _+_, _≤_}
 use lib.Dec.{ltb}
 use lib.ListN.{length}
-use Rattle.field.specs.Verdicts.{need, _andThen_}
-use Rattle.field.specs.declared.Verdict.{Verdict}
+use Rattle.verdict.specs.Verdicts.{need, _andThen_}
+use Rattle.verdict.specs.declared.Verdict.{Verdict}
 use Rattle.book.specs.Check.{checkBook}
 use Rattle.settings.specs.Settings.{decrementsOf}
-use Rattle.reckoning.specs.Arithmetic.{rounded}
-use Rattle.reckoning.specs.Steps.{outgo, countedPremium}
-use Rattle.reckoning.specs.Portfolio.{groupCells, termsOf}
-use Rattle.text.specs.Text.{joined}
-use Rattle.text.specs.Replies.{textRefusal, textLength, lengthFor, textReply, textBuffer, TextPromised}
-use Rattle.text.specs.declared.TextReply.{TextReply}
-use Rattle.sheet.specs.Sheet.{sheetLine}
+use Rattle.valuation.specs.Arithmetic.{rounded}
+use Rattle.valuation.specs.Steps.{outgo, countedPremium}
+use Rattle.valuation.specs.Portfolio.{groupCells, termsOf}
+use Rattle.buffer.specs.Text.{joined}
+use Rattle.buffer.specs.Replies.{textRefusal, textLength, lengthFor, textReply, textBuffer, TextPromised}
+use Rattle.buffer.specs.declared.TextReply.{TextReply}
+use Rattle.report_lines.specs.Sheet.{sheetLine}
 
 -- `group,year,premium,outgo` and the line's end
 abbrev pub heading : List ℕ

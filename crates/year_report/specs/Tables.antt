@@ -7,11 +7,11 @@ use Rattle.book.specs.Reading.{ValidBook}
 use Rattle.settings.specs.Settings.{ShiftsOf, SettingOf, decrementsOf}
 use Rattle.settings.specs.declared.Setting.{Setting}
 use Rattle.settings.specs.declared.Shifts.{Shifts}
-use Rattle.reckoning.specs.Arithmetic.{rounded}
-use Rattle.reckoning.specs.Steps.{outgo, countedPremium}
-use Rattle.reckoning.specs.Portfolio.{groupCells, termsOf}
-use Rattle.text.specs.Text.{joined}
-use Rattle.sheet.specs.Sheet.{tableLines}
+use Rattle.valuation.specs.Arithmetic.{rounded}
+use Rattle.valuation.specs.Steps.{outgo, countedPremium}
+use Rattle.valuation.specs.Portfolio.{groupCells, termsOf}
+use Rattle.buffer.specs.Text.{joined}
+use Rattle.report_lines.specs.Sheet.{tableLines}
 use Rattle.year_report.specs.Report.{heading, roomOf}
 use Rattle.year_report.specs.declared.YearTable.{YearTable}
 use Rattle.year_report.specs.declared.Measured.{Measured}

@@ -3,23 +3,23 @@
 ghost use mathlib.Core.Path.{_≡_};
 ghost use Prim.Native.Nat.{_<_};
 ghost use Rattle.book.specs.Reading.{ValidBook};
-ghost use Rattle.text.specs.Text.{Wrote};
+ghost use Rattle.buffer.specs.Text.{Wrote};
 ghost use Rattle.year_report.specs.Report.{reportCheck, ReportPromised, RoomPromised};
 ghost use Rattle.year_report.specs.Tables.{Asked, Placed, Years, Measures, reportFrom};
-use field::Verdict;
+use buffer::TextReply;
 use settings::Setting;
 use settings::Shifts;
-use text::TextReply;
+use verdict::Verdict;
 
 // The refusals of both calls, in their order.
 fn check_report(book: &[u8], setting: usize) -> Verdict
     ensures { λ r. ⌜ r ≡ reportCheck (now (book .entry)) setting ⌝ }
 {
-    let asked = field::need(setting < 8, 14, 0);
+    let asked = verdict::need(setting < 8, 14, 0);
     let Verdict::Accepted(_) = asked else {
         return asked;
     };
-    acceptance::check(book)
+    book_check::check(book)
 }
 
 // Premium after cap and outgo of each of a product group's fifty years, at the places that they have in a year table.
@@ -45,8 +45,8 @@ fn year_table(book: &[u8], s: Setting, w: Shifts, group: usize) -> YearTable
 {
     let mut rows = [0u64; 2720];
     let mut sums = [0u64; 500];
-    projection::group_sums(book, w, group, s.projection, &mut rows, &mut sums);
-    let years = years::undiscounted(book, s, group, &sums, 0, 50);
+    group_projection::group_sums(book, w, group, s.projection, &mut rows, &mut sums);
+    let years = present_value::undiscounted(book, s, group, &sums, 0, 50);
     let premium = years.premium;
     let outgo = years.outgo;
     placed(&premium, &outgo)
@@ -71,7 +71,7 @@ fn measured_years(book: &[u8], setting: usize) -> Measured
     for j in 0usize..5 {
         let table = year_table(book, s, w, j + 1);
         let numbers = table.numbers;
-        years.bytes = years.bytes + sheet::lines_length(j as u64 + 1, numbers);
+        years.bytes = years.bytes + report_lines::lines_length(j as u64 + 1, numbers);
         years.tables[j] = table;
     }
     years
@@ -80,11 +80,11 @@ fn measured_years(book: &[u8], setting: usize) -> Measured
 fn put_report(years: Measured, out: &mut [u8]) -> usize
     ensures { λ r. ⌜ Wrote (now (out .entry)) 0 (reportFrom (years .tables)) (now (out .exit)) r ⌝ }
 {
-    let mut at = text::put_bytes(out, 0, b"group,year,premium,outgo\n");
+    let mut at = buffer::put_bytes(out, 0, b"group,year,premium,outgo\n");
     for j in 0usize..5 {
         let table = years.tables[j];
         let numbers = table.numbers;
-        at = sheet::put_lines(out, at, j as u64 + 1, numbers);
+        at = report_lines::put_lines(out, at, j as u64 + 1, numbers);
     }
     at
 }

@@ -1,5 +1,5 @@
 -- `test_stream::read_u64` meets its contract: two numbers of four bytes. Assumes nothing.
-use Rattle.field.specs.Bytes.{readU64}
+use Rattle.le_bytes.specs.Bytes.{readU64}
 use borrow.Author.Needs.{needs}
 use Rattle.test_stream.proofs.read_u64.Statement.{statement}
 use Rattle.test_stream.proofs.read_u64.Tie as tie

@@ -3,8 +3,8 @@ use mathlib.Core.Path.{sym, _∙_}
 use borrow.Author.Needs.{needs}
 use Rattle.book.proofs.Valid.{valid}
 use Rattle.book.proofs.Exact.{accepted-held}
-use Rattle.reckoning.specs.Totals.{totalsReply}
-use Rattle.reckoning.proofs.Total.{totals-promised}
+use Rattle.valuation.specs.Totals.{totalsReply}
+use Rattle.valuation.proofs.Total.{totals-promised}
 use Rattle.totals.proofs.totals.Statement.{statement}
 use Rattle.totals.proofs.totals.Tie as tie
 

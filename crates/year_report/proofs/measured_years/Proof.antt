@@ -7,8 +7,8 @@ use Prim.Native.Nat.{_≤_, _+_, _*_, _-_}
 use native.Mathlib.Omega.{arith}
 use borrow.Author.Needs.{needs}
 use lib.ListN.{length, length-set}
-use Rattle.text.specs.Text.{joined}
-use Rattle.sheet.proofs.Lengths.{joined-length}
+use Rattle.buffer.specs.Text.{joined}
+use Rattle.report_lines.proofs.Lengths.{joined-length}
 use Rattle.year_report.specs.Report.{heading, groupLines, reportText, roomOf}
 use Rattle.year_report.specs.Tables.{FirstYears}
 use Rattle.year_report.proofs.Figures.{lines-same, one-more}

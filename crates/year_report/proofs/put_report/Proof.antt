@@ -5,8 +5,8 @@ use mathlib.Core.Path.{_≡_}
 use Prim.Native.Nat.{_≤_, _+_, _*_, _-_}
 use native.Mathlib.Omega.{arith}
 use borrow.Author.Needs.{needs}
-use Rattle.text.specs.Text.{Wrote, joined}
-use Rattle.text.proofs.Laws.{_then_, nothing, kept, joined-more}
+use Rattle.buffer.specs.Text.{Wrote, joined}
+use Rattle.buffer.proofs.Laws.{_then_, nothing, kept, joined-more}
 use Rattle.year_report.specs.Tables.{linesAt, reportFrom}
 use Rattle.year_report.proofs.put_report.Statement.{statement}
 use Rattle.year_report.proofs.put_report.Tie as tie

@@ -2,7 +2,7 @@
 -- promised of it follows. Assumes nothing.
 use mathlib.Core.Path.{sym, ap, _∙_}
 use borrow.Author.Needs.{needs}
-use Rattle.text.specs.declared.TextReply.the-variants.{Bytes}
+use Rattle.buffer.specs.declared.TextReply.the-variants.{Bytes}
 use Rattle.year_report.specs.Report.{roomReply}
 use Rattle.year_report.proofs.Refusals.{report-setting, report-valid}
 use Rattle.year_report.proofs.Promised.{room-promised}

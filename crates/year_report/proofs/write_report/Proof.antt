@@ -3,8 +3,8 @@
 use mathlib.Core.Path.{sym, _∙_}
 use native.Mathlib.Omega.{arith}
 use borrow.Author.Needs.{needs}
-use Rattle.text.proofs.Laws.{kept}
-use Rattle.text.proofs.Replies.{text-refused, text-short, text-written}
+use Rattle.buffer.proofs.Laws.{kept}
+use Rattle.buffer.proofs.Replies.{text-refused, text-short, text-written}
 use Rattle.year_report.specs.Report.{roomOf}
 use Rattle.year_report.proofs.Refusals.{report-setting, report-valid}
 use Rattle.year_report.proofs.Figures.{report-same}

@@ -1,0 +1,14 @@
+-- `walks::all` meets its contract: each of the two is asked. Assumes nothing.
+use native.Mathlib.Omega.{arith}
+use borrow.Author.Tests.{ltb-true}
+use Rattle.cell_projection.proofs.all.Statement.{statement}
+use Rattle.cell_projection.proofs.all.Tie as tie
+
+returns : tie.Need-returns
+returns c = λ e. record { more-deaths = c .before .if1 .taken; more-lapses = ltb-true 0 _ e }
+
+returns-2 : tie.Need-returns-2
+returns-2 c e = absurd (omega (arith, ltb-true 0 (c .before .before .args .cells .moredeaths .inforce) e, c .if1 .left))
+
+pub all-spec : {M : Type 1} → statement M
+all-spec = tie.close (tie.spec returns returns-2)

@@ -1,0 +1,71 @@
+-- The states of a cell in the five projections side by side: those of settings 0 to 4, which serve the other settings too.
+use mathlib.Core.List.{List}
+use Prim.Native.Nat.{ℕ, _+_, _*_, _<_}
+use Rattle.cell.specs.declared.Cell.{Cell}
+use Rattle.cell.specs.States.{stateIn, nextYear, premiumIn, claimsIn, Ready}
+use Rattle.cell_projection.specs.declared.Five.{Five}
+use Rattle.cell_projection.specs.Tables.{twoMore}
+
+-- the states in year k of the cell that starts at row r of the table t with n contracts
+unfoldable pub fiveIn : List ℕ → ℕ → ℕ → ℕ → Five
+fiveIn t r n k = record {
+  base = stateIn t r n 0 k;
+  moredeaths = stateIn t r n 1 k;
+  fewerdeaths = stateIn t r n 2 k;
+  morelapses = stateIn t r n 3 k;
+  fewerlapses = stateIn t r n 4 k;
+}
+
+-- its states in year 0: the same in all five
+abbrev pub startOf : ℕ → ℕ → Five
+startOf r n = record {
+  base = record { row = r; inforce = n * 1_000_000_000 };
+  moredeaths = record { row = r; inforce = n * 1_000_000_000 };
+  fewerdeaths = record { row = r; inforce = n * 1_000_000_000 };
+  morelapses = record { row = r; inforce = n * 1_000_000_000 };
+  fewerlapses = record { row = r; inforce = n * 1_000_000_000 };
+}
+
+-- states that can go on
+pub record FiveReady (t : List ℕ) (c : Five) : Type 0 where
+  pub base : Ready t (c .base)
+  pub more-deaths : Ready t (c .moredeaths)
+  pub fewer-deaths : Ready t (c .fewerdeaths)
+  pub more-lapses : Ready t (c .morelapses)
+  pub fewer-lapses : Ready t (c .fewerlapses)
+
+-- the states a year after year k
+unfoldable pub nextFive : List ℕ → ℕ → Five → Five
+nextFive t k c = record {
+  base = nextYear t 0 k (c .base);
+  moredeaths = nextYear t 1 k (c .moredeaths);
+  fewerdeaths = nextYear t 2 k (c .fewerdeaths);
+  morelapses = nextYear t 3 k (c .morelapses);
+  fewerlapses = nextYear t 4 k (c .fewerlapses);
+}
+
+-- premium and claims of a state in year k of a projection, added at their places
+abbrev pub yearMore : List ℕ → ℕ → ℕ → Cell → List ℕ → List ℕ
+yearMore t setting k c u = twoMore u (10 * k + 2 * setting) (premiumIn t c) (claimsIn t c)
+
+-- the same for all five
+unfoldable pub tenMore : List ℕ → ℕ → Five → List ℕ → List ℕ
+tenMore t k c u =
+    yearMore t 4 k (c .fewerlapses) (yearMore t 3 k (c .morelapses) (yearMore t 2 k (c .fewerdeaths) (yearMore t 1 k (c .moredeaths) (yearMore t 0 k (c .base) u))))
+
+-- x more at the place of each projection's premium in year 0, and y more at that of its claims
+unfoldable pub fiveTimesMore : List ℕ → ℕ → ℕ → List ℕ
+fiveTimesMore u x y = twoMore (twoMore (twoMore (twoMore (twoMore u 0 x y) 2 x y) 4 x y) 6 x y) 8 x y
+
+-- something is in force with more deaths and with more lapses, which leave the least
+pub record LeastInForce (c : Five) : Type 0 where
+  pub more-deaths : 0 < c .moredeaths .inforce
+  pub more-lapses : 0 < c .morelapses .inforce
+
+-- something is in force in all five
+pub record AllInForce (c : Five) : Type 0 where
+  pub base : 0 < c .base .inforce
+  pub more-deaths : 0 < c .moredeaths .inforce
+  pub fewer-deaths : 0 < c .fewerdeaths .inforce
+  pub more-lapses : 0 < c .morelapses .inforce
+  pub fewer-lapses : 0 < c .fewerlapses .inforce

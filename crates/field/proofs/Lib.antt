@@ -1,3 +1,0 @@
-pub mod Verdicts
-pub mod Ranges
-pub mod Same

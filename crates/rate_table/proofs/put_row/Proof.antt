@@ -1,0 +1,114 @@
+-- `rows::put_row` meets its contract: three columns of what lives on, three of what stays, premium and claims. Assumes nothing.
+use mathlib.Core.Path.{_≡_}
+use mathlib.Core.List.{List}
+use Prim.Native.Nat.{ℕ, _+_, _*_, _≤_, _<_}
+use native.Mathlib.Omega.{arith}
+use borrow.Author.Needs.{needs}
+use Rattle.book.specs.Layout.{chainSex}
+use Rattle.book.specs.Reading.{Inside}
+use Rattle.rate_table.specs.Rows.{rateOf}
+use Rattle.rate_table.specs.Puts.{Filled}
+use Rattle.rate_table.proofs.Puts.{living-is, staying-is, sex-most, filled-none, filled-more, row-filled}
+use Rattle.rate_table.proofs.put_row.Statement.{statement}
+use Rattle.rate_table.proofs.put_row.Tie as tie
+
+-- what the calls ask of the start
+place : (a : tie.Start) → 16 * a .args .r + 16 ≤ 2720
+place a = omega arith
+
+row : (a : tie.Start) → a .args .r < 170
+row a = a .pre .4
+
+inside : (a : tie.Start) → Inside (a .args .book .now) (a .args .i)
+inside a = omega arith
+
+put-three-requires : tie.Need-put-three-requires
+put-three-requires c κs =
+    let a = c .before .before .before .before .before .before in
+    let w = a .pre .0 in
+    let more = sex-most _ 1 (chainSex (a .args .chain)) _ _ (w .more-deaths) (c .before .before .of-sex2 .ensures) in
+    let fewer = sex-most _ 2 (chainSex (a .args .chain)) _ _ (w .fewer-deaths) (c .before .of-sex3 .ensures) in (
+      row a,
+      omega arith,
+      c .before .before .before .before .mortality-of .ensures .1,
+      sex-most _ 0 (chainSex (a .args .chain)) _ _ (w .base) (c .before .before .before .of-sex .ensures),
+      omega (arith, more, fewer),
+      omega (arith, more, fewer),
+    )
+
+field-of-requires : tie.Need-field-of-requires
+field-of-requires c κs = (inside (c .before .before .before .before .before .before .before), omega arith)
+
+put-three-requires-2 : tie.Need-put-three-requires-2
+put-three-requires-2 c κs =
+    let a = c .before .before .before .before .before .before .before .before .before in
+    let w = a .pre .0 in (
+      row a,
+      omega arith,
+      omega (arith, c .before .field-of .ensures .0, a .pre .2 .lapse),
+      w .base .lapse,
+      omega (arith, w .more-lapses .lapse, w .fewer-lapses .lapse),
+      omega (arith, w .more-lapses .lapse, w .fewer-lapses .lapse),
+    )
+
+field-of-requires-2 : tie.Need-field-of-requires-2
+field-of-requires-2 c κs = (inside (c .before .before .before .before .before .before .before .before .before .before .before), omega arith)
+
+put-requires : tie.Need-put-requires
+put-requires c κs = let a = c .before .before .before .before .before .before .before .before .before .before .before .before in omega (arith, place a, a .pre .2 .premium, c .field-of2 .ensures .0, c .before .put-arg .given .0 .1)
+
+field-of-requires-3 : tie.Need-field-of-requires-3
+field-of-requires-3 c κs = (inside (c .before .before .before .before .before .before .before .before .before .before .before .before .before .before), omega arith)
+
+put-requires-2 : tie.Need-put-requires-2
+put-requires-2 c κs = let a = c .before .before .before .before .before .before .before .before .before .before .before .before .before .before .before in omega (arith, place a, a .pre .2 .claims, c .field-of3 .ensures .0, c .before .put-arg2 .given .0 .1)
+
+-- the record's rates, and the first n columns of the row filled with them, in the table as it is then
+abbrev rates : tie.Start → ℕ → ℕ
+rates a = let x = a .args in rateOf (x .book .now) (chainSex (x .chain)) (x .i)
+
+abbrev Has : tie.Start → ℕ → List ℕ → Type 0
+Has a n t = Filled (rates a) (a .args .rows .now) t (a .args .r) n
+
+living : (m : tie.After-put-three) → Has (m .before .before .before .before .before .before .before) 3 (m .put-three .last .0)
+unfolding rateOf
+living m =
+    let a = m .before .before .before .before .before .before .before in
+    let x = a .args in
+    let w = a .pre .0 in
+    let lives = living-is (x .book .now) (chainSex (x .chain)) (x .i) (x .class) _ in
+    let deaths = m .before .before .before .before .before .mortality-of .ensures .0 in
+    m .put-three .ensures (rates a) (x .rows .now) (lives 0 _ _ (a .pre .3) deaths (w .base) (m .before .before .before .before .of-sex .ensures))
+    (lives 1 _ _ (a .pre .3) deaths (w .more-deaths) (m .before .before .before .of-sex2 .ensures))
+    (lives 2 _ _ (a .pre .3) deaths (w .fewer-deaths) (m .before .before .of-sex3 .ensures)) (filled-none (rates a) (x .rows .now) (x .r))
+
+staying : (m : tie.After-put-three2) → Has (m .before .before .before .before .before .before .before .before .before .before) 6 (m .put-three2 .last .0)
+unfolding rateOf
+staying m =
+    let a = m .before .before .before .before .before .before .before .before .before .before in
+    let x = a .args in
+    let w = a .pre .0 in
+    let stays = staying-is (x .book .now) (x .i) _ in
+    let lapse = m .before .before .field-of .ensures .0 in
+    m .put-three2 .ensures (rates a) (x .rows .now) (stays 0 _ lapse (w .base)) (stays 3 _ lapse (w .more-lapses)) (stays 4 _ lapse (w .fewer-lapses))
+    (living (m .before .before .before))
+
+returns : tie.Need-returns
+unfolding rateOf
+returns c =
+    let p = c .before .before .before .before .field-of2 .ensures .0 in
+    let q = c .before .field-of3 .ensures .0 in
+    let a = c .before .before .before .before .before .before .before .before .before .before .before .before .before .before .before .before in
+    let x = a .args in
+    let k = a .pre .2 in
+    row-filled (x .book .now) (chainSex (x .chain)) (x .i) (x .chain) k _ _ (x .r)
+    (filled-more (rates a) _ _ _ (x .r) 7 _ (omega arith)
+    (filled-more (rates a) _ _ _ (x .r) 6 _ (omega arith) (staying (c .before .before .before .before .before .before)) (c .before .before .before .put .ensures) p (omega (arith, p, k .premium)))
+    (c .put2 .ensures) q (omega (arith, q, k .claims)))
+
+pub put-row-spec : {M : Type 1} → statement M
+put-row-spec =
+    tie.close
+    (tie.spec (λ c κs. search needs) (search needs) (search needs) (search needs) put-three-requires field-of-requires put-three-requires-2
+    (λ c. omega (arith, place (c .before .before .before .before .before .before .before .before .before .before .before))) (λ c. omega (arith, place (c .before .before .before .before .before .before .before .before .before .before .before))) field-of-requires-2 put-requires (λ c. omega (arith, place (c .before .before .before .before .before .before .before .before .before .before .before .before .before .before)))
+    (λ c. omega (arith, place (c .before .before .before .before .before .before .before .before .before .before .before .before .before .before))) field-of-requires-3 put-requires-2 returns)

@@ -1,0 +1,15 @@
+-- `risk::coefficients_right` meets its contract: four tests in a row. Assumes nothing.
+use mathlib.Core.Path.{refl}
+use borrow.Author.Needs.{needs}
+use Rattle.conditions.specs.Every.{every}
+use Rattle.risk_model.specs.Model.{coefficientsRight}
+use Rattle.risk_model.proofs.coefficients_right.Statement.{statement}
+use Rattle.risk_model.proofs.coefficients_right.Tie as tie
+
+returns : tie.Need-returns
+unfolding coefficientsRight every
+returns c = refl
+
+pub coefficients-right-spec : {M : Type 1} → statement M
+coefficients-right-spec = tie.close
+    (tie.spec (search needs) (search needs) (search needs) (search needs) returns)
