@@ -1,4 +1,4 @@
--- `conversion::check_convert` meets its contract: the buffer's length is tested, and then the book. Assumes nothing.
+-- `age_basis::check_convert` meets its contract: the buffer's length is tested, and then the book. Assumes nothing.
 use borrow.Author.Needs.{needs}
 use borrow.Author.Tests.{le-leb, lt-leb}
 use Rattle.verdict.specs.Verdicts.{need, _andThen_}

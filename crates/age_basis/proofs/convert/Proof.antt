@@ -1,4 +1,4 @@
--- `conversion::convert` meets its contract: where a refusal applies it is given and nothing is touched; else the
+-- `age_basis::convert` meets its contract: where a refusal applies it is given and nothing is touched; else the
 -- converted book is written. Assumes nothing.
 use mathlib.Core.Path.{sym, _∙_}
 use borrow.Author.Needs.{needs}

@@ -1,4 +1,4 @@
--- `conversion::lower_chain` meets its contract. The invariant: the walk stands at record i, and the classes of the
+-- `age_basis::lower_chain` meets its contract. The invariant: the walk stands at record i, and the classes of the
 -- records passed are lowered. The measure is the number of classes ahead. Assumes nothing.
 use native.Mathlib.Omega.{arith}
 use Rattle.age_basis.proofs.Lowering.{Walk, ahead, walk-start, walk-end, walk-ready, walk-more, walk-falls}

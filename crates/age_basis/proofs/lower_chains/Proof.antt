@@ -1,4 +1,4 @@
--- `conversion::lower_chains` meets its contract. The invariant: the classes of the chains before k are lowered.
+-- `age_basis::lower_chains` meets its contract. The invariant: the classes of the chains before k are lowered.
 -- The measure is the number of chains left. Assumes nothing.
 use mathlib.Core.Path.{_≡_}
 use Prim.Native.Nat.{_-_, _≤_}

@@ -1,4 +1,4 @@
--- `conversion::lower_class` meets its contract: one store, of one less than the byte read at the same place.
+-- `age_basis::lower_class` meets its contract: one store, of one less than the byte read at the same place.
 -- Assumes nothing.
 use borrow.Author.Needs.{needs}
 use native.Mathlib.Omega.{arith}

@@ -1,4 +1,4 @@
--- `conversion::write_converted` meets its contract: the copy, its classes lowered and its byte 1 made 1, is the
+-- `age_basis::write_converted` meets its contract: the copy, its classes lowered and its byte 1 made 1, is the
 -- converted book. Assumes nothing.
 use lib.Seq.{take-length}
 use borrow.Author.Needs.{needs}

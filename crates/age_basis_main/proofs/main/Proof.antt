@@ -1,4 +1,4 @@
--- `convert::main` is safe: a book and its conversion have as many bytes as were read. Assumes nothing.
+-- `age_basis_main::main` is safe: a book and its conversion have as many bytes as were read. Assumes nothing.
 use mathlib.Core.Path.{sym}
 use borrow.Author.Needs.{needs}
 use lib.Seq.{length-take-le}

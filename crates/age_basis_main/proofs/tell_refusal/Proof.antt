@@ -1,4 +1,4 @@
--- `convert::tell_refusal` is safe: a refusal's line fits into 50 bytes. Assumes nothing.
+-- `age_basis_main::tell_refusal` is safe: a refusal's line fits into 50 bytes. Assumes nothing.
 use mathlib.Core.Path.{sym}
 use borrow.Author.Needs.{needs}
 use lib.Seq.{length-take-le}

@@ -1,4 +1,4 @@
--- `acceptance::check_chain` meets its contract: the head is 0, or above N, or leads to the chain's first record. Assumes nothing.
+-- `book_check::check_chain` meets its contract: the head is 0, or above N, or leads to the chain's first record. Assumes nothing.
 use borrow.Author.Tests.{eq-eqb, ne-eqb, le-leb, lt-leb}
 use Rattle.verdict.specs.Verdicts.{need, _andThen_}
 use Rattle.book.specs.Check.{checkChain}

@@ -1,4 +1,4 @@
--- `acceptance::check_chains` meets its contract. The invariant: the counts so far, added to what the chains from k on say, are what all say.
+-- `book_check::check_chains` meets its contract. The invariant: the counts so far, added to what the chains from k on say, are what all say.
 -- The measure is the number of chains that are left. Assumes nothing.
 use mathlib.Core.Path.{_≡_, sym, ap, _∙_}
 use Prim.Native.Nat.{_-_, _*_, _≤_}

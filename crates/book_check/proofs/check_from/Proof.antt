@@ -1,4 +1,4 @@
--- `acceptance::check_from` meets its contract. The invariant: what is counted so far, added to what the check from i on says, is what the whole says.
+-- `book_check::check_from` meets its contract. The invariant: what is counted so far, added to what the check from i on says, is what the whole says.
 -- The measure is the number of classes above. Assumes nothing.
 use mathlib.Core.Path.{_≡_, sym, _∙_}
 use Prim.Native.Nat.{_+_, _≤_, _<_}

@@ -1,4 +1,4 @@
--- `acceptance::check_on` meets its contract: at each return the laws of `checkBook` say which verdict stands. Assumes nothing.
+-- `book_check::check_on` meets its contract: at each return the laws of `checkBook` say which verdict stands. Assumes nothing.
 use mathlib.Core.Path.{_≡_, sym, _∙_}
 use native.Mathlib.Omega.{arith}
 use borrow.Author.Needs.{needs}

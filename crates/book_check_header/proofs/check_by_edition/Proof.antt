@@ -1,4 +1,4 @@
--- `front::check_by_edition` meets its contract: the test on the edition picks the same check as the definition. Assumes nothing.
+-- `book_check_header::check_by_edition` meets its contract: the test on the edition picks the same check as the definition. Assumes nothing.
 use borrow.Author.Tests.{eq-eqb, ne-eqb}
 use Rattle.book.specs.Check.{checkByEdition}
 use borrow.Author.Needs.{needs}

@@ -1,4 +1,4 @@
--- `front::check_header` meets its contract: the tests joined are those of `checkHeader`, each at the number that was read. Assumes nothing.
+-- `book_check_header::check_header` meets its contract: the tests joined are those of `checkHeader`, each at the number that was read. Assumes nothing.
 use Rattle.book.specs.Check.{checkHeader}
 use borrow.Author.Needs.{needs}
 use Rattle.book_check_header.proofs.check_header.Statement.{statement}

@@ -1,4 +1,4 @@
--- `front::check_percents` meets its contract: the tests joined are those of `checkPercents`, each at the number that was read. Assumes nothing.
+-- `book_check_header::check_percents` meets its contract: the tests joined are those of `checkPercents`, each at the number that was read. Assumes nothing.
 use Rattle.book.specs.Check.{checkPercents}
 use borrow.Author.Needs.{needs}
 use Rattle.book_check_header.proofs.check_percents.Statement.{statement}

@@ -1,4 +1,4 @@
--- `numbers::put_curve` meets its contract. The invariant: the rates before j are written. The measure is how many are
+-- `book_encoding::put_curve` meets its contract. The invariant: the rates before j are written. The measure is how many are
 -- left. Assumes nothing.
 use mathlib.Core.Path.{_≡_}
 use mathlib.Core.List.{[]}

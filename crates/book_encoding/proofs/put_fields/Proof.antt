@@ -1,4 +1,4 @@
--- `numbers::put_fields` meets its contract. The invariant: the numbers before j are written. The measure is how many
+-- `book_encoding::put_fields` meets its contract. The invariant: the numbers before j are written. The measure is how many
 -- are left. Assumes nothing.
 use mathlib.Core.Path.{_≡_}
 use mathlib.Core.List.{[]}

@@ -1,4 +1,4 @@
--- `numbers::put_four` meets its contract: the low two bytes, and the high ones. Assumes nothing.
+-- `book_encoding::put_four` meets its contract: the low two bytes, and the high ones. Assumes nothing.
 use native.Mathlib.Omega.{arith}
 use borrow.Author.Needs.{needs}
 use Rattle.buffer.proofs.Laws.{_then_}

@@ -1,4 +1,4 @@
--- `numbers::put_two` meets its contract: the low byte, and the next one. Assumes nothing.
+-- `book_encoding::put_two` meets its contract: the low byte, and the next one. Assumes nothing.
 use native.Mathlib.Omega.{arith}
 use borrow.Author.Needs.{needs}
 use Rattle.buffer.proofs.Laws.{_then_}

@@ -1,4 +1,4 @@
--- `numbers::stored` meets its contract: 2 ^ 32 is added below zero. Assumes nothing.
+-- `book_encoding::stored` meets its contract: 2 ^ 32 is added below zero. Assumes nothing.
 use mathlib.Core.Path.{_≡_, _∙_}
 use native.Mathlib.Omega.{arith}
 use lib.IntN.{pos}

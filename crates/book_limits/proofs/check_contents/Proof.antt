@@ -1,4 +1,4 @@
--- `limits::check_contents` meets its contract: first classes, lengths, edition, tables and lists, one after the other.
+-- `book_limits::check_contents` meets its contract: first classes, lengths, edition, tables and lists, one after the other.
 -- Assumes nothing.
 use mathlib.Core.Path.{_≡_, sym}
 use lib.ListN.{length}

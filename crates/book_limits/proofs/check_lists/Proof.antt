@@ -1,4 +1,4 @@
--- `limits::check_lists` meets its contract: four lists, one after the other. Assumes nothing.
+-- `book_limits::check_lists` meets its contract: four lists, one after the other. Assumes nothing.
 use borrow.Author.Needs.{needs}
 use Rattle.book_contents.specs.Limits.{checkLists}
 use Rattle.book_limits.proofs.check_lists.Statement.{statement}

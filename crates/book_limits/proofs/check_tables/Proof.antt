@@ -1,4 +1,4 @@
--- `limits::check_tables` meets its contract: three tables, one after the other. Assumes nothing.
+-- `book_limits::check_tables` meets its contract: three tables, one after the other. Assumes nothing.
 use borrow.Author.Needs.{needs}
 use Rattle.book_contents.specs.Limits.{checkTables}
 use Rattle.book_limits.proofs.check_tables.Statement.{statement}

@@ -1,4 +1,4 @@
--- `ranges::check_curve` meets its contract. The invariant: what the rates from j on say is what all say. The measure is
+-- `book_ranges::check_curve` meets its contract. The invariant: what the rates from j on say is what all say. The measure is
 -- how many are left.
 -- Assumes nothing.
 use mathlib.Core.Path.{_≡_, sym, _∙_}

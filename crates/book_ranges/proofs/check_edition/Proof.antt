@@ -1,4 +1,4 @@
--- `ranges::check_edition` meets its contract: edition, year and percentages, one after the other. Assumes nothing.
+-- `book_ranges::check_edition` meets its contract: edition, year and percentages, one after the other. Assumes nothing.
 use borrow.Author.Needs.{needs}
 use Rattle.book_contents.specs.Limits.{checkEdition}
 use Rattle.book_ranges.proofs.check_edition.Statement.{statement}

@@ -1,4 +1,4 @@
--- `ranges::check_most` meets its contract. The invariant: what the numbers from j on say is what all say. The measure
+-- `book_ranges::check_most` meets its contract. The invariant: what the numbers from j on say is what all say. The measure
 -- is how many are left.
 -- Assumes nothing.
 use mathlib.Core.Path.{_≡_, sym, _∙_}

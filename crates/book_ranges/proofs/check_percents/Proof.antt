@@ -1,4 +1,4 @@
--- `ranges::check_percents` meets its contract: the test on the edition picks the same two tests as the definition.
+-- `book_ranges::check_percents` meets its contract: the test on the edition picks the same two tests as the definition.
 -- Assumes nothing.
 use borrow.Author.Tests.{eq-eqb, ne-eqb}
 use borrow.Author.Needs.{needs}

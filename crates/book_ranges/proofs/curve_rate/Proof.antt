@@ -1,4 +1,4 @@
--- `ranges::curve_rate` meets its contract: one test for each end of the range. Assumes nothing.
+-- `book_ranges::curve_rate` meets its contract: one test for each end of the range. Assumes nothing.
 use mir.Syntax.{w64}
 use mir.ValLaws.{toZ-ofZ}
 use Rattle.book_contents.proofs.Curve.{rate-low, rate-other}

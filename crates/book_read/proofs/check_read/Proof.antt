@@ -1,4 +1,4 @@
--- `reader::check_read` meets its contract: the book's refusal, or a buffer that is too short. Assumes nothing.
+-- `book_read::check_read` meets its contract: the book's refusal, or a buffer that is too short. Assumes nothing.
 use mathlib.Core.Path.{sym, _∙_}
 use borrow.Author.Needs.{needs}
 use Rattle.verdict.proofs.Verdicts.{accepted}

@@ -1,4 +1,4 @@
--- `reader::fill_chain` meets its contract. The invariant: the entries passed are written, and i is the next one. The
+-- `book_read::fill_chain` meets its contract. The invariant: the entries passed are written, and i is the next one. The
 -- measure is how many are left.
 -- Assumes nothing.
 use mathlib.Core.Path.{_≡_, sym, ap, _∙_}

@@ -1,4 +1,4 @@
--- `reader::fill_list` meets its contract. The invariant: the lists of the chains before k are written. The measure is
+-- `book_read::fill_list` meets its contract. The invariant: the lists of the chains before k are written. The measure is
 -- the number of chains left.
 -- Assumes nothing.
 use mathlib.Core.Path.{_≡_}

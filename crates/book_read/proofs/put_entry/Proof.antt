@@ -1,4 +1,4 @@
--- `reader::put_entry` meets its contract: one store, or none past the end. Assumes nothing.
+-- `book_read::put_entry` meets its contract: one store, or none past the end. Assumes nothing.
 use mathlib.Core.Path.{sym, refl}
 use lib.Seq.{set-out}
 use borrow.Author.Needs.{needs}

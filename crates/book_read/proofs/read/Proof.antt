@@ -1,4 +1,4 @@
--- `reader::read` meets its contract: what is accepted is read, and nothing is changed where it is refused. Assumes
+-- `book_read::read` meets its contract: what is accepted is read, and nothing is changed where it is refused. Assumes
 -- nothing.
 use mathlib.Core.Path.{_≡_, sym, _∙_}
 use native.Mathlib.Omega.{arith}

@@ -1,4 +1,4 @@
--- `reader::refused` meets its contract: zeros beside the refusal. Assumes nothing.
+-- `book_read::refused` meets its contract: zeros beside the refusal. Assumes nothing.
 use mathlib.Core.Path.{refl}
 use Rattle.book_read.proofs.refused.Statement.{statement}
 use Rattle.book_read.proofs.refused.Tie as tie

@@ -1,4 +1,4 @@
--- `values::curve_of` meets its contract. The invariant: the first j rates are the fields'. The measure is how many are
+-- `book_read_values::curve_of` meets its contract. The invariant: the first j rates are the fields'. The measure is how many are
 -- left. Assumes nothing.
 use mathlib.Core.Path.{_≡_, refl, ap, _∙_}
 use Prim.Native.Nat.{ℕ, _+_, _-_, _*_, _≤_, _<_}

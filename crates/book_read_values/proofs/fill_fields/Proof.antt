@@ -1,4 +1,4 @@
--- `values::fill_fields` meets its contract. The invariant: the first j numbers are the fields'. The measure is how many
+-- `book_read_values::fill_fields` meets its contract. The invariant: the first j numbers are the fields'. The measure is how many
 -- are left. Assumes nothing.
 use mathlib.Core.Path.{_≡_, refl}
 use Prim.Native.Nat.{ℕ, _+_, _-_, _*_, _≤_, _<_}

@@ -1,4 +1,4 @@
--- `values::firsts_of` meets its contract. The invariant: the classes before k are the chains'. The measure is the
+-- `book_read_values::firsts_of` meets its contract. The invariant: the classes before k are the chains'. The measure is the
 -- number of chains left.
 -- Assumes nothing.
 use mathlib.Core.Path.{_≡_, refl, ap, _∙_}

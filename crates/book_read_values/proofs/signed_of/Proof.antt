@@ -1,4 +1,4 @@
--- `values::signed_of` meets its contract: 2 ^ 32 is taken off from 2 ^ 31 on. Assumes nothing.
+-- `book_read_values::signed_of` meets its contract: 2 ^ 32 is taken off from 2 ^ 31 on. Assumes nothing.
 use mathlib.Core.Path.{_≡_, ap}
 use Prim.Native.Nat.{ℕ, suc, _-_, _<_}
 use native.Mathlib.Omega.{arith}

@@ -1,4 +1,4 @@
--- `values::values_of` meets its contract: each part as its reader gives it. Assumes nothing.
+-- `book_read_values::values_of` meets its contract: each part as its reader gives it. Assumes nothing.
 use native.Mathlib.Omega.{arith}
 use borrow.Author.Needs.{needs}
 use Rattle.book_contents.specs.Reading.{valuesOf}

@@ -1,4 +1,4 @@
--- `sizes::check_lengths` meets its contract: the four list buffers and the byte buffer, one after the other. Assumes
+-- `book_sizes::check_lengths` meets its contract: the four list buffers and the byte buffer, one after the other. Assumes
 -- nothing.
 use borrow.Author.Needs.{needs}
 use Rattle.book_contents.specs.Limits.{checkLengths}

@@ -1,4 +1,4 @@
--- `sizes::size_of` meets its contract: the classes up to the last, none for a class above it. Assumes nothing.
+-- `book_sizes::size_of` meets its contract: the classes up to the last, none for a class above it. Assumes nothing.
 use borrow.Author.Needs.{needs}
 use Rattle.book_contents.specs.Contents.{sizeOf}
 use Rattle.book_sizes.proofs.size_of.Statement.{statement}

@@ -1,4 +1,4 @@
--- `writer::put_book` meets its contract: the header, and then the chains. Assumes nothing.
+-- `book_write::put_book` meets its contract: the header, and then the chains. Assumes nothing.
 use native.Mathlib.Omega.{arith}
 use Rattle.buffer.proofs.Laws.{_then_, kept}
 use Rattle.book_contents.specs.Written.{bookOf}

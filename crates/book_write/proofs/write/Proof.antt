@@ -1,4 +1,4 @@
--- `writer::write` meets its contract: what is not refused is written, and nothing else. Assumes nothing.
+-- `book_write::write` meets its contract: what is not refused is written, and nothing else. Assumes nothing.
 use mathlib.Core.Path.{sym, ap, _∙_}
 use Prim.Native.Nat.{_≤_}
 use native.Mathlib.Omega.{arith}

@@ -1,4 +1,4 @@
--- `header::put_front` meets its contract: six fields, one after the other. Assumes nothing.
+-- `book_write_header::put_front` meets its contract: six fields, one after the other. Assumes nothing.
 use borrow.Author.Needs.{needs}
 use Rattle.buffer.proofs.Laws.{_then_}
 use Rattle.book_contents.specs.Written.{twoBytes}

@@ -1,4 +1,4 @@
--- `header::put_header` meets its contract: five parts, one after the other. Assumes nothing.
+-- `book_write_header::put_header` meets its contract: five parts, one after the other. Assumes nothing.
 use mathlib.Core.Path.{_≡_, sym}
 use native.Mathlib.Omega.{arith}
 use lib.ListN.{length}

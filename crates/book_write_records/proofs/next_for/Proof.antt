@@ -1,4 +1,4 @@
--- `chained::next_for` meets its contract: none at the chain's last, else one higher. Assumes nothing.
+-- `book_write_records::next_for` meets its contract: none at the chain's last, else one higher. Assumes nothing.
 use native.Mathlib.Omega.{arith}
 use borrow.Author.Needs.{needs}
 use borrow.Author.Tests.{eq-eqb, ne-eqb}

@@ -1,4 +1,4 @@
--- `chained::put_chain` meets its contract. The invariant: the records of the entries before j are written. The measure
+-- `book_write_records::put_chain` meets its contract. The invariant: the records of the entries before j are written. The measure
 -- is how many are left.
 -- Assumes nothing.
 use mathlib.Core.Path.{_≡_}

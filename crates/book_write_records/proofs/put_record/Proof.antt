@@ -1,4 +1,4 @@
--- `chained::put_record` meets its contract: the first eight bytes and four numbers. Assumes nothing.
+-- `book_write_records::put_record` meets its contract: the first eight bytes and four numbers. Assumes nothing.
 use borrow.Author.Needs.{needs}
 use Rattle.buffer.proofs.Laws.{_then_}
 use Rattle.book_contents.specs.Written.{recordBytes}

@@ -1,4 +1,4 @@
--- `text::put_number` meets its contract: all but the last digit, and then that. The measure is the number. Assumes nothing.
+-- `buffer::put_number` meets its contract: all but the last digit, and then that. The measure is the number. Assumes nothing.
 use Prim.Native.Nat.{ℕ, _<_, _+_}
 use native.Mathlib.Omega.{arith}
 use borrow.Author.Needs.{needs}

@@ -1,4 +1,4 @@
--- `text::put_byte` meets its contract: one store, or none past the end. Assumes nothing.
+-- `buffer::put_byte` meets its contract: one store, or none past the end. Assumes nothing.
 use mathlib.Core.Path.{sym, refl}
 use lib.Seq.{set-out}
 use borrow.Author.Needs.{needs}

@@ -1,4 +1,4 @@
--- `text::put_bytes` meets its contract. The invariant: the bytes before i are written. The measure is what is left. Assumes nothing.
+-- `buffer::put_bytes` meets its contract. The invariant: the bytes before i are written. The measure is what is left. Assumes nothing.
 use Prim.Native.Nat.{_≤_, _-_}
 use native.Mathlib.Omega.{arith}
 use lib.ListN.{length, take}

@@ -1,4 +1,4 @@
--- `text::put_ended` meets its contract: a number, and the byte that ends it. Assumes nothing.
+-- `buffer::put_ended` meets its contract: a number, and the byte that ends it. Assumes nothing.
 use borrow.Author.Needs.{needs}
 use Rattle.buffer.specs.Text.{ended}
 use Rattle.buffer.proofs.Laws.{_then_}

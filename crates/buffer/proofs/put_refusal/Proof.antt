@@ -1,4 +1,4 @@
--- `text::put_refusal` meets its contract: the word, and the two numbers after it. Assumes nothing.
+-- `buffer::put_refusal` meets its contract: the word, and the two numbers after it. Assumes nothing.
 use native.Mathlib.Omega.{arith}
 use borrow.Author.Needs.{needs}
 use Rattle.buffer.proofs.Laws.{_then_}

@@ -1,4 +1,4 @@
--- `text::put_signed` meets its contract: a minus sign and the size below zero, else the number. Assumes nothing.
+-- `buffer::put_signed` meets its contract: a minus sign and the size below zero, else the number. Assumes nothing.
 use native.Mathlib.Omega.{arith}
 use lib.Signed.{yes-nonNeg}
 use mir.Syntax.{w64}

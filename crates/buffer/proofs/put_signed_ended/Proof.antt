@@ -1,4 +1,4 @@
--- `text::put_signed_ended` meets its contract: a signed number, and the byte that ends it. Assumes nothing.
+-- `buffer::put_signed_ended` meets its contract: a signed number, and the byte that ends it. Assumes nothing.
 use mir.Syntax.{w64}
 use mir.ValLaws.{toZ-ofZ}
 use borrow.Author.Needs.{needs}

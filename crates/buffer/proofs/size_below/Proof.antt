@@ -1,4 +1,4 @@
--- `text::size_below` meets its contract: one subtraction, whose result is not below zero. Assumes nothing.
+-- `buffer::size_below` meets its contract: one subtraction, whose result is not below zero. Assumes nothing.
 use native.Mathlib.Omega.{arith}
 use lib.Signed.{mag}
 use mir.Syntax.{w64}

@@ -1,4 +1,4 @@
--- `boundary::in_fields` meets its contract: the fields are those of the verdict. Assumes nothing.
+-- `c_api::in_fields` meets its contract: the fields are those of the verdict. Assumes nothing.
 use borrow.Author.Needs.{needs}
 use Rattle.c_api.proofs.in_fields.Statement.{statement}
 use Rattle.c_api.proofs.in_fields.Tie as tie

@@ -1,4 +1,4 @@
--- `boundary::report_fields` meets its contract: the fields of either case. Assumes nothing.
+-- `c_api::report_fields` meets its contract: the fields of either case. Assumes nothing.
 use borrow.Author.Needs.{needs}
 use Rattle.c_api.proofs.report_fields.Statement.{statement}
 use Rattle.c_api.proofs.report_fields.Tie as tie

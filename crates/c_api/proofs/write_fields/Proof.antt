@@ -1,4 +1,4 @@
--- `boundary::write_fields` meets its contract: the fields of either case. Assumes nothing.
+-- `c_api::write_fields` meets its contract: the fields of either case. Assumes nothing.
 use borrow.Author.Needs.{needs}
 use Rattle.c_api.proofs.write_fields.Statement.{statement}
 use Rattle.c_api.proofs.write_fields.Tie as tie

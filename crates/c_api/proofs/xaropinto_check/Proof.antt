@@ -1,4 +1,4 @@
--- `boundary::xaropinto_check` meets its contract: the fields are those of the verdict, and all holds that Check
+-- `c_api::xaropinto_check` meets its contract: the fields are those of the verdict, and all holds that Check
 -- promises. Assumes nothing.
 use mathlib.Core.Path.{refl}
 use borrow.Author.Needs.{needs}

@@ -1,4 +1,4 @@
--- `boundary::xaropinto_convert` meets its contract: the fields are those of the verdict, and the buffer is as the
+-- `c_api::xaropinto_convert` meets its contract: the fields are those of the verdict, and the buffer is as the
 -- converter left it. Assumes nothing.
 use borrow.Author.Needs.{needs}
 use Rattle.c_api.proofs.xaropinto_convert.Statement.{statement}

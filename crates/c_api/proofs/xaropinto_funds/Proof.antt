@@ -1,4 +1,4 @@
--- `boundary::xaropinto_funds` meets its contract: the fields are those of both verdicts, and the numbers are as the call
+-- `c_api::xaropinto_funds` meets its contract: the fields are those of both verdicts, and the numbers are as the call
 -- left them. Assumes nothing.
 use mathlib.Core.Path.{ap}
 use borrow.Author.Needs.{needs}

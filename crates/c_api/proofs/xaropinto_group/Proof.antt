@@ -1,4 +1,4 @@
--- `boundary::xaropinto_group` meets its contract: the fields are those of Group's reply, and the table is as Group left it. Assumes nothing.
+-- `c_api::xaropinto_group` meets its contract: the fields are those of Group's reply, and the table is as Group left it. Assumes nothing.
 use mathlib.Core.Path.{sym, ap, _∙_}
 use mir.Syntax.{w64}
 use mir.ValLaws.{toZ-ofZ}

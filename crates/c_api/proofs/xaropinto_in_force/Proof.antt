@@ -1,4 +1,4 @@
--- `boundary::xaropinto_in_force` meets its contract: the fields are those of the reply, and the numbers are as the call
+-- `c_api::xaropinto_in_force` meets its contract: the fields are those of the reply, and the numbers are as the call
 -- left them. Assumes nothing.
 use mathlib.Core.Path.{sym, ap, _∙_}
 use borrow.Author.Needs.{needs}

@@ -1,4 +1,4 @@
--- `boundary::xaropinto_listing` meets its contract: the reply in fields, and the buffer as the call left it.
+-- `c_api::xaropinto_listing` meets its contract: the reply in fields, and the buffer as the call left it.
 -- Assumes nothing.
 use mathlib.Core.Path.{ap, _∙_}
 use borrow.Author.Needs.{needs}

@@ -1,4 +1,4 @@
--- `boundary::xaropinto_practice` meets its contract: the reply in fields, and the bytes as the call left them.
+-- `c_api::xaropinto_practice` meets its contract: the reply in fields, and the bytes as the call left them.
 -- Assumes nothing.
 use mathlib.Core.Path.{ap, _∙_}
 use borrow.Author.Needs.{needs}

@@ -1,4 +1,4 @@
--- `boundary::xaropinto_report_room` meets its contract: the reply in fields. Assumes nothing.
+-- `c_api::xaropinto_report_room` meets its contract: the reply in fields. Assumes nothing.
 use mathlib.Core.Path.{ap, _∙_}
 use borrow.Author.Needs.{needs}
 use Rattle.c_api.specs.Boundary.{reportFields}

@@ -1,4 +1,4 @@
--- `boundary::xaropinto_spread` meets its contract: the fields are those of the reply. Assumes nothing.
+-- `c_api::xaropinto_spread` meets its contract: the fields are those of the reply. Assumes nothing.
 use mathlib.Core.Path.{sym, ap, _∙_}
 use lib.Ieee.{ofBits}
 use borrow.Author.Needs.{needs}

@@ -1,4 +1,4 @@
--- `boundary::xaropinto_write` meets its contract: the fields are those of Write's reply, and the bytes are as Write
+-- `c_api::xaropinto_write` meets its contract: the fields are those of Write's reply, and the bytes are as Write
 -- left them.
 -- Assumes nothing.
 use mathlib.Core.Path.{ap, _∙_}

@@ -1,4 +1,4 @@
--- `settling::discount` meets its contract: each call is one step on the amounts discounted for one year less. The measure is the number of years.
+-- `cash_flow::discount` meets its contract: each call is one step on the amounts discounted for one year less. The measure is the number of years.
 -- Assumes nothing.
 use native.Mathlib.Omega.{arith}
 use lib.ListN.{getD}

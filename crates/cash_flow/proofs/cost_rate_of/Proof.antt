@@ -1,4 +1,4 @@
--- `settling::cost_rate_of` meets its contract: the field that was read, in its range. Assumes nothing.
+-- `cash_flow::cost_rate_of` meets its contract: the field that was read, in its range. Assumes nothing.
 use Rattle.valuation.specs.Portfolio.{costRateOf}
 use Rattle.valuation.proofs.Accepted.{cost-high}
 use borrow.Author.Needs.{needs}

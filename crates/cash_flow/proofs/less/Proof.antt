@@ -1,4 +1,4 @@
--- `settling::less` meets its contract: both numbers are in the lower half of 64 bits, and so is their difference. Assumes nothing.
+-- `cash_flow::less` meets its contract: both numbers are in the lower half of 64 bits, and so is their difference. Assumes nothing.
 use mathlib.Core.Path.{_≡_}
 use native.Mathlib.Nat.{lt-of-le-of-lt}
 use native.Mathlib.Omega.{arith}

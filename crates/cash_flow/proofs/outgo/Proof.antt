@@ -1,4 +1,4 @@
--- `settling::outgo` meets its contract: both products fit, and both parts are as defined. Assumes nothing.
+-- `cash_flow::outgo` meets its contract: both products fit, and both parts are as defined. Assumes nothing.
 use Prim.Native.Nat.{_*_, _≤_}
 use native.Mathlib.Nat.{mul-le-mul, div-le-of-le-mul, le-trans}
 use native.Mathlib.Omega.{arith}

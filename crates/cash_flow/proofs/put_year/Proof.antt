@@ -1,4 +1,4 @@
--- `settling::put_year` meets its contract: four stores in a row. Assumes nothing.
+-- `cash_flow::put_year` meets its contract: four stores in a row. Assumes nothing.
 use Prim.Native.Nat.{_*_}
 use native.Mathlib.Omega.{arith}
 use lib.ListN.{length-set}

@@ -1,4 +1,4 @@
--- `settling::step_back` meets its contract: the part of what is doubled, over what is doubled. Assumes nothing.
+-- `cash_flow::step_back` meets its contract: the part of what is doubled, over what is doubled. Assumes nothing.
 use native.Mathlib.Omega.{arith}
 use borrow.Author.Needs.{needs}
 use Rattle.cash_flow.proofs.Discounting.{halved}

@@ -1,4 +1,4 @@
--- `settling::step_year` meets its contract: one store each. Assumes nothing.
+-- `cash_flow::step_year` meets its contract: one store each. Assumes nothing.
 use mathlib.Core.Path.{ap}
 use native.Mathlib.Omega.{arith}
 use borrow.Author.Needs.{needs}

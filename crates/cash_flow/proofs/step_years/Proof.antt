@@ -1,4 +1,4 @@
--- `settling::step_years` meets its contract: two years a turn, then the one that is left where their number is odd. The invariant: the years
+-- `cash_flow::step_years` meets its contract: two years a turn, then the one that is left where their number is odd. The invariant: the years
 -- from `from` to before k have gone a year back. The measure is the number of years left. Assumes nothing.
 use mathlib.Core.Path.{_≡_}
 use Prim.Native.Nat.{_+_, _-_, _≤_}

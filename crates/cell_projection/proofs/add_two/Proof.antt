@@ -1,4 +1,4 @@
--- `walks::add_two` meets its contract: two additions, of which neither reaches the other's number. Assumes nothing.
+-- `cell_projection::add_two` meets its contract: two additions, of which neither reaches the other's number. Assumes nothing.
 use mathlib.Core.Path.{refl}
 use native.Mathlib.Omega.{arith}
 use borrow.Author.Needs.{needs}

@@ -1,4 +1,4 @@
--- `walks::add_year_0` meets its contract: five times two additions. Assumes nothing.
+-- `cell_projection::add_year_0` meets its contract: five times two additions. Assumes nothing.
 use mathlib.Core.Path.{_≡_, ap}
 use mathlib.Core.List.{List}
 use Prim.Native.Nat.{ℕ, _+_, _≤_}

@@ -1,4 +1,4 @@
--- `walks::all` meets its contract: each of the two is asked. Assumes nothing.
+-- `cell_projection::all` meets its contract: each of the two is asked. Assumes nothing.
 use native.Mathlib.Omega.{arith}
 use borrow.Author.Tests.{ltb-true}
 use Rattle.cell_projection.proofs.all.Statement.{statement}

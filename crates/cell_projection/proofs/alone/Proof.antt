@@ -1,4 +1,4 @@
--- `walks::alone` meets its contract. The invariant is `RunIn`; the measure is the number of years left. Assumes nothing.
+-- `cell_projection::alone` meets its contract. The invariant is `RunIn`; the measure is the number of years left. Assumes nothing.
 use mathlib.Core.Path.{_≡_, refl}
 use Prim.Native.Nat.{ℕ, _-_, _≤_, _<_}
 use native.Mathlib.Omega.{arith}

@@ -1,4 +1,4 @@
--- `walks::one_year` meets its contract: two additions, and the state a year later. Assumes nothing.
+-- `cell_projection::one_year` meets its contract: two additions, and the state a year later. Assumes nothing.
 use Prim.Native.Nat.{_+_, _*_}
 use native.Mathlib.Omega.{arith}
 use borrow.Author.Needs.{needs}

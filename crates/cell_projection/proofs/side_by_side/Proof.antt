@@ -1,4 +1,4 @@
--- `walks::side_by_side` meets its contract: year 0, the first five years, and the later ones where all have something in force. Assumes nothing.
+-- `cell_projection::side_by_side` meets its contract: year 0, the first five years, and the later ones where all have something in force. Assumes nothing.
 use mathlib.Core.Path.{_≡_, refl}
 use native.Mathlib.Omega.{arith}
 use Rattle.cell_projection.specs.Walked.{WalkedTo}

@@ -1,4 +1,4 @@
--- `walks::together` meets its contract. The invariant is `Run`; the measure is the number of years left. Assumes nothing.
+-- `cell_projection::together` meets its contract. The invariant is `Run`; the measure is the number of years left. Assumes nothing.
 use mathlib.Core.Path.{_≡_, refl}
 use Prim.Native.Nat.{ℕ, _-_, _≤_, _<_}
 use native.Mathlib.Omega.{arith}

@@ -1,4 +1,4 @@
--- `walks::walk` meets its contract: all five side by side, and then each alone. Assumes nothing.
+-- `cell_projection::walk` meets its contract: all five side by side, and then each alone. Assumes nothing.
 use mathlib.Core.Path.{_≡_, ap}
 use Prim.Native.Nat.{ℕ, _≤_, _<_}
 use native.Mathlib.Omega.{arith}

@@ -1,4 +1,4 @@
--- `walks::walk_by` meets its contract, by what is asked for. Assumes nothing.
+-- `cell_projection::walk_by` meets its contract, by what is asked for. Assumes nothing.
 use mathlib.Core.Path.{sym, _∙_}
 use Prim.Native.Nat.{_<_}
 use native.Mathlib.Omega.{arith}

@@ -1,4 +1,4 @@
--- `walks::walk_in` meets its contract: one projection alone, from year 0 on. Assumes nothing.
+-- `cell_projection::walk_in` meets its contract: one projection alone, from year 0 on. Assumes nothing.
 use mathlib.Core.Path.{sym, _∙_}
 use native.Mathlib.Omega.{arith}
 use Rattle.cell.proofs.Cells.{state-start}

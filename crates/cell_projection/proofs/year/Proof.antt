@@ -1,4 +1,4 @@
--- `walks::year` meets its contract: five times one year, each at its own places. Assumes nothing.
+-- `cell_projection::year` meets its contract: five times one year, each at its own places. Assumes nothing.
 use mathlib.Core.Path.{_≡_, ap, _∙_}
 use mathlib.Core.List.{List}
 use Prim.Native.Nat.{ℕ, _+_, _*_, _≤_, _<_}

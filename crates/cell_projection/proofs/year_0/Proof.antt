@@ -1,4 +1,4 @@
--- `walks::year_0` meets its contract: a share of whole contracts is so many times the amount of one. Assumes nothing.
+-- `cell_projection::year_0` meets its contract: a share of whole contracts is so many times the amount of one. Assumes nothing.
 use mathlib.Core.Path.{_≡_, ap, _∙_}
 use mathlib.Core.List.{List}
 use Prim.Native.Nat.{ℕ, _+_, _*_, _/_, _≤_, _<_}

@@ -1,4 +1,4 @@
--- `variation::deviation` meets its contract, operation by operation. Assumes nothing.
+-- `claims_estimates::deviation` meets its contract, operation by operation. Assumes nothing.
 use lib.Ieee.{ofBits}
 use borrow.Author.Needs.{needs}
 use Rattle.claims_estimates.specs.Estimates.{deviationOf}

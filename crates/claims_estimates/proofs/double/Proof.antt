@@ -1,4 +1,4 @@
--- `variation::double` meets its contract: the number is far below 2 ^ 53. Assumes nothing.
+-- `claims_estimates::double` meets its contract: the number is far below 2 ^ 53. Assumes nothing.
 use borrow.Author.Needs.{needs}
 use Rattle.claims_estimates.proofs.Whole.{whole-fits}
 use Rattle.claims_estimates.proofs.double.Statement.{statement}

@@ -1,4 +1,4 @@
--- `variation::estimated` meets its contract: each field is that of `estimatesOf`. Assumes nothing.
+-- `claims_estimates::estimated` meets its contract: each field is that of `estimatesOf`. Assumes nothing.
 use borrow.Author.Needs.{needs}
 use Rattle.claims_estimates.specs.Estimates.{estimatesOf}
 use Rattle.claims_estimates.proofs.estimated.Statement.{statement}

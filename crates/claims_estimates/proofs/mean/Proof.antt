@@ -1,4 +1,4 @@
--- `variation::mean` meets its contract: the sum of the five, made a double and divided by 8. Assumes nothing.
+-- `claims_estimates::mean` meets its contract: the sum of the five, made a double and divided by 8. Assumes nothing.
 use lib.Ieee.{ofBits}
 use borrow.Author.Needs.{needs}
 use Rattle.claims_estimates.specs.Estimates.{weighted, meanOf}

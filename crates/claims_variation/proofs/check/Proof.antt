@@ -1,4 +1,4 @@
--- `spread::check` meets its contract: 27, then 28. Assumes nothing.
+-- `claims_variation::check` meets its contract: 27, then 28. Assumes nothing.
 use borrow.Author.Needs.{needs}
 use Rattle.claims_variation.specs.Refusals.{checkSpread}
 use Rattle.claims_variation.proofs.check.Statement.{statement}

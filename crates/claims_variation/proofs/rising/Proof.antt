@@ -1,4 +1,4 @@
--- `spread::rising` meets its contract: the tests are those of the definition. Assumes nothing.
+-- `claims_variation::rising` meets its contract: the tests are those of the definition. Assumes nothing.
 use mathlib.Core.Path.{refl}
 use Rattle.claims_variation.specs.Refusals.{rising}
 use Rattle.claims_variation.proofs.rising.Statement.{statement}

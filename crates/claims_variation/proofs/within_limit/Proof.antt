@@ -1,4 +1,4 @@
--- `spread::within_limit` meets its contract: the tests are those of the definition. Assumes nothing.
+-- `claims_variation::within_limit` meets its contract: the tests are those of the definition. Assumes nothing.
 use mathlib.Core.Path.{refl}
 use Rattle.claims_variation.specs.Refusals.{withinLimit}
 use Rattle.claims_variation.proofs.within_limit.Statement.{statement}

@@ -1,4 +1,4 @@
--- `expenses::figure` meets its contract: 17 passed, so the figure is at most 1,000,000,000. Assumes nothing.
+-- `cost_rate_shares::figure` meets its contract: 17 passed, so the figure is at most 1,000,000,000. Assumes nothing.
 use mathlib.Core.Path.{refl}
 use Prim.Native.Nat.{_+_, _*_}
 use native.Mathlib.Omega.{arith}

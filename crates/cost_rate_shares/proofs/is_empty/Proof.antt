@@ -1,4 +1,4 @@
--- `expenses::is_empty` meets its contract: the three tests are those of the definition. Assumes nothing.
+-- `cost_rate_shares::is_empty` meets its contract: the three tests are those of the definition. Assumes nothing.
 use borrow.Author.Needs.{needs}
 use Rattle.cost_rate_shares.specs.Rates.{isEmpty}
 use Rattle.cost_rate_shares.proofs.is_empty.Statement.{statement}

@@ -1,4 +1,4 @@
--- `expenses::lowered` meets its contract: 17 passed, so the product fits. Assumes nothing.
+-- `cost_rate_shares::lowered` meets its contract: 17 passed, so the product fits. Assumes nothing.
 use mathlib.Core.Path.{refl}
 use native.Mathlib.Omega.{arith}
 use borrow.Author.Needs.{needs}

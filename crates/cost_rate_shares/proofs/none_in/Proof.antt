@@ -1,4 +1,4 @@
--- `expenses::none_in` meets its contract: the three figures are those of the definition. Assumes nothing.
+-- `cost_rate_shares::none_in` meets its contract: the three figures are those of the definition. Assumes nothing.
 use borrow.Author.Needs.{needs}
 use Rattle.conditions.specs.Every.{every}
 use Rattle.cost_rate_shares.specs.Rates.{noneIn}

@@ -1,4 +1,4 @@
--- `expenses::rates` meets its contract: the five rates in order. Assumes nothing.
+-- `cost_rate_shares::rates` meets its contract: the five rates in order. Assumes nothing.
 use borrow.Author.Needs.{needs}
 use Rattle.cost_rate_shares.specs.Rates.{ratesOf}
 use Rattle.cost_rate_shares.proofs.rates.Statement.{statement}

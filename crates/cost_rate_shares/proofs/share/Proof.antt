@@ -1,4 +1,4 @@
--- `expenses::share` meets its contract: a figure is at most its year's sum, which is not zero. Assumes nothing.
+-- `cost_rate_shares::share` meets its contract: a figure is at most its year's sum, which is not zero. Assumes nothing.
 use Prim.Native.Nat.{_≤_}
 use native.Mathlib.Nat.{mul-le-mul}
 use native.Mathlib.Omega.{arith}

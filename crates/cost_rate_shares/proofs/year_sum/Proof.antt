@@ -1,4 +1,4 @@
--- `expenses::year_sum` meets its contract: the five figures of the year, added. Assumes nothing.
+-- `cost_rate_shares::year_sum` meets its contract: the five figures of the year, added. Assumes nothing.
 use native.Mathlib.Omega.{arith}
 use borrow.Author.Needs.{needs}
 use Rattle.cost_rate_shares.specs.Rates.{overGroups, yearSum}

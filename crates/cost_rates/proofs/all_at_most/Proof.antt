@@ -1,4 +1,4 @@
--- `accounts::all_at_most` meets its contract. The invariant: the figures before this one pass. Assumes nothing.
+-- `cost_rates::all_at_most` meets its contract. The invariant: the figures before this one pass. Assumes nothing.
 use mathlib.Core.Path.{_≡_, refl, sym}
 use mathlib.Core.Bool.{true}
 use Prim.Native.Nat.{_-_, _≤_}

@@ -1,4 +1,4 @@
--- `accounts::all_paid` meets its contract: the five tests in order. Assumes nothing.
+-- `cost_rates::all_paid` meets its contract: the five tests in order. Assumes nothing.
 use borrow.Author.Needs.{needs}
 use Rattle.conditions.specs.Every.{every}
 use Rattle.cost_rates.proofs.all_paid.Statement.{statement}

@@ -1,4 +1,4 @@
--- `accounts::can_reckon` meets its contract: the three tests are those of the definition. Assumes nothing.
+-- `cost_rates::can_reckon` meets its contract: the three tests are those of the definition. Assumes nothing.
 use borrow.Author.Needs.{needs}
 use Rattle.cost_rates.specs.Refusals.{canReckon}
 use Rattle.cost_rates.proofs.can_reckon.Statement.{statement}

@@ -1,4 +1,4 @@
--- `accounts::can_split` meets its contract: the three sums are those of the definition. Assumes nothing.
+-- `cost_rates::can_split` meets its contract: the three sums are those of the definition. Assumes nothing.
 use borrow.Author.Needs.{needs}
 use Rattle.conditions.specs.Every.{every}
 use Rattle.cost_rates.specs.Refusals.{canSplit}

@@ -1,4 +1,4 @@
--- `accounts::cost_rates` meets its contract: the reply is the verdict's, its promises follow. Assumes nothing.
+-- `cost_rates::cost_rates` meets its contract: the reply is the verdict's, its promises follow. Assumes nothing.
 use mathlib.Core.Path.{sym, ap, _∙_}
 use borrow.Author.Tests.{not-true, not-false}
 use borrow.Author.Needs.{needs}

@@ -1,4 +1,4 @@
--- `accounts::is_paid` meets its contract: the figures and the test are those of the definition. Assumes nothing.
+-- `cost_rates::is_paid` meets its contract: the figures and the test are those of the definition. Assumes nothing.
 use borrow.Author.Needs.{needs}
 use Rattle.conditions.specs.Every.{every}
 use Rattle.cost_rates.specs.Refusals.{isPaid}

@@ -1,4 +1,4 @@
--- `accounts::refused` meets its contract: every field is as it is written. Assumes nothing.
+-- `cost_rates::refused` meets its contract: every field is as it is written. Assumes nothing.
 use mathlib.Core.Path.{refl}
 use Rattle.cost_rates.proofs.refused.Statement.{statement}
 use Rattle.cost_rates.proofs.refused.Tie as tie

@@ -1,4 +1,4 @@
--- `accounts::within_limits` meets its contract: the four tests are those of the definition. Assumes nothing.
+-- `cost_rates::within_limits` meets its contract: the four tests are those of the definition. Assumes nothing.
 use mathlib.Core.Path.{_≡_}
 use native.Mathlib.Omega.{arith}
 use lib.ListN.{length}

@@ -1,4 +1,4 @@
--- `draw::mix` meets its contract. Assumes nothing.
+-- `generator::mix` meets its contract. Assumes nothing.
 use mathlib.Core.Path.{refl}
 use Rattle.generator.specs.Draws.{mixed}
 use Rattle.generator.proofs.mix.Statement.{statement}

@@ -1,4 +1,4 @@
--- `liability::check_group` meets its contract: the caller's refusals, and then the book's. Assumes nothing.
+-- `group_liability::check_group` meets its contract: the caller's refusals, and then the book's. Assumes nothing.
 use mathlib.Core.Path.{_≡_, sym, _∙_}
 use lib.Dec.{leb, ltb}
 use Rattle.verdict.specs.Verdicts.{_andThen_, need}

@@ -1,4 +1,4 @@
--- `liability::group` meets its contract: where a refusal applies it is given and nothing is touched; else reply and table are those of `settle`.
+-- `group_liability::group` meets its contract: where a refusal applies it is given and nothing is touched; else reply and table are those of `settle`.
 -- What is promised of both follows from these two equations. Assumes nothing.
 use mathlib.Core.Logic.{inr}
 use mathlib.Core.Path.{refl, sym, ap, _∙_}

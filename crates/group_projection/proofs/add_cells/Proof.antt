@@ -1,4 +1,4 @@
--- `projection::add_cells` meets its contract. The invariant: record i is that of the row `own`; what is added and counted so far, with the chain
+-- `group_projection::add_cells` meets its contract. The invariant: record i is that of the row `own`; what is added and counted so far, with the chain
 -- from it on, is what the whole chain adds and counts. The measure is the number of classes above. Assumes nothing.
 use mathlib.Core.Path.{_≡_, refl, sym, ap, _∙_}
 use mathlib.Core.List.{List}

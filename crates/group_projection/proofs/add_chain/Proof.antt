@@ -1,4 +1,4 @@
--- `projection::add_chain` meets its contract: an empty chain adds nothing; of any other the rows are read and its cells added. Assumes nothing.
+-- `group_projection::add_chain` meets its contract: an empty chain adds nothing; of any other the rows are read and its cells added. Assumes nothing.
 use mathlib.Core.Path.{_≡_, refl, sym, ap, _∙_}
 use mathlib.Core.List.{List}
 use Prim.Native.Nat.{ℕ}

@@ -1,4 +1,4 @@
--- `projection::columns_in` meets its contract: it says nothing where all are asked for. Assumes nothing.
+-- `group_projection::columns_in` meets its contract: it says nothing where all are asked for. Assumes nothing.
 use native.Mathlib.Omega.{arith}
 use borrow.Author.Needs.{needs}
 use Rattle.group_projection.proofs.columns_in.Statement.{statement}

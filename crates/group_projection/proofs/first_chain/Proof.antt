@@ -1,4 +1,4 @@
--- `projection::first_chain` meets its contract, by the group. Assumes nothing.
+-- `group_projection::first_chain` meets its contract, by the group. Assumes nothing.
 use native.Mathlib.Omega.{arith}
 use borrow.Author.Tests.{eq-eqb, ne-eqb}
 use borrow.Author.Needs.{needs}

@@ -1,4 +1,4 @@
--- `projection::group_sums` meets its contract. The invariant: what is added and counted so far, with the chains from k on, is what all chains of the
+-- `group_projection::group_sums` meets its contract. The invariant: what is added and counted so far, with the chains from k on, is what all chains of the
 -- group add and count. The measure is the number of chains left. Assumes nothing.
 use mathlib.Core.Path.{_≡_, sym, _∙_}
 use mathlib.Core.List.{List}

@@ -1,4 +1,4 @@
--- `inforce::check_asked` meets its contract: the caller's refusals in a row. Assumes nothing.
+-- `in_force::check_asked` meets its contract: the caller's refusals in a row. Assumes nothing.
 use Rattle.in_force.specs.Screen.{askedCheck}
 use borrow.Author.Needs.{needs}
 use Rattle.in_force.proofs.check_asked.Statement.{statement}

@@ -1,4 +1,4 @@
--- `inforce::in_force` meets its contract: the first refusal is given and nothing is touched; else the numbers are those
+-- `in_force::in_force` meets its contract: the first refusal is given and nothing is touched; else the numbers are those
 -- of `run`. Assumes nothing.
 use mathlib.Core.Path.{_≡_, refl, sym, ap, _∙_}
 use native.Mathlib.Nat.{pos-of-ne-zero}

@@ -1,4 +1,4 @@
--- `inforce::record_of` meets its contract. The invariant: what is found from record i on is what is found in the whole
+-- `in_force::record_of` meets its contract. The invariant: what is found from record i on is what is found in the whole
 -- chain. The measure is the number of classes above. Assumes nothing.
 use mathlib.Core.Path.{_≡_, refl, sym, ap, _∙_}
 use Prim.Native.Nat.{ℕ, _+_, _-_, _≤_}

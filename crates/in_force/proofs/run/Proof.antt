@@ -1,4 +1,4 @@
--- `inforce::run` meets its contract. The invariant: the cell is in its state of year k over the rows that were read, and the numbers of the years
+-- `in_force::run` meets its contract. The invariant: the cell is in its state of year k over the rows that were read, and the numbers of the years
 -- before k stand in front. The measure is the number of years left. Assumes nothing.
 use mathlib.Core.Path.{_≡_, refl, sym, ap, _∙_}
 use mathlib.Core.List.{List, _++_}

@@ -1,4 +1,4 @@
--- `inforce::year_later` meets its contract: of nothing in force nothing is left. Assumes nothing.
+-- `in_force::year_later` meets its contract: of nothing in force nothing is left. Assumes nothing.
 use mathlib.Core.Path.{_≡_}
 use native.Mathlib.Nat.{zero-mul, zero-div}
 use native.Mathlib.Omega.{arith}

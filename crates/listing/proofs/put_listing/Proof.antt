@@ -1,4 +1,4 @@
--- `lines::put_listing` meets its contract. The invariant: the lines of the settings passed are written, each of at most 64 bytes.
+-- `listing::put_listing` meets its contract. The invariant: the lines of the settings passed are written, each of at most 64 bytes.
 -- The measure is the number of lines left. Assumes nothing.
 use mir.Syntax.{w64}
 use mir.ValLaws.{toZ-ofZ}

@@ -1,4 +1,4 @@
--- `lines::write_listing` meets its contract: a refusal of Totals is given and nothing is written; else the run on no
+-- `listing::write_listing` meets its contract: a refusal of Totals is given and nothing is written; else the run on no
 -- bytes tells the length, and the listing is written where it fits. Assumes nothing.
 use native.Mathlib.Omega.{arith}
 use borrow.Author.Needs.{needs}

@@ -1,4 +1,4 @@
--- `practice::drawn_number` meets its contract: a remainder is below what it is by. Assumes nothing.
+-- `practice_book::drawn_number` meets its contract: a remainder is below what it is by. Assumes nothing.
 use mathlib.Core.Path.{refl}
 use Prim.Native.Nat.{_+_}
 use native.Mathlib.Omega.{arith}

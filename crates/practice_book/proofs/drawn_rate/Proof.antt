@@ -1,4 +1,4 @@
--- `practice::drawn_rate` meets its contract: the number, less the lift. Assumes nothing.
+-- `practice_book::drawn_rate` meets its contract: the number, less the lift. Assumes nothing.
 use mathlib.Core.Path.{ap, _∙_}
 use Prim.Native.Nat.{ℕ}
 use native.Mathlib.Omega.{arith}

@@ -1,4 +1,4 @@
--- `practice::less` meets its contract: no difference leaves 64 bits. Assumes nothing.
+-- `practice_book::less` meets its contract: no difference leaves 64 bits. Assumes nothing.
 use mathlib.Core.Logic.{⊎-elim}
 use Prim.Native.Nat.{ℕ, zero, suc, _≤_, _<_}
 use native.Mathlib.Omega.{arith}

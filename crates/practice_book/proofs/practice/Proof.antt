@@ -1,4 +1,4 @@
--- `practice::practice` meets its contract: what is not refused is written, and nothing else. Assumes nothing.
+-- `practice_book::practice` meets its contract: what is not refused is written, and nothing else. Assumes nothing.
 use mathlib.Core.Path.{_≡_, sym, _∙_}
 use borrow.Author.Needs.{needs}
 use lib.ListN.{length}

@@ -1,4 +1,4 @@
--- `practice::put_number` meets its contract: the next draw's number, at place j. Assumes nothing.
+-- `practice_book::put_number` meets its contract: the next draw's number, at place j. Assumes nothing.
 use mathlib.Core.Path.{ap, _∙_}
 use borrow.Author.Needs.{needs}
 use lib.ListN.{set}

@@ -1,4 +1,4 @@
--- `years::curve_of` meets its contract. The invariant: the tables have divisors and fractions of the years before k. The measure is the number of
+-- `present_value::curve_of` meets its contract. The invariant: the tables have divisors and fractions of the years before k. The measure is the number of
 -- years left. Assumes nothing.
 use mathlib.Core.Path.{_≡_, refl, _∙_}
 use Prim.Native.Nat.{ℕ, _-_, _≤_, _<_}

@@ -1,4 +1,4 @@
--- `years::end_of` meets its contract. The invariant: it holds of the end so far. The measure is that end. Assumes nothing.
+-- `present_value::end_of` meets its contract. The invariant: it holds of the end so far. The measure is that end. Assumes nothing.
 use native.Mathlib.Omega.{arith}
 use borrow.Author.Tests.{eqb-true}
 use Rattle.present_value.specs.Outcome.{NoneFrom}

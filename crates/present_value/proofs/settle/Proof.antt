@@ -1,4 +1,4 @@
--- `years::settle` meets its contract. The invariant: the table has the numbers of the years before k, and the two sums are those of the reckoning.
+-- `present_value::settle` meets its contract. The invariant: the table has the numbers of the years before k, and the two sums are those of the reckoning.
 -- The measure is the number of years left. Assumes nothing.
 use mathlib.Core.Path.{_≡_, refl, _∙_}
 use mathlib.Core.List.{List, _++_}

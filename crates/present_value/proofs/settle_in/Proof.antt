@@ -1,4 +1,4 @@
--- `years::settle_in` meets its contract. The invariant: with the years before `from` the two sums are those of the years before k.
+-- `present_value::settle_in` meets its contract. The invariant: with the years before `from` the two sums are those of the years before k.
 -- The measure is the number of years left. Assumes nothing.
 use mathlib.Core.Path.{_≡_, _∙_}
 use Prim.Native.Nat.{_+_, _-_, _*_, _≤_}

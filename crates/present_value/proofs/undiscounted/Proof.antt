@@ -1,4 +1,4 @@
--- `years::undiscounted` meets its contract. The invariant: the tables have premium and outgo of the years from `from` to before k.
+-- `present_value::undiscounted` meets its contract. The invariant: the tables have premium and outgo of the years from `from` to before k.
 -- The measure is the number of years left. Assumes nothing.
 use mathlib.Core.Path.{_≡_, refl, _∙_}
 use Prim.Native.Nat.{_+_, _-_, _*_, _≤_, _<_}

@@ -1,4 +1,4 @@
--- `rows::fraction_of` meets its contract: 2^64 is 18,446,744,073 whole billions and 709,551,616 more. Assumes nothing.
+-- `rate_table::fraction_of` meets its contract: 2^64 is 18,446,744,073 whole billions and 709,551,616 more. Assumes nothing.
 use mathlib.Core.Path.{_≡_}
 use Prim.Native.Nat.{ℕ, _+_, _*_, _/_, _≤_, _<_}
 use native.Mathlib.Nat.{mul-le-mul-left, div-le-of-le-mul}

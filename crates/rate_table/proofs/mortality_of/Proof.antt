@@ -1,4 +1,4 @@
--- `rows::mortality_of` meets its contract: the field that was read, in its range. Assumes nothing.
+-- `rate_table::mortality_of` meets its contract: the field that was read, in its range. Assumes nothing.
 use native.Mathlib.Omega.{arith}
 use Rattle.valuation.specs.Portfolio.{mortalityOf}
 use Rattle.valuation.proofs.Accepted.{mortality-high}

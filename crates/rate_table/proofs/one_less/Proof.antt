@@ -1,4 +1,4 @@
--- `rows::one_less` meets its contract: the product fits, and is cut to one. Assumes nothing.
+-- `rate_table::one_less` meets its contract: the product fits, and is cut to one. Assumes nothing.
 use Prim.Native.Nat.{_*_, _≤_}
 use native.Mathlib.Nat.{mul-le-mul}
 use native.Mathlib.Omega.{arith}

@@ -1,4 +1,4 @@
--- `rows::put` meets its contract: two stores, eight places apart. Assumes nothing.
+-- `rate_table::put` meets its contract: two stores, eight places apart. Assumes nothing.
 use native.Mathlib.Omega.{arith}
 use borrow.Author.Needs.{needs}
 use lib.ListN.{length-set}

@@ -1,4 +1,4 @@
--- `rows::put_row` meets its contract: three columns of what lives on, three of what stays, premium and claims. Assumes nothing.
+-- `rate_table::put_row` meets its contract: three columns of what lives on, three of what stays, premium and claims. Assumes nothing.
 use mathlib.Core.Path.{_≡_}
 use mathlib.Core.List.{List}
 use Prim.Native.Nat.{ℕ, _+_, _*_, _≤_, _<_}

@@ -1,4 +1,4 @@
--- `rows::put_three` meets its contract: three columns, one after the other. Assumes nothing.
+-- `rate_table::put_three` meets its contract: three columns, one after the other. Assumes nothing.
 use mathlib.Core.Path.{_≡_, sym, ap, _∙_}
 use mathlib.Core.List.{List}
 use Prim.Native.Nat.{ℕ, _+_, _*_}

@@ -1,4 +1,4 @@
--- `rows::read_links` meets its contract. The invariant: every row before r is right, and the record that holds for row r is reached. The
+-- `rate_table::read_links` meets its contract. The invariant: every row before r is right, and the record that holds for row r is reached. The
 -- measure is the number of rows left. Assumes nothing.
 use mathlib.Core.Path.{_∙_}
 use mathlib.Core.Logic.{⊎-elim}

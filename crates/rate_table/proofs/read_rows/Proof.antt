@@ -1,4 +1,4 @@
--- `rows::read_rows` meets its contract: the linked records' rows, and the last one again up to the last year. Assumes nothing.
+-- `rate_table::read_rows` meets its contract: the linked records' rows, and the last one again up to the last year. Assumes nothing.
 use borrow.Author.Needs.{needs}
 use Rattle.rate_table.proofs.Repeats.{rows-repeated}
 use Rattle.rate_table.proofs.read_rows.Statement.{statement}

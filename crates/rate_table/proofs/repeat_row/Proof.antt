@@ -1,4 +1,4 @@
--- `rows::repeat_row` meets its contract. The invariant: the numbers before j repeat those a row before. The measure is the number of places
+-- `rate_table::repeat_row` meets its contract. The invariant: the numbers before j repeat those a row before. The measure is the number of places
 -- left. Assumes nothing.
 use mathlib.Core.Path.{_≡_, refl, _∙_}
 use Prim.Native.Nat.{_-_, _*_, _≤_}

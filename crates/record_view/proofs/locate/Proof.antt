@@ -1,4 +1,4 @@
--- `look::locate` meets its contract: the verdict is that of `lookUp`, and the record starts where `record_at` says. Assumes nothing.
+-- `record_view::locate` meets its contract: the verdict is that of `lookUp`, and the record starts where `record_at` says. Assumes nothing.
 use mathlib.Core.Path.{sym, _∙_}
 use native.Mathlib.Omega.{arith}
 use Rattle.record_view.specs.Looker.{locatedIn}

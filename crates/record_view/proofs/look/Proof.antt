@@ -49,13 +49,13 @@ use Rattle.record_view.proofs.Located as P
 use Rattle.record_view.proofs.Located.Laws as P′
 use Rattle.record_view.proofs.locate as locate
 use Rattle.record_view.proofs.locate.Symbol as locate-def
-use Rattle.record_view.proofs.locate.Symbol.{name as #record_view·locate}
+use Rattle.record_view.proofs.locate.Symbol.{name as #record-view·locate}
 use Rattle.record_view.proofs.locate.Met as locate-thm
 use Rattle.record_view.proofs.part as bytes
 use Rattle.record_view.proofs.part.Symbol as bytes-def
-use Rattle.record_view.proofs.part.Symbol.{name as #record_view·part}
+use Rattle.record_view.proofs.part.Symbol.{name as #record-view·part}
 use Rattle.record_view.proofs.part.Met as bytes-thm
-use Rattle.record_view.proofs.look.Key.{name as #record_view·look}
+use Rattle.record_view.proofs.look.Key.{name as #record-view·look}
 use Rattle.record_view.proofs.look as looks
 use Rattle.record_view.proofs.look.Statement as stated
 use Rattle.record_view.proofs.look.Code as code
@@ -135,7 +135,7 @@ module _ {M : Type 1} (𝓤 : URA M) (H : Heap 𝓤) (A : Atoms 𝓤) (W : Given
       nothing ! $ move ! (1 ∷ 0 ∷ []) $ fjoin ! $ owned ! usize (Is usize) (uint-makes 𝓤 H A W w64) (r .place) _ (refl, place-fits) $ fjoin ! $ owned ! u64 (Is u64) (uint-makes 𝓤 H A W w64) (r .refusal) _ (refl, refusal-fits) $ fjoin ! $
       by ! (own-shut 𝓤 H A W (T.the-type α) (T′.the-laws α) (r .refusal, (r .place, (t, tt))))
 
-  module _ (C : Calls 𝓤 H) (Λ : Loops 𝓤 H) (fm : FmC 𝓤 H (W .laws) C) (known-locate : Triple 𝓤 (C #record_view·locate) (Locate 𝓤 H A mem run)) (known-bytes : Triple 𝓤 (C #record_view·part) (Bytes 𝓤 H A mem run)) where
+  module _ (C : Calls 𝓤 H) (Λ : Loops 𝓤 H) (fm : FmC 𝓤 H (W .laws) C) (known-locate : Triple 𝓤 (C #record-view·locate) (Locate 𝓤 H A mem run)) (known-bytes : Triple 𝓤 (C #record-view·part) (Bytes 𝓤 H A mem run)) where
     walk : Is (ShrSlice (named 0) κ u8) s (val s ∷ []) → ent 𝓤 (onEntry 𝓤 H A looks.signature (κ, tt) (q, tt) (s, (i, tt)) at) (WpFn 𝓤 H C Λ code.function (val s ∷ vint w64 i ∷ []) Post)
     walk p =
         qed W (raw (onEntry 𝓤 H A looks.signature (κ, tt) (q, tt) (s, (i, tt)) at) ∷ []) ∵ enter ! C Λ code.function (val s ∷ vint w64 i ∷ []) _ $
@@ -167,13 +167,13 @@ module _ {M : Type 1} (𝓤 : URA M) (H : Heap 𝓤) (A : Atoms 𝓤) (W : Given
         by ! (exits r t (LL.owed P.the-type P′.the-laws r (u ∷ []) is .0 .1) (LL.owed P.the-type P′.the-laws r (u ∷ []) is .1 .0 .1) e e′))))))))))))))
 
 module _ {M : Type 1} (𝓤 : URA M) (H : Heap 𝓤) (A : Atoms 𝓤) (W : Given 𝓤 H A) (mem : Memory → SProp 𝓤) (run : Routine → Fun 𝓤) where
-  look-walks : (C : Calls 𝓤 H) (Λ : Loops 𝓤 H) → FmC 𝓤 H (W .laws) C → Triple 𝓤 (C #record_view·locate) (Locate 𝓤 H A mem run) → Triple 𝓤 (C #record_view·part) (Bytes 𝓤 H A mem run)
+  look-walks : (C : Calls 𝓤 H) (Λ : Loops 𝓤 H) → FmC 𝓤 H (W .laws) C → Triple 𝓤 (C #record-view·locate) (Locate 𝓤 H A mem run) → Triple 𝓤 (C #record-view·part) (Bytes 𝓤 H A mem run)
       → Walks 𝓤 H A looks.ended stayed (WpFn 𝓤 H C Λ code.function) (looks.clauses 𝓤 H A mem run)
   look-walks C Λ fm known-locate known-bytes = walked 𝓤 H A looks.ended stayed (looks.clauses 𝓤 H A mem run) (WpFn 𝓤 H C Λ code.function) (λ κs. (slice-vals, (uint-vals w64, tt))) (λ κs. (shr-slice-tells (named 0) (κs .0) u8, (uint-tells w64, tt)))
       (λ κs qs bounds a g are. via 𝓤 _ (fst∗ 𝓤 _ (emp 𝓤)) (walk 𝓤 H A W mem run (κs .0) (qs .0) (a .0) (a .1 .0) (are .1 .0 .1) C Λ fm known-locate known-bytes (are .0)))
 
 look-meets : {M : Type 1} (𝓤 : URA M) (H : Heap 𝓤) (A : Atoms 𝓤) (W : Given 𝓤 H A) (mem : Memory → SProp 𝓤) (run : Routine → Fun 𝓤) (𝓣 : Tables 𝓤 H)
-    → Triple 𝓤 (𝓣 .C #record_view·locate) (Locate 𝓤 H A mem run) → Triple 𝓤 (𝓣 .C #record_view·part) (Bytes 𝓤 H A mem run)
+    → Triple 𝓤 (𝓣 .C #record-view·locate) (Locate 𝓤 H A mem run) → Triple 𝓤 (𝓣 .C #record-view·part) (Bytes 𝓤 H A mem run)
     → Meets 𝓤 H A looks.signature (WpFn 𝓤 H (𝓣 .C) (𝓣 .Λ) code.function) (looks.spec 𝓤 H A mem run)
 look-meets 𝓤 H A W mem run 𝓣 known-locate known-bytes = walk-meets 𝓤 H A looks.ended stayed W (goes-none-slice 𝓤 H A W 1 (0 ∷ []) tt (plain (λ _. u8)) yes, (goes-none 𝓤 H A W 1 (λ _. usize) yes (λ κs x f. refl), tt)) (looks.clauses 𝓤 H A mem run) (WpFn 𝓤 H (𝓣 .C) (𝓣 .Λ) code.function) (WpFn-mono 𝓤 H (W .laws) 𝓣 code.function)
     (look-walks 𝓤 H A W mem run (𝓣 .C) (𝓣 .Λ) (fmOf 𝓤 H (W .laws) 𝓣) known-locate known-bytes)
@@ -182,7 +182,7 @@ pub look-spec : {M : Type 1} → stated.statement M
 unfolding code.routine tablesOf
 look-spec 𝓤 H 𝓜 𝓖 𝓡 =
     entered 𝓤 H (tripleOf 𝓤 H (𝓖 .A) looks.signature (looks.spec 𝓤 H (𝓖 .A) (𝓜 .mem) (𝓡 .run)))
-    (tables 𝓤 H 𝓜 𝓡 code.env .C) (tables 𝓤 H 𝓜 𝓡 code.env .Λ) #record_view·look code.function (code.unfolded 𝓤 H 𝓜 𝓡)
+    (tables 𝓤 H 𝓜 𝓡 code.env .C) (tables 𝓤 H 𝓜 𝓡 code.env .Λ) #record-view·look code.function (code.unfolded 𝓤 H 𝓜 𝓡)
     (look-meets 𝓤 H (𝓖 .A) (givenOf 𝓤 H 𝓜 𝓖) (𝓜 .mem) (𝓡 .run) (tablesOf 𝓤 H 𝓜 (tables 𝓤 H 𝓜 𝓡 code.env))
-    (cited 𝓤 H (Locate 𝓤 H (𝓖 .A) (𝓜 .mem) (𝓡 .run)) 𝓜 𝓡 code.env #record_view·locate locate-def.routine code.calls-record_view·locate (locate-thm.met 𝓤 H 𝓜 𝓖 𝓡))
-    (cited 𝓤 H (Bytes 𝓤 H (𝓖 .A) (𝓜 .mem) (𝓡 .run)) 𝓜 𝓡 code.env #record_view·part bytes-def.routine code.calls-record_view·part (bytes-thm.met 𝓤 H 𝓜 𝓖 𝓡)))
+    (cited 𝓤 H (Locate 𝓤 H (𝓖 .A) (𝓜 .mem) (𝓡 .run)) 𝓜 𝓡 code.env #record-view·locate locate-def.routine code.calls-record-view·locate (locate-thm.met 𝓤 H 𝓜 𝓖 𝓡))
+    (cited 𝓤 H (Bytes 𝓤 H (𝓖 .A) (𝓜 .mem) (𝓡 .run)) 𝓜 𝓡 code.env #record-view·part bytes-def.routine code.calls-record-view·part (bytes-thm.met 𝓤 H 𝓜 𝓖 𝓡)))

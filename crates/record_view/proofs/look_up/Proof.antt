@@ -1,4 +1,4 @@
--- `look::look_up` meets its contract: the book's verdict, and for an accepted book the test of the number. Assumes nothing.
+-- `record_view::look_up` meets its contract: the book's verdict, and for an accepted book the test of the number. Assumes nothing.
 use mathlib.Core.Path.{sym, _∙_}
 use native.Mathlib.Omega.{arith}
 use Rattle.verdict.specs.Verdicts.{_andThen_}

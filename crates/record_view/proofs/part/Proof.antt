@@ -1,4 +1,4 @@
--- `look::part` meets its contract: the part is taken where it lies in the book, else none at its beginning. Assumes nothing.
+-- `record_view::part` meets its contract: the part is taken where it lies in the book, else none at its beginning. Assumes nothing.
 use mathlib.Core.Path.{_≡_, refl, ap}
 use native.Mathlib.Omega.{arith}
 use mathlib.Core.Bool.{true, false}

@@ -1,4 +1,4 @@
--- `sheet::digits` meets its contract: a number has one digit more than its tenth. The measure is the number.
+-- `report_lines::digits` meets its contract: a number has one digit more than its tenth. The measure is the number.
 -- Assumes nothing.
 use Prim.Native.Nat.{ℕ, _<_}
 use native.Mathlib.Omega.{arith}

@@ -1,4 +1,4 @@
--- `sheet::line_length` meets its contract: the digits of four numbers, and the four bytes that end them.
+-- `report_lines::line_length` meets its contract: the digits of four numbers, and the four bytes that end them.
 -- Assumes nothing.
 use native.Mathlib.Omega.{arith}
 use borrow.Author.Needs.{needs}

@@ -1,4 +1,4 @@
--- `sheet::put_line` meets its contract: four numbers one after the other, as the definition joins their texts.
+-- `report_lines::put_line` meets its contract: four numbers one after the other, as the definition joins their texts.
 -- Assumes nothing.
 use borrow.Author.Needs.{needs}
 use Rattle.buffer.proofs.Laws.{_then_}

@@ -1,4 +1,4 @@
--- `factors::factors` meets its contract: four scaled factors in a row. Assumes nothing.
+-- `risk_factors::factors` meets its contract: four scaled factors in a row. Assumes nothing.
 use native.Mathlib.Omega.{arith}
 use borrow.Author.Needs.{needs}
 use Rattle.risk_factors.specs.Factors.{factorsOf}

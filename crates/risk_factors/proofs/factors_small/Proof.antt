@@ -1,4 +1,4 @@
--- `factors::factors_small` meets its contract: four tests in a row. Assumes nothing.
+-- `risk_factors::factors_small` meets its contract: four tests in a row. Assumes nothing.
 use borrow.Author.Needs.{needs}
 use Rattle.conditions.specs.Every.{every}
 use Rattle.risk_factors.specs.Refusals.{factorsSmall}

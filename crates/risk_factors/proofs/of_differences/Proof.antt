@@ -1,4 +1,4 @@
--- `factors::of_differences` meets its contract: the tests in their order, then the root of the form. Assumes nothing.
+-- `risk_factors::of_differences` meets its contract: the tests in their order, then the root of the form. Assumes nothing.
 use mathlib.Core.Path.{_≡_, sym, ap, _∙_}
 use mathlib.Core.Bool.{true}
 use Prim.Native.Nat.{ℕ, _/_}

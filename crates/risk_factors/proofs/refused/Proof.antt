@@ -1,4 +1,4 @@
--- `factors::refused` meets its contract: every field is as it is written. Assumes nothing.
+-- `risk_factors::refused` meets its contract: every field is as it is written. Assumes nothing.
 use mathlib.Core.Path.{refl}
 use Rattle.risk_factors.proofs.refused.Statement.{statement}
 use Rattle.risk_factors.proofs.refused.Tie as tie

@@ -1,4 +1,4 @@
--- `factors::scaled` meets its contract: the size of the difference, scaled, with its sign. Assumes nothing.
+-- `risk_factors::scaled` meets its contract: the size of the difference, scaled, with its sign. Assumes nothing.
 use mathlib.Core.Path.{ap, _∙_}
 use Prim.Native.Nat.{ℕ, _*_, _/_}
 use native.Mathlib.Omega.{arith}

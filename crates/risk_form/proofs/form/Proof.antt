@@ -1,4 +1,4 @@
--- `quadratic::form` meets its contract. The invariant: the sum is that of the rows before i. The measure is the
+-- `risk_form::form` meets its contract. The invariant: the sum is that of the rows before i. The measure is the
 -- number of rows left. Assumes nothing.
 use mathlib.Core.Path.{_≡_, refl}
 use Prim.Native.Nat.{_-_, _≤_}

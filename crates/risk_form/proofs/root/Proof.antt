@@ -1,4 +1,4 @@
--- `quadratic::root` meets its contract. The invariant: the root is at least low and below high. The measure
+-- `risk_form::root` meets its contract. The invariant: the root is at least low and below high. The measure
 -- is how far they are apart. Assumes nothing.
 use mathlib.Core.Path.{_≡_}
 use Prim.Native.Nat.{_+_, _-_, _*_, _/_, _≤_, _<_}

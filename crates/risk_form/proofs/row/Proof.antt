@@ -1,4 +1,4 @@
--- `quadratic::row` meets its contract. The invariant: the sum is that of the terms before j. The measure is the
+-- `risk_form::row` meets its contract. The invariant: the sum is that of the terms before j. The measure is the
 -- number of terms left. Assumes nothing.
 use mathlib.Core.Path.{_≡_, refl}
 use Prim.Native.Nat.{_-_, _≤_}

@@ -1,4 +1,4 @@
--- `risk::coefficients_right` meets its contract: four tests in a row. Assumes nothing.
+-- `risk_model::coefficients_right` meets its contract: four tests in a row. Assumes nothing.
 use mathlib.Core.Path.{refl}
 use borrow.Author.Needs.{needs}
 use Rattle.conditions.specs.Every.{every}

@@ -1,4 +1,4 @@
--- `risk::correlation_right` meets its contract. The invariant: so far each place before k is
+-- `risk_model::correlation_right` meets its contract. The invariant: so far each place before k is
 -- right. The measure is the number of places left. Assumes nothing.
 use mathlib.Core.Path.{_≡_, refl}
 use mathlib.Core.Bool.{Bool}

@@ -1,4 +1,4 @@
--- `risk::model_right` meets its contract: both tests of a model. Assumes nothing.
+-- `risk_model::model_right` meets its contract: both tests of a model. Assumes nothing.
 use borrow.Author.Needs.{needs}
 use Rattle.risk_model.specs.Model.{modelRight}
 use Rattle.risk_model.proofs.model_right.Statement.{statement}

@@ -1,4 +1,4 @@
--- `risk::right_at` meets its contract: the tests of one place. Assumes nothing.
+-- `risk_model::right_at` meets its contract: the tests of one place. Assumes nothing.
 use borrow.Author.Needs.{needs}
 use Rattle.risk_model.specs.Model.{rightAt}
 use Rattle.risk_model.proofs.right_at.Statement.{statement}

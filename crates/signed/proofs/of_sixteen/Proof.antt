@@ -1,4 +1,4 @@
--- `signs::of_sixteen` meets its contract: the number that was read. Assumes nothing.
+-- `signed::of_sixteen` meets its contract: the number that was read. Assumes nothing.
 use borrow.Author.Needs.{needs}
 use Rattle.signed.specs.Signs.{numberAt}
 use Rattle.signed.proofs.Sizes.{back}

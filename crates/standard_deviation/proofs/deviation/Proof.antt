@@ -1,4 +1,4 @@
--- `deviation::deviation` meets its contract: the book's refusal as Totals gives it, or what its four differences give.
+-- `standard_deviation::deviation` meets its contract: the book's refusal as Totals gives it, or what its four differences give.
 -- Assumes nothing.
 use mathlib.Core.Path.{sym, ap, _∙_}
 use mathlib.Core.List.{List}

@@ -1,4 +1,4 @@
--- `test_walk::first_walk` is safe: the reading of the rows and the walk have what they ask for, from the check. Assumes nothing.
+-- `test_cell_projection::first_walk` is safe: the reading of the rows and the walk have what they ask for, from the check. Assumes nothing.
 use mathlib.Core.Path.{_≡_, refl, sym, _∙_}
 use Prim.Native.Nat.{_<_}
 use native.Mathlib.Omega.{arith}

@@ -1,4 +1,4 @@
--- `test_walk::main` ends: the measure is the number of entries that it may still read. Assumes nothing.
+-- `test_cell_projection::main` ends: the measure is the number of entries that it may still read. Assumes nothing.
 use Prim.Native.Nat.{_-_, _≤_}
 use borrow.Author.Needs.{needs}
 use Rattle.test_cell_projection.proofs.main.Statement.{statement}

@@ -1,4 +1,4 @@
--- `test_look::write_bytes` ends: the measure is the number of bytes that are left. Assumes nothing.
+-- `test_record_view::write_bytes` ends: the measure is the number of bytes that are left. Assumes nothing.
 use Prim.Native.Nat.{_-_, _≤_}
 use lib.ListN.{length}
 use borrow.Author.Needs.{needs}

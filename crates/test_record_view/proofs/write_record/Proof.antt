@@ -1,4 +1,4 @@
--- `test_look::write_record` is safe and ends: a walk of its MIR, by hand. The `Shown` that `record_view::look` returns is held
+-- `test_record_view::write_record` is safe and ends: a walk of its MIR, by hand. The `Shown` that `record_view::look` returns is held
 -- in a local and taken apart, and `write_shown` is called on its fields. All that the proof knows of the two is that
 -- each meets its contract. A `&[u8]` is Copy, so what it owns is had again for the exit. Assumes nothing.
 use mathlib.Core.Path.{_≡_, refl, ap}
@@ -50,13 +50,13 @@ use Rattle.record_view.proofs.Shown as T
 use Rattle.record_view.proofs.Shown.Laws as T′
 use Rattle.record_view.proofs.look as looks
 use Rattle.record_view.proofs.look.Symbol as looks-def
-use Rattle.record_view.proofs.look.Symbol.{name as #record_view·look}
+use Rattle.record_view.proofs.look.Symbol.{name as #record-view·look}
 use Rattle.record_view.proofs.look.Met as looks-thm
 use Rattle.test_record_view.proofs.write_shown as prints
 use Rattle.test_record_view.proofs.write_shown.Symbol as prints-def
-use Rattle.test_record_view.proofs.write_shown.Symbol.{name as #test-record_view·write-shown}
+use Rattle.test_record_view.proofs.write_shown.Symbol.{name as #test-record-view·write-shown}
 use Rattle.test_record_view.proofs.write_shown.Met as prints-thm
-use Rattle.test_record_view.proofs.write_record.Key.{name as #test-record_view·write-record}
+use Rattle.test_record_view.proofs.write_record.Key.{name as #test-record-view·write-record}
 use Rattle.test_record_view.proofs.write_record as writes
 use Rattle.test_record_view.proofs.write_record.Statement as stated
 use Rattle.test_record_view.proofs.write_record.Code as code
@@ -156,8 +156,8 @@ module _ {M : Type 1} (𝓤 : URA M) (H : Heap 𝓤) (A : Atoms 𝓤) (W : Given
   typed r v is = LL.lawful (T.the-type αᵉ) (T′.the-laws αᵉ) 𝓤 H A W .typed r (v ∷ []) is .0
 
   module _ (C : Calls 𝓤 H) (Λ : Loops 𝓤 H) (fm : FmC 𝓤 H (W .laws) C)
-      (known-look : Triple 𝓤 (C #record_view·look) (Looks 𝓤 H A mem run))
-      (known-print : Triple 𝓤 (C #test-record_view·write-shown) (Prints 𝓤 H A mem run)) where
+      (known-look : Triple 𝓤 (C #record-view·look) (Looks 𝓤 H A mem run))
+      (known-print : Triple 𝓤 (C #test-record-view·write-shown) (Prints 𝓤 H A mem run)) where
     walk : Is (ShrSlice (named 0) κ u8) s (val s ∷ [])
         → ent 𝓤 (onEntry 𝓤 H A writes.signature (κ, tt) (q, tt) (s, (i, tt)) at)
         (WpFn 𝓤 H C Λ code.function (val s ∷ vint w64 i ∷ []) Post)
@@ -214,8 +214,8 @@ module _ {M : Type 1} (𝓤 : URA M) (H : Heap 𝓤) (A : Atoms 𝓤) (W : Given
 module _ {M : Type 1} (𝓤 : URA M) (H : Heap 𝓤) (A : Atoms 𝓤) (W : Given 𝓤 H A) (mem : Memory → SProp 𝓤)
     (run : Routine → Fun 𝓤) where
   writes-walks : (C : Calls 𝓤 H) (Λ : Loops 𝓤 H) → FmC 𝓤 H (W .laws) C
-      → Triple 𝓤 (C #record_view·look) (Looks 𝓤 H A mem run)
-      → Triple 𝓤 (C #test-record_view·write-shown) (Prints 𝓤 H A mem run)
+      → Triple 𝓤 (C #record-view·look) (Looks 𝓤 H A mem run)
+      → Triple 𝓤 (C #test-record-view·write-shown) (Prints 𝓤 H A mem run)
       → Walks 𝓤 H A writes.ended stayed (WpFn 𝓤 H C Λ code.function) (writes.clauses 𝓤 H A mem run)
   writes-walks C Λ fm known-look known-print =
       walked 𝓤 H A writes.ended stayed (writes.clauses 𝓤 H A mem run) (WpFn 𝓤 H C Λ code.function)
@@ -226,8 +226,8 @@ module _ {M : Type 1} (𝓤 : URA M) (H : Heap 𝓤) (A : Atoms 𝓤) (W : Given
 
 writes-meets : {M : Type 1} (𝓤 : URA M) (H : Heap 𝓤) (A : Atoms 𝓤) (W : Given 𝓤 H A) (mem : Memory → SProp 𝓤)
     (run : Routine → Fun 𝓤) (𝓣 : Tables 𝓤 H)
-    → Triple 𝓤 (𝓣 .C #record_view·look) (Looks 𝓤 H A mem run)
-    → Triple 𝓤 (𝓣 .C #test-record_view·write-shown) (Prints 𝓤 H A mem run)
+    → Triple 𝓤 (𝓣 .C #record-view·look) (Looks 𝓤 H A mem run)
+    → Triple 𝓤 (𝓣 .C #test-record-view·write-shown) (Prints 𝓤 H A mem run)
     → Meets 𝓤 H A writes.signature (WpFn 𝓤 H (𝓣 .C) (𝓣 .Λ) code.function) (writes.spec 𝓤 H A mem run)
 writes-meets 𝓤 H A W mem run 𝓣 known-look known-print =
     walk-meets 𝓤 H A writes.ended stayed W (
@@ -242,10 +242,10 @@ pub write-record-spec : {M : Type 1} → stated.statement M
 unfolding code.routine tablesOf
 write-record-spec 𝓤 H 𝓜 𝓖 𝓡 =
     entered 𝓤 H (tripleOf 𝓤 H (𝓖 .A) writes.signature (writes.spec 𝓤 H (𝓖 .A) (𝓜 .mem) (𝓡 .run)))
-    (tables 𝓤 H 𝓜 𝓡 code.env .C) (tables 𝓤 H 𝓜 𝓡 code.env .Λ) #test-record_view·write-record code.function
+    (tables 𝓤 H 𝓜 𝓡 code.env .C) (tables 𝓤 H 𝓜 𝓡 code.env .Λ) #test-record-view·write-record code.function
     (code.unfolded 𝓤 H 𝓜 𝓡)
     (writes-meets 𝓤 H (𝓖 .A) (givenOf 𝓤 H 𝓜 𝓖) (𝓜 .mem) (𝓡 .run) (tablesOf 𝓤 H 𝓜 (tables 𝓤 H 𝓜 𝓡 code.env))
-    (cited 𝓤 H (Looks 𝓤 H (𝓖 .A) (𝓜 .mem) (𝓡 .run)) 𝓜 𝓡 code.env #record_view·look looks-def.routine
-    code.calls-record_view·look (looks-thm.met 𝓤 H 𝓜 𝓖 𝓡))
-    (cited 𝓤 H (Prints 𝓤 H (𝓖 .A) (𝓜 .mem) (𝓡 .run)) 𝓜 𝓡 code.env #test-record_view·write-shown prints-def.routine
-    code.calls-test-record_view·write-shown (prints-thm.met 𝓤 H 𝓜 𝓖 𝓡)))
+    (cited 𝓤 H (Looks 𝓤 H (𝓖 .A) (𝓜 .mem) (𝓡 .run)) 𝓜 𝓡 code.env #record-view·look looks-def.routine
+    code.calls-record-view·look (looks-thm.met 𝓤 H 𝓜 𝓖 𝓡))
+    (cited 𝓤 H (Prints 𝓤 H (𝓖 .A) (𝓜 .mem) (𝓡 .run)) 𝓜 𝓡 code.env #test-record-view·write-shown prints-def.routine
+    code.calls-test-record-view·write-shown (prints-thm.met 𝓤 H 𝓜 𝓖 𝓡)))

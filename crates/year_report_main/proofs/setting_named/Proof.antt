@@ -1,4 +1,4 @@
--- `report::setting_named` meets its contract: the two tests, in turn. Assumes nothing.
+-- `year_report_main::setting_named` meets its contract: the two tests, in turn. Assumes nothing.
 use borrow.Author.Needs.{needs}
 use borrow.Author.Tests.{eq-eqb, ne-eqb, le-leb, lt-leb}
 use Rattle.year_report_main.specs.Words.{settingNamed}

@@ -1,4 +1,4 @@
--- `report::setting_of` meets its contract: the two tests, in turn. Assumes nothing.
+-- `year_report_main::setting_of` meets its contract: the two tests, in turn. Assumes nothing.
 use native.Mathlib.Omega.{arith}
 use borrow.Author.Needs.{needs}
 use borrow.Author.Tests.{eq-eqb, ne-eqb, le-leb, lt-leb}

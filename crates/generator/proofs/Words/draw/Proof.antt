@@ -1,4 +1,4 @@
--- `draw::Words::draw` meets its contract. Assumes nothing.
+-- `generator::Words::draw` meets its contract. Assumes nothing.
 use borrow.Author.Needs.{needs}
 use Rattle.generator.specs.Draws.{drawOf}
 use Rattle.generator.proofs.Words.draw.Statement.{statement}

@@ -1,4 +1,4 @@
--- `draw::Words::next` meets its contract. Assumes nothing.
+-- `generator::Words::next` meets its contract. Assumes nothing.
 use borrow.Author.Needs.{needs}
 use Rattle.generator.specs.Draws.{step}
 use Rattle.generator.proofs.Words.next.Statement.{statement}
