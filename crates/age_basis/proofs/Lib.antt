@@ -1,5 +1,5 @@
 pub mod Places
 pub mod Exact
 pub mod Passes
-pub mod Promised
+pub mod ConvertContract
 pub mod Lowering

@@ -93,9 +93,9 @@ module _ (b : List ℕ) where
         ∙ some-more (linkClassAt b p k) j (122 - j) (λ d. rw (none-past j z d)) in
         record { size = l .size; bytes = λ p h. l .bytes p h ∙ rw (same p) }
 
-    pub walk-start : (i : ℕ) (before : List ℕ) → i ≡ headOf b k → Walk b k i before before
+    pub project-start : (i : ℕ) (before : List ℕ) → i ≡ headOf b k → Walk b k i before before
     unfolding linkFrom
-    walk-start i before e = record {
+    project-start i before e = record {
       steps = 0;
       few = omega arith;
       here = e;
@@ -105,15 +105,15 @@ module _ (b : List ℕ) where
   module _ (r : Rules 2 b) where
     -- a step of the walk, and its end
     module _ (k : ℕ) (few : k < chains) (i : ℕ) (before mid : List ℕ) (w : Walk b k i before mid) where
-      pub walk-end : i ≡ 0 → Lowered b (λ p. chainClassAt b p k) before mid
-      walk-end z = chain-done k (w .steps) before mid (sym (w .here) ∙ z) (w .few) (w .passed)
+      pub project-end : i ≡ 0 → Lowered b (λ p. chainClassAt b p k) before mid
+      project-end z = chain-done k (w .steps) before mid (sym (w .here) ∙ z) (w .few) (w .passed)
 
       module _ (some : i ≡ 0 → ⊥) where
         link-some : 0 < linkAt b k (w .steps)
         link-some = rw (← (w .here)) (pos-of-ne-zero some)
 
-        pub walk-ready : Inside b i × (1 ≤ classOf b i)
-        walk-ready =
+        pub project-ready : Inside b i × (1 ≤ classOf b i)
+        project-ready =
             let x = link-inside b r k (w .steps) few link-some in
             rw (w .here) ((link-some, omega arith), link-lowest b r k (w .steps) few link-some)
 
@@ -122,8 +122,8 @@ module _ (b : List ℕ) where
           next-here =
               next-is ∙ rw (add-one (w .steps), link-more, ← (w .here)) (sym (after-some b i (pos-of-ne-zero some)))
 
-          pub walk-more : (after : List ℕ) → Lowered b (λ p. classAt p i) mid after → Walk b k next before after
-          walk-more after m = record {
+          pub project-more : (after : List ℕ) → Lowered b (λ p. classAt p i) mid after → Walk b k next before after
+          project-more after m = record {
             steps = w .steps + 1;
             few = omega (arith, link-steps b r k (w .steps) few link-some);
             here = next-here;
@@ -131,8 +131,8 @@ module _ (b : List ℕ) where
                 (record { size = m .size; bytes = λ p h. rw (← (w .here)) (m .bytes p h) });
           }
 
-          pub walk-falls : ahead b next < ahead b i
-          walk-falls = rw (ne-eqb i 0 some) (by-next (eqb next 0) refl)
+          pub project-falls : ahead b next < ahead b i
+          project-falls = rw (ne-eqb i 0 some) (by-next (eqb next 0) refl)
             where
               here-class : classOf b i ≡ classOf b (headOf b k) + w .steps
               here-class = rw (w .here) (r .chain k few .rising (w .steps) link-some)

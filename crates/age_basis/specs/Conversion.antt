@@ -49,7 +49,7 @@ converted b = listOf (convertedByte b) (length b)
 
 -- 16 a buffer shorter than the book; then the book's own refusals, on basis 2
 unfoldable pub convertCheck : List ℕ → ℕ → Verdict
-convertCheck b room = need (leb (length b) room) 16 0 andThen checkBook 2 b
+convertCheck b capacity = need (leb (length b) capacity) 16 0 andThen checkBook 2 b
 
 -- the lent buffer afterwards: the converted book, then what stood there; as it was where refused
 abbrev pub bufferOf : Verdict → List ℕ → List ℕ → List ℕ
@@ -62,7 +62,7 @@ convertedBuffer b before = bufferOf (convertCheck b (length before)) (converted 
 -- What the call promises: its reply and the buffer equal their definitions; and, where the reply has no refusal, the
 -- converted book, as it then stands in the buffer, passes the check on basis 1, with as many linked records that hold
 -- contracts as before.
-pub record ConvertPromised (b before after : List ℕ) (reply : Verdict) : Type 0 where
+pub record ConvertContract (b before after : List ℕ) (reply : Verdict) : Type 0 where
   pub reply-is : reply ≡ convertCheck b (length before)
   pub buffer-is : after ≡ convertedBuffer b before
   pub passes : refusalOf reply ≡ 0 → let v = checkBook 1 (take (length b) after) in

@@ -8,16 +8,16 @@ ghost use Rattle.book.specs.Layout.{classOf};
 ghost use Rattle.book.specs.Rules.{Rules};
 ghost use Rattle.book.specs.Reading.{Inside};
 ghost use Rattle.age_basis.specs.Conversion.{classAt, chainClassAt, linkedClassAt, converted, convertCheck};
-ghost use Rattle.age_basis.specs.Conversion.{ConvertPromised};
+ghost use Rattle.age_basis.specs.Conversion.{ConvertContract};
 ghost use Rattle.age_basis.specs.Steps.{Lowered};
 use book::CHAINS;
 use verdict::Verdict;
 
 // 16, then the book's refusals on basis 2.
-fn check_convert(book: &[u8], room: usize) -> Verdict
-    ensures { λ r. ⌜ r ≡ convertCheck (now (book .entry)) room ⌝ }
+fn check_convert(book: &[u8], capacity: usize) -> Verdict
+    ensures { λ r. ⌜ r ≡ convertCheck (now (book .entry)) capacity ⌝ }
 {
-    if room < book.len() {
+    if capacity < book.len() {
         return Verdict::Refused(16, 0);
     }
     book_check::check_on(book, 2)
@@ -69,7 +69,7 @@ fn write_converted(book: &[u8], out: &mut [u8])
 
 // A buffer that is longer than the book keeps its other bytes; where the answer is a refusal, it keeps all.
 pub fn convert(book: &[u8], out: &mut [u8]) -> Verdict
-    ensures { λ r. ⌜ ConvertPromised (now (book .entry)) (now (out .entry)) (now (out .exit)) r ⌝ }
+    ensures { λ r. ⌜ ConvertContract (now (book .entry)) (now (out .entry)) (now (out .exit)) r ⌝ }
 {
     let v = check_convert(book, out.len());
     let Verdict::Accepted(_) = v else {

@@ -13,9 +13,9 @@ fn tell_refusal(number: u64, place: usize) {
 }
 
 fn main() {
-    let mut space = book::room();
+    let mut space = book::input_buffer();
     let got = io::read_full(STDIN_FILENO, &mut space);
-    let mut converted = book::room();
+    let mut converted = book::input_buffer();
     let v = age_basis::convert(&space[..got], &mut converted);
     match v {
         Verdict::Accepted(_) => {

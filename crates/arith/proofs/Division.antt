@@ -5,7 +5,7 @@ use native.Mathlib.Nat.{one-mul, div-add-mod', div-mul-le-self, lt-div-mul-add, 
 use native.Mathlib.Omega.{arith}
 use borrow.Author.Tests.{ltb-false}
 use mathlib.Core.Bool.{false}
-use Rattle.arith.specs.Fractions.{Fraction, nearTop}
+use Rattle.arith.specs.Fractions.{IsFraction, nearTop}
 
 -- x y / d is q y + r y / d, where x = q d + r
 pub mul-div : (x y d : ℕ) → 0 < d → (x * y) / d ≡ (x / d) * y + ((x % d) * y) / d
@@ -109,20 +109,20 @@ pub quotient-next : (n d q : ℕ) → 0 < d → q * d ≤ n → n < q * d + 2 * 
 quotient-next n d q some h k l = quotient-is n d (q + 1) some (omega arith) (omega arith)
 
 -- a fraction, by its two sides
-pub fraction-is : (w d f : ℕ) → f * d ≤ w * 18446744073709551616 → w * 18446744073709551616 ≤ f * d + d → Fraction w d f
-unfolding Fraction
+pub fraction-is : (w d f : ℕ) → f * d ≤ w * 18446744073709551616 → w * 18446744073709551616 ≤ f * d + d → IsFraction w d f
+unfolding IsFraction
 fraction-is w d f h k = (h, k)
 
-fraction-low : (w d f : ℕ) → Fraction w d f → f * d ≤ w * 18446744073709551616
-unfolding Fraction
+fraction-low : (w d f : ℕ) → IsFraction w d f → f * d ≤ w * 18446744073709551616
+unfolding IsFraction
 fraction-low w d f e = e .0
 
-fraction-high : (w d f : ℕ) → Fraction w d f → w * 18446744073709551616 ≤ f * d + d
-unfolding Fraction
+fraction-high : (w d f : ℕ) → IsFraction w d f → w * 18446744073709551616 ≤ f * d + d
+unfolding IsFraction
 fraction-high w d f e = e .1
 
 -- by a fraction: the upper half q of the product is no more than the quotient, and what the fraction lacks is at most x
-module _ (x w d f q : ℕ) (some : 0 < d) (e : Fraction w d f) (upper-half : q ≡ x * f / 18446744073709551616) where
+module _ (x w d f q : ℕ) (some : 0 < d) (e : IsFraction w d f) (upper-half : q ≡ x * f / 18446744073709551616) where
   whole : x * f ≡ q * 18446744073709551616 + x * f % 18446744073709551616
   whole = rw upper-half (sym (div-add-mod' (x * f) 18446744073709551616))
 
@@ -158,7 +158,7 @@ pub one-carry : (p x : ℕ) → x < 18446744073709551616 → p % 184467440737095
 one-carry p x h = omega arith
 
 -- so the upper half is the quotient where the lower half leaves room for the largest x; and anywhere it can be mended
-module _ (x w d f q most : ℕ) (some : 0 < d) (e : Fraction w d f) (upper-half : q ≡ x * f / 18446744073709551616) (h : x ≤ most)
+module _ (x w d f q most : ℕ) (some : 0 < d) (e : IsFraction w d f) (upper-half : q ≡ x * f / 18446744073709551616) (h : x ≤ most)
     (fits : most ≤ 18446744073709551615) where
   pub part-sure : nearTop most (x * f) ≡ false → q ≡ x * w / d
   part-sure far =

@@ -4,8 +4,8 @@ use mathlib.Core.Bool.{Bool}
 use lib.Dec.{ltb}
 
 -- f is w over d in parts of 2^64, rounded down; for one whole 2^64 - 1 will do
-unfoldable pub Fraction : ℕ → ℕ → ℕ → Type 0
-Fraction w d f = (f * d ≤ w * 18446744073709551616) × (w * 18446744073709551616 ≤ f * d + d)
+unfoldable pub IsFraction : ℕ → ℕ → ℕ → Type 0
+IsFraction w d f = (f * d ≤ w * 18446744073709551616) × (w * 18446744073709551616 ≤ f * d + d)
 
 -- the lower half of a product ends at most m below 2^64
 abbrev pub nearTop : ℕ → ℕ → Bool

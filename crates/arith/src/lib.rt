@@ -1,7 +1,7 @@
 // A product divided and rounded down, within 64 bits. For the crates above, which have shown that the figures fit.
 ghost use mathlib.Core.Path.{_≡_};
 ghost use Prim.Native.Nat.{_+_, _*_, _<_, _≤_, _/_, _%_, _^_};
-ghost use Rattle.arith.specs.Fractions.{Fraction, nearTop};
+ghost use Rattle.arith.specs.Fractions.{IsFraction, nearTop};
 
 // x times y over d, rounded down. With x = q d + r it is q y + r y / d, whose products fit where the whole product may not.
 pub fn mul_div(x: u64, y: u64, d: u64) -> u64
@@ -50,14 +50,14 @@ pub fn mul_low(a: u64, b: u64) -> u64
 
 // Whether the upper half of x times a fraction may be one less than the quotient, for x up to `most`: what the fraction lacks, at most x, may carry
 // where the lower half ends so near below 2^64.
-pub fn near(x: u64, fraction: u64, most: u64) -> bool
+pub fn may_be_low(x: u64, fraction: u64, most: u64) -> bool
     ensures { λ r. ⌜ r ≡ nearTop most (x * fraction) ⌝ }
 {
     u64::MAX - most < mul_low(x, fraction)
 }
 
 // x times w over d, where q is that, rounded down, or one too few. What is left tells: it is below 2 d, so its lower half is all of it.
-pub fn mended(x: u64, w: u64, d: u64, q: u64) -> u64
+pub fn corrected(x: u64, w: u64, d: u64, q: u64) -> u64
     requires { ⌜ (d < 9223372036854775808) × (q < 18446744073709551615) × (q * d ≤ x * w) × (x * w < q * d + 2 * d) ⌝ }
     ensures { λ r. ⌜ r ≡ (x * w) / d ⌝ }
 {
@@ -83,17 +83,17 @@ pub fn two_parts(
     d: u64,
     most: u64,
 ) -> Two
-    requires { ⌜ (x ≤ most) × (y ≤ most) × (0 < d) × (d < 9223372036854775808) × Fraction w d fraction × Fraction v d other ⌝ }
+    requires { ⌜ (x ≤ most) × (y ≤ most) × (0 < d) × (d < 9223372036854775808) × IsFraction w d fraction × IsFraction v d other ⌝ }
     ensures { λ r. ⌜ (r .first ≡ (x * w) / d) × (r .second ≡ (y * v) / d) ⌝ }
 {
     let first = mul_high(x, fraction);
     let second = mul_high(y, other);
-    let first_near = near(x, fraction, most);
-    let second_near = near(y, other, most);
-    if first_near || second_near {
+    let first_may_be_low = may_be_low(x, fraction, most);
+    let second_may_be_low = may_be_low(y, other, most);
+    if first_may_be_low || second_may_be_low {
         return Two {
-            first: mended(x, w, d, first),
-            second: mended(y, v, d, second),
+            first: corrected(x, w, d, first),
+            second: corrected(y, v, d, second),
         };
     }
     Two { first, second }

@@ -5,7 +5,7 @@ pub mod Whole
 pub mod Valid
 pub mod Exact
 pub mod Numbers
-pub mod Promised
+pub mod CheckContract
 pub mod Same
 pub mod Unlinked
-pub mod Trials
+pub mod TestVectors

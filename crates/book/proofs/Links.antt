@@ -4,9 +4,9 @@ use mathlib.Core.List.{List}
 use Prim.Native.Nat.{ℕ, zero, suc, _<_}
 use native.Mathlib.Omega.{arith}
 use borrow.Author.Tests.{ne-eqb}
-use Rattle.book.specs.Layout.{nextOf, after, linkFrom}
+use Rattle.book.specs.Layout.{nextOf, recordAfter, linkFrom}
 
-pub after-some : (b : List ℕ) (i : ℕ) → 0 < i → after b i ≡ nextOf b i
+pub after-some : (b : List ℕ) (i : ℕ) → 0 < i → recordAfter b i ≡ nextOf b i
 after-some b i h = rw (ne-eqb i 0 (λ z. absurd (omega arith)))
 
 -- no record is linked past the end
@@ -16,10 +16,10 @@ link-none b zero = refl
 link-none b (suc j) = link-none b j
 
 -- one step more
-pub link-more : (b : List ℕ) (i j : ℕ) → linkFrom b i (suc j) ≡ after b (linkFrom b i j)
+pub link-more : (b : List ℕ) (i j : ℕ) → linkFrom b i (suc j) ≡ recordAfter b (linkFrom b i j)
 unfolding linkFrom
 link-more b i zero = refl
-link-more b i (suc j) = link-more b (after b i) j
+link-more b i (suc j) = link-more b (recordAfter b i) j
 
 -- the steps from the next record on are those from this one, after the first
 pub link-next : (b : List ℕ) (i j : ℕ) → 0 < i → linkFrom b i (suc j) ≡ linkFrom b (nextOf b i) j

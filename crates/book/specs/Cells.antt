@@ -3,7 +3,7 @@ use mathlib.Core.Bool.{cond}
 use Prim.Native.Nat.{ℕ, zero, suc, _+_, _*_}
 use mathlib.Core.List.{List}
 use lib.Dec.{eqb}
-use Rattle.book.specs.Layout.{chains, headOf, fieldOf, countOffset, after}
+use Rattle.book.specs.Layout.{chains, headOf, fieldOf, countOffset, recordAfter}
 
 -- 1 where record i holds contracts; 0 where its count is 0, and for no record
 unfoldable pub holds : List ℕ → ℕ → ℕ
@@ -12,7 +12,7 @@ holds b i = cond (eqb i 0) 0 (cond (eqb (fieldOf b i countOffset) 0) 0 1)
 -- of the first m records along the chain from record i
 unfoldable pub heldFrom : List ℕ → ℕ → ℕ → ℕ
 heldFrom b i zero = 0
-heldFrom b i (suc m) = holds b i + heldFrom b (after b i) m
+heldFrom b i (suc m) = holds b i + heldFrom b (recordAfter b i) m
 
 -- n of chain k, which has at most one record for each class from 0 to last
 unfoldable pub heldIn : List ℕ → ℕ → ℕ → ℕ

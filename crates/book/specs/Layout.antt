@@ -145,13 +145,13 @@ abbrev pub mostAmount : ℕ
 mostAmount = 10000000
 
 -- the record after record i; after the end (0) there is none
-abbrev pub after : List ℕ → ℕ → ℕ
-after b i = cond (eqb i 0) 0 (nextOf b i)
+abbrev pub recordAfter : List ℕ → ℕ → ℕ
+recordAfter b i = cond (eqb i 0) 0 (nextOf b i)
 
 -- the record j steps along the chain from record i, 0 past the chain's end
 unfoldable pub linkFrom : List ℕ → ℕ → ℕ → ℕ
 linkFrom b i zero = i
-linkFrom b i (suc j) = linkFrom b (after b i) j
+linkFrom b i (suc j) = linkFrom b (recordAfter b i) j
 
 -- linked record j, from 0, of chain k; 0 past the chain's end
 abbrev pub linkAt : List ℕ → ℕ → ℕ → ℕ

@@ -162,7 +162,7 @@ pub fn check_amounts(b: &[u8], at: usize) -> Verdict
 }
 
 // Zeros, one more than the longest book has bytes: a program that reads a longer input still refuses it for its length.
-pub fn room() -> [u8; 41_877]
+pub fn input_buffer() -> [u8; 41_877]
     ensures { λ r. ⌜ 41_877 ≡ length r ⌝ }
 {
     [0; 41_877]

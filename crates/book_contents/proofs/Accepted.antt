@@ -18,11 +18,11 @@ use Rattle.book.specs.Rules.{HeaderRules, TableRules, ChainRules, Rules}
 use Rattle.book.proofs.Cells.{holds-some, held-none}
 use Rattle.book.proofs.Exact.{rules-accepted}
 use Rattle.book.proofs.Links.{after-some}
-use Rattle.buffer.proofs.Laws.{le-or-lt}
-use Rattle.book_contents.specs.Contents.{Contents, sizeOf, before}
+use Rattle.buffer.proofs.Digits.{le-or-lt}
+use Rattle.book_contents.specs.Contents.{Contents, sizeOf, recordsBefore}
 use Rattle.book_contents.specs.Written.{numberOf, bookOf}
 use Rattle.book_contents.specs.Limits.{checkContents, Fit}
-use Rattle.book_contents.specs.Promises.{notZero}
+use Rattle.book_contents.specs.Contracts.{notZero}
 use Rattle.book_contents.proofs.Stands.{stands-self}
 use Rattle.book_contents.proofs.Numbers.{four-read, curve-small, curve-raised}
 use Rattle.book_contents.proofs.Laid.{Laid, stands-laid, book-length}
@@ -100,12 +100,12 @@ sum-split g (suc m) n a =
 -- n is counted along the entries.
 module _ (b : List ℕ) (v : Contents) (f : Fit v) (x : Laid b v) where
   holds-entry : (k j : ℕ) → k < chains → j < sizeOf (v .values .first) k
-      → holds b (numberOf (v .values .first) k j) ≡ some (v .counts) (before (v .values .first) k + j)
+      → holds b (numberOf (v .values .first) k j) ≡ some (v .counts) (recordsBefore (v .values .first) k + j)
   holds-entry k j few h = holds-some b (numberOf (v .values .first) k j) (omega arith)
       ∙ rw (count-of-entry b v f x k j few h)
 
   held-steps : (k : ℕ) → k < chains → (m j : ℕ) → j < sizeOf (v .values .first) k → sizeOf (v .values .first) k ≤ j + m
-      → heldFrom b (numberOf (v .values .first) k j) m ≡ sumOf (some (v .counts)) (before (v .values .first) k + j)
+      → heldFrom b (numberOf (v .values .first) k j) m ≡ sumOf (some (v .counts)) (recordsBefore (v .values .first) k + j)
       (sizeOf (v .values .first) k - j)
   unfolding heldFrom sumOf
   held-steps k few zero j h g = absurd (omega arith)
@@ -123,7 +123,7 @@ module _ (b : List ℕ) (v : Contents) (f : Fit v) (x : Laid b v) where
       ))
       (λ (l : j + 1 < sizeOf (v .values .first) k).
       let left : sizeOf (v .values .first) k - j ≡ suc (sizeOf (v .values .first) k - (j + 1)) = omega arith in
-      let place : before (v .values .first) k + (j + 1) ≡ before (v .values .first) k + j + 1 = omega arith in
+      let place : recordsBefore (v .values .first) k + (j + 1) ≡ recordsBefore (v .values .first) k + j + 1 = omega arith in
       rw (
         holds-entry k j few h,
         after-some b (numberOf (v .values .first) k j) (omega arith),
@@ -136,7 +136,7 @@ module _ (b : List ℕ) (v : Contents) (f : Fit v) (x : Laid b v) where
       (eq-or-lt-of-le (omega arith))
 
   held-chain : (k : ℕ) → k < chains
-      → heldIn b 120 k ≡ sumOf (some (v .counts)) (before (v .values .first) k) (sizeOf (v .values .first) k)
+      → heldIn b 120 k ≡ sumOf (some (v .counts)) (recordsBefore (v .values .first) k) (sizeOf (v .values .first) k)
   unfolding heldIn sumOf
   held-chain k few =
       ⊎-elim
@@ -144,29 +144,29 @@ module _ (b : List ℕ) (v : Contents) (f : Fit v) (x : Laid b v) where
       let none : sizeOf (v .values .first) k ≡ 0 = omega arith in
       rw (head-is b v f x k few, head-none (v .values .first) k none, none) (held-none b 121))
       (λ (s : 0 < sizeOf (v .values .first) k).
-      let place : before (v .values .first) k + 0 ≡ before (v .values .first) k = omega arith in
+      let place : recordsBefore (v .values .first) k + 0 ≡ recordsBefore (v .values .first) k = omega arith in
       let left : sizeOf (v .values .first) k - 0 ≡ sizeOf (v .values .first) k = omega arith in
       let e = held-steps k few 121 0 s (omega (arith, size-most (v .values .first) k)) in
       rw (head-is b v f x k few, head-some (v .values .first) k s) (e
       ∙ ap (λ (p : ℕ). sumOf (some (v .counts)) p (sizeOf (v .values .first) k - 0)) place
-      ∙ ap (sumOf (some (v .counts)) (before (v .values .first) k)) left))
+      ∙ ap (sumOf (some (v .counts)) (recordsBefore (v .values .first) k)) left))
       (le-or-lt (sizeOf (v .values .first) k) 0)
 
   -- the chains from k on, after those before k
   held-chains : (left k : ℕ) → k + left ≡ chains
-      → sumOf (some (v .counts)) 0 (before (v .values .first) k) + sumOf (heldIn b 120) k left ≡ sumOf
-      (some (v .counts)) 0 (before (v .values .first) chains)
-  unfolding sumOf before
+      → sumOf (some (v .counts)) 0 (recordsBefore (v .values .first) k) + sumOf (heldIn b 120) k left ≡ sumOf
+      (some (v .counts)) 0 (recordsBefore (v .values .first) chains)
+  unfolding sumOf recordsBefore
   held-chains zero k e =
       let same : k ≡ 14 = omega arith in
       rw same (add-zero _)
   held-chains (suc left) k e =
-      let split = rw (zero-add (before (v .values .first) k)) at
-      (sum-split (some (v .counts)) (before (v .values .first) k) (sizeOf (v .values .first) k) 0) in
+      let split = rw (zero-add (recordsBefore (v .values .first) k)) at
+      (sum-split (some (v .counts)) (recordsBefore (v .values .first) k) (sizeOf (v .values .first) k) 0) in
       rw (add-one k) (omega (arith, held-chain k (omega arith), split, held-chains left (suc k) (omega arith)))
 
   held-all : heldInAll b 120 ≡ notZero (v .counts)
-  unfolding heldInAll notZero sumOf before
+  unfolding heldInAll notZero sumOf recordsBefore
   held-all = rw (f .counts-size) (omega (arith, held-chains chains 0 (omega arith)))
 
 -- Contents that keep the rules give a book that is accepted.
@@ -179,6 +179,6 @@ fit-accepted v f =
     rules-accepted 1 b rules ∙ ap Accepted (held-all b v f x)
 
 -- So is every book that is written.
-pub written-accepted : (v : Contents) (room n : ℕ) → checkContents v room ≡ Accepted n
+pub written-accepted : (v : Contents) (capacity n : ℕ) → checkContents v capacity ≡ Accepted n
     → checkBook 1 (bookOf v) ≡ Accepted (notZero (v .counts))
-written-accepted v room n e = fit-accepted v (fit v room n e)
+written-accepted v capacity n e = fit-accepted v (fit v capacity n e)

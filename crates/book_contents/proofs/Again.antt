@@ -17,7 +17,7 @@ use Rattle.le_bytes.specs.Bytes.{byteAt, readU16, readU32}
 use Rattle.verdict.specs.declared.Verdict.the-variants.{Accepted}
 use Rattle.book.specs.Layout.{headerSize, recordSize, edition, chains, records, headPlace, headOf, recordAt, classOf}
 use Rattle.book.specs.Layout.{nextOf, fieldOf, costPlace, curvePlace, mortalityPlace, mostRate, mostCount, mostAmount}
-use Rattle.book.specs.Layout.{countOffset, lapseOffset, premiumOffset, claimsOffset, after, linkFrom, linkAt}
+use Rattle.book.specs.Layout.{countOffset, lapseOffset, premiumOffset, claimsOffset, recordAfter, linkFrom, linkAt}
 use Rattle.book.specs.Check.{checkBook}
 use Rattle.book.specs.Rules.{RecordRules, Rules}
 use Rattle.book.specs.Reading.{ChainFrom, ValidBook}
@@ -25,12 +25,12 @@ use Rattle.book.proofs.Links.{after-some, link-next}
 use Rattle.book.proofs.Valid.{valid, chain-here, chain-next}
 use Rattle.book.proofs.Exact.{accepted-rules}
 use Rattle.buffer.specs.Text.{joined}
-use Rattle.buffer.proofs.Laws.{le-or-lt}
-use Rattle.book_contents.specs.Contents.{noClass, sizeOf, before}
-use Rattle.book_contents.specs.Written.{twoBytes, stored, numberOf, headFor, nextFor, recordOf, frontBytes, bookOf}
+use Rattle.buffer.proofs.Digits.{le-or-lt}
+use Rattle.book_contents.specs.Contents.{noClass, sizeOf, recordsBefore}
+use Rattle.book_contents.specs.Written.{twoBytes, twosComplement, numberOf, headFor, nextFor, recordBytesOf, frontBytes, bookOf}
 use Rattle.book_contents.specs.Written.{bookSize}
 use Rattle.book_contents.specs.Limits.{curveRate, checkContents, Fit}
-use Rattle.book_contents.specs.Reading.{each, signedOf, firstIn, firstsOf, listIn, listOf, valuesOf, contentsOf}
+use Rattle.book_contents.specs.Reading.{each, signedOf, firstIn, firstsOf, listIn, fieldList, valuesOf, contentsOf}
 use Rattle.book_contents.specs.Reading.{OfBytes, InOrder}
 use Rattle.book_contents.proofs.Stands.{Stands, stands-whole, stands-both, each-length, each-at, each-all}
 use Rattle.book_contents.proofs.Numbers.{two-stands, four-stands, two-length, u32-small, signed-back, signed-rate}
@@ -41,10 +41,10 @@ use Rattle.book_contents.proofs.Linked.{head-none, head-some, next-last
 use Rattle.book_contents.proofs.Lists.{firsts-at, firsts-size, lists-size, lists-at}
 
 -- one step more along a chain, at its end
-pub link-last : (b : List ℕ) (j i : ℕ) → linkFrom b i (suc j) ≡ after b (linkFrom b i j)
+pub link-last : (b : List ℕ) (j i : ℕ) → linkFrom b i (suc j) ≡ recordAfter b (linkFrom b i j)
 unfolding linkFrom
 link-last b zero i = refl
-link-last b (suc j) i = link-last b j (after b i)
+link-last b (suc j) i = link-last b j (recordAfter b i)
 
 -- a chain has a record for each class that is left
 chain-links : (b : List ℕ) (last k j left i : ℕ) → j ≤ left → ChainFrom b last k left i → 0 < linkFrom b i j
@@ -138,7 +138,7 @@ module _ (b : List ℕ) (bytes : OfBytes b) (v : ValidBook 1 b) (r : Rules 1 b) 
       (eq-or-lt-of-le (omega arith))
 
   field-right : (offset k j : ℕ) → k < chains → j < sizeOf (firstsOf b) k
-      → fieldOf b (numberOf (firstsOf b) k j) offset ≡ getD (listOf b offset) (before (firstsOf b) k + j) 0
+      → fieldOf b (numberOf (firstsOf b) k j) offset ≡ getD (fieldList b offset) (recordsBefore (firstsOf b) k + j) 0
   field-right offset k j few h =
       ap (λ (i : ℕ). fieldOf b i offset) (sym (order-at k j few h))
       ∙ sym (lists-at b (firstsOf b) (firsts-size b) offset k j few h)
@@ -148,18 +148,18 @@ module _ (b : List ℕ) (bytes : OfBytes b) (v : ValidBook 1 b) (r : Rules 1 b) 
   front-right =
       let two : Stands b 0 (byteAt b 0 ∷ 1 ∷ []) = lead in
       let t₄ = byteAt b 0 ∷ 1 ∷ [] ++ twoBytes (readU16 b 2) in
-      let t₆ = t₄ ++ twoBytes (before (firstsOf b) chains) in
+      let t₆ = t₄ ++ twoBytes (recordsBefore (firstsOf b) chains) in
       let h₄ = stands-both b (byteAt b 0 ∷ 1 ∷ []) (twoBytes (readU16 b 2)) 0 2 (omega arith) two
       (two-stands b 2 (readU16 b 2) bytes refl) in
       let l₄ : length t₄ ≡ 4 = omega (arith, two-length (readU16 b 2)) in
-      let h₆ = stands-both b t₄ (twoBytes (before (firstsOf b) chains)) 0 4 (omega (arith, l₄)) h₄
-      (two-stands b 4 (before (firstsOf b) chains) bytes (omega (arith, o .all))) in
+      let h₆ = stands-both b t₄ (twoBytes (recordsBefore (firstsOf b) chains)) 0 4 (omega (arith, l₄)) h₄
+      (two-stands b 4 (recordsBefore (firstsOf b) chains) bytes (omega (arith, o .all))) in
       let l₆ : length t₆ ≡ 6 =
       omega (
         arith,
         l₄,
-        length-append t₄ (twoBytes (before (firstsOf b) chains)),
-        two-length (before (firstsOf b) chains),
+        length-append t₄ (twoBytes (recordsBefore (firstsOf b) chains)),
+        two-length (recordsBefore (firstsOf b) chains),
       ) in
       stands-both b t₆ (byteAt b 6 ∷ byteAt b 7 ∷ []) 0 6 (omega (arith, l₆)) h₆ percents
     where
@@ -174,10 +174,10 @@ module _ (b : List ℕ) (bytes : OfBytes b) (v : ValidBook 1 b) (r : Rules 1 b) 
       percents (suc (suc p)) h = absurd (omega arith)
 
   entry-right : (k j : ℕ) → k < chains → j < sizeOf (firstsOf b) k
-      → Stands b (headerSize + recordSize * (before (firstsOf b) k + j)) (recordOf (contentsOf b) k j)
-  unfolding recordOf contentsOf valuesOf classOf nextOf fieldOf
+      → Stands b (headerSize + recordSize * (recordsBefore (firstsOf b) k + j)) (recordBytesOf (contentsOf b) k j)
+  unfolding recordBytesOf contentsOf valuesOf classOf nextOf fieldOf
   entry-right k j few h =
-      let place : headerSize + recordSize * (before (firstsOf b) k + j) ≡ recordAt (numberOf (firstsOf b) k j) =
+      let place : headerSize + recordSize * (recordsBefore (firstsOf b) k + j) ≡ recordAt (numberOf (firstsOf b) k j) =
       omega arith in
       let e = order-at k j few h in
       let rules : RecordRules b 120 k (numberOf (firstsOf b) k j) =
@@ -210,7 +210,7 @@ module _ (b : List ℕ) (bytes : OfBytes b) (v : ValidBook 1 b) (r : Rules 1 b) 
         curve = λ j l.
             let at = curvePlace + 4 * j in
             let e = each-at (λ (i : ℕ). signedOf (readU32 b (curvePlace + 4 * i))) (pos 0) 49 j l in
-            four-stands b _ _ bytes (sym (ap stored e ∙ signed-back (readU32 b at) (u32-small b at 0 bytes)));
+            four-stands b _ _ bytes (sym (ap twosComplement e ∙ signed-back (readU32 b at) (u32-small b at 0 bytes)));
         mortality = λ j l. four-stands b _ _ bytes
             (sym (each-at (λ (i : ℕ). readU32 b (mortalityPlace + 4 * i)) 0 242 j l));
         entry = entry-right;
@@ -251,8 +251,8 @@ joined-most f (suc n) most h j =
 module _ (b : List ℕ) (v : ValidBook 1 b) (r : Rules 1 b) where
   list-most : (offset most : ℕ)
       → ((k j : ℕ) → k < chains → j < sizeOf (firstsOf b) k → fieldOf b (linkAt b k j) offset ≤ most)
-      → (i : ℕ) → getD (listOf b offset) i 0 ≤ most
-  unfolding listOf listIn
+      → (i : ℕ) → getD (fieldList b offset) i 0 ≤ most
+  unfolding fieldList listIn
   list-most offset most h =
       joined-most (listIn b offset) chains most
       (λ k few. each-most (λ (j : ℕ). fieldOf b (linkAt b k j) offset) (noClass - firstIn b k) most
@@ -275,7 +275,7 @@ module _ (b : List ℕ) (v : ValidBook 1 b) (r : Rules 1 b) where
   spare-both one = omega (arith, r .header .spare one)
 
   reading-fit : OfBytes b → Fit (contentsOf b)
-  unfolding contentsOf valuesOf firstsOf listOf
+  unfolding contentsOf valuesOf firstsOf fieldList
   reading-fit bytes =
       let sizes = firsts-size b in
       record {
@@ -304,11 +304,11 @@ module _ (b : List ℕ) (v : ValidBook 1 b) (r : Rules 1 b) where
       }
 
 -- What is read from an accepted book, in order or not, is not refused where the lent buffer takes its book.
-pub reading-taken : (b : List ℕ) (n room : ℕ) → checkBook 1 b ≡ Accepted n → OfBytes b → bookSize (firstsOf b) ≤ room
-    → checkContents (contentsOf b) room ≡ Accepted 0
+pub reading-taken : (b : List ℕ) (n capacity : ℕ) → checkBook 1 b ≡ Accepted n → OfBytes b → bookSize (firstsOf b) ≤ capacity
+    → checkContents (contentsOf b) capacity ≡ Accepted 0
 unfolding contentsOf valuesOf
-reading-taken b n room e bytes enough =
-    fit-good (contentsOf b) room (reading-fit b (valid 1 b n e) (accepted-rules 1 b n e) bytes) enough
+reading-taken b n capacity e bytes enough =
+    fit-good (contentsOf b) capacity (reading-fit b (valid 1 b n e) (accepted-rules 1 b n e) bytes) enough
 
 -- So a book in order is written again: its reading is not refused in a buffer of its own length.
 pub taken-again : (b : List ℕ) (n : ℕ) → OfBytes b → checkBook 1 b ≡ Accepted n → InOrder b

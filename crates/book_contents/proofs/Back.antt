@@ -11,11 +11,11 @@ use Rattle.le_bytes.specs.Bytes.{readU32}
 use Rattle.verdict.specs.declared.Verdict.the-variants.{Accepted}
 use Rattle.book.specs.Layout.{chains, headOf, costPlace, curvePlace, mortalityPlace, countOffset, lapseOffset}
 use Rattle.book.specs.Layout.{premiumOffset, claimsOffset}
-use Rattle.buffer.proofs.Laws.{le-or-lt}
+use Rattle.buffer.proofs.Digits.{le-or-lt}
 use Rattle.book_contents.specs.Contents.{Contents, noClass, sizeOf}
 use Rattle.book_contents.specs.Written.{numberOf, bookOf}
 use Rattle.book_contents.specs.Limits.{checkContents, Fit, Shaped}
-use Rattle.book_contents.specs.Reading.{each, signedOf, firstIn, firstsOf, listOf, valuesOf, contentsOf}
+use Rattle.book_contents.specs.Reading.{each, signedOf, firstIn, firstsOf, fieldList, valuesOf, contentsOf}
 use Rattle.book_contents.proofs.Stands.{stands-self, each-whole}
 use Rattle.book_contents.proofs.Numbers.{four-read, curve-small, curve-back}
 use Rattle.book_contents.proofs.Laid.{Laid, stands-laid}
@@ -42,22 +42,22 @@ module _ (b : List ℕ) (v : Contents) (f : Fit v) (x : Laid b v) where
   unfolding sizeOf
   sizes k few = rw (first-is k few)
 
-  counts-back : listOf b countOffset ≡ v .counts
+  counts-back : fieldList b countOffset ≡ v .counts
   counts-back =
       lists-whole b (v .values .first) sizes countOffset (v .counts) (f .counts-size)
       (λ k j few h. rw (link-in b v f x k few j h) (count-of-entry b v f x k j few h))
 
-  lapses-back : listOf b lapseOffset ≡ v .lapses
+  lapses-back : fieldList b lapseOffset ≡ v .lapses
   lapses-back =
       lists-whole b (v .values .first) sizes lapseOffset (v .lapses) (f .lapses-size)
       (λ k j few h. rw (link-in b v f x k few j h) (lapse-of-entry b v f x k j few h))
 
-  premiums-back : listOf b premiumOffset ≡ v .premiums
+  premiums-back : fieldList b premiumOffset ≡ v .premiums
   premiums-back =
       lists-whole b (v .values .first) sizes premiumOffset (v .premiums) (f .premiums-size)
       (λ k j few h. rw (link-in b v f x k few j h) (premium-of-entry b v f x k j few h))
 
-  claims-back : listOf b claimsOffset ≡ v .claims
+  claims-back : fieldList b claimsOffset ≡ v .claims
   claims-back =
       lists-whole b (v .values .first) sizes claimsOffset (v .claims) (f .claims-size)
       (λ k j few h. rw (link-in b v f x k few j h) (claims-of-entry b v f x k j few h))
@@ -98,7 +98,7 @@ module _ (b : List ℕ) (v : Contents) (f : Fit v) (x : Laid b v) where
         )
 
 -- Reading the book of values that are not refused gives those values.
-pub read-written : (v : Contents) (room n : ℕ) → Shaped (v .values) → checkContents v room ≡ Accepted n
+pub read-written : (v : Contents) (capacity n : ℕ) → Shaped (v .values) → checkContents v capacity ≡ Accepted n
     → contentsOf (bookOf v) ≡ v
-read-written v room n s e =
-    values-back (bookOf v) v (fit v room n e) (stands-laid (bookOf v) v (stands-self (bookOf v))) s
+read-written v capacity n s e =
+    values-back (bookOf v) v (fit v capacity n e) (stands-laid (bookOf v) v (stands-self (bookOf v))) s

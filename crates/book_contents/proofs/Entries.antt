@@ -7,7 +7,7 @@ use native.Mathlib.Omega.{arith}
 use lib.ListN.{length, length-append}
 use Rattle.le_bytes.specs.Bytes.{byteAt}
 use Rattle.book.specs.Layout.{chainCode, chainSex}
-use Rattle.book_contents.specs.Written.{twoBytes, fourBytes, recordBytes}
+use Rattle.book_contents.specs.Written.{twoBytes, fourBytes, encodedRecord}
 use Rattle.book_contents.proofs.Stands.{Stands, stands-left, stands-right, stands-both}
 use Rattle.book_contents.proofs.Numbers.{two-length, four-length}
 
@@ -70,9 +70,9 @@ module _ (b : List ℕ) (at k class next count lapse premium claims : ℕ) where
         four-length premium,
       )
 
-  pub entry-of : Stands b at (recordBytes k class next count lapse premium claims)
+  pub entry-of : Stands b at (encodedRecord k class next count lapse premium claims)
       → Entry b at k class next count lapse premium claims
-  unfolding recordBytes
+  unfolding encodedRecord
   entry-of h =
       let t₄ = lead k class in
       let t₅ = t₄ ++ twoBytes next in
@@ -100,8 +100,8 @@ module _ (b : List ℕ) (at k class next count lapse premium claims : ℕ) where
       }
 
   pub of-entry : Entry b at k class next count lapse premium claims
-      → Stands b at (recordBytes k class next count lapse premium claims)
-  unfolding recordBytes
+      → Stands b at (encodedRecord k class next count lapse premium claims)
+  unfolding encodedRecord
   of-entry x =
       let t₄ = lead k class in
       let t₅ = t₄ ++ twoBytes next in

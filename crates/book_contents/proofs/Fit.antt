@@ -15,11 +15,11 @@ use Rattle.verdict.proofs.Verdicts.{need-true, need-good, then-left, then-right
 use Rattle.le_bytes.proofs.Ranges.{within-means, within-good}
 use native.Mathlib.Nat.{eq-or-lt-of-le}
 use Rattle.book.specs.Layout.{mostPercent, mostRate, mostCount, mostAmount}
-use Rattle.buffer.proofs.Laws.{le-or-lt}
+use Rattle.buffer.proofs.Digits.{le-or-lt}
 use Rattle.book_contents.specs.Contents.{Contents, noClass}
 use Rattle.book_contents.specs.Written.{bookSize}
-use Rattle.book_contents.specs.Limits.{checkMost, curveRate, checkCurve, checkLengths, checkPercents, checkEdition}
-use Rattle.book_contents.specs.Limits.{checkTables, checkLists, checkContents, Fit}
+use Rattle.book_contents.specs.Limits.{checkMost, curveRate, checkCurve, checkLengths, checkGivenPercents, checkEdition}
+use Rattle.book_contents.specs.Limits.{checkGivenTables, checkLists, checkContents, Fit}
 
 module _ (number most : ℕ) (l : List ℕ) where
   most-means : (n : ℕ) → checkMost number most l ≡ Accepted n → (j : ℕ) → getD l j 0 ≤ most
@@ -50,24 +50,24 @@ unfolding checkCurve
 curve-good l h = all-zero _ (length l) 0 (λ j lo hi. need-good _ _ _ (h j))
 
 -- the percentages, by the edition
-module _ (edition men women n : ℕ) (e : checkPercents edition men women ≡ Accepted n) where
+module _ (edition men women n : ℕ) (e : checkGivenPercents edition men women ≡ Accepted n) where
   none-given : edition ≡ 1 → (men ≡ 0) × (women ≡ 0)
-  unfolding checkPercents
+  unfolding checkGivenPercents
   none-given one =
       let other : edition ≡ 2 → ⊥ = λ two. absurd (omega arith) in
       let both = rw (ne-eqb edition 2 other) at e in
       (eqb-true _ _ (need-true _ _ _ _ (then-left _ _ _ both)), eqb-true _ _ (need-true _ _ _ _ (then-right _ _ _ both)))
 
   both-given : edition ≡ 2 → ((1 ≤ men) × (men ≤ mostPercent)) × ((1 ≤ women) × (women ≤ mostPercent))
-  unfolding checkPercents
+  unfolding checkGivenPercents
   both-given two =
       let both = rw (eq-eqb edition 2 two) at e in
       let m = within-means _ _ men (need-true _ _ _ _ (then-left _ _ _ both)) in
       let w = within-means _ _ women (need-true _ _ _ _ (then-right _ _ _ both)) in
       ((omega (arith, m .0), omega (arith, m .1)), (omega (arith, w .0), omega (arith, w .1)))
 
-percents-good : (v : Contents) → Fit v → checkPercents (v .values .edition) (v .values .men) (v .values .women) ≡ Accepted 0
-unfolding checkPercents
+percents-good : (v : Contents) → Fit v → checkGivenPercents (v .values .edition) (v .values .men) (v .values .women) ≡ Accepted 0
+unfolding checkGivenPercents
 percents-good v f =
     ⊎-elim
     (λ (two : v .values .edition ≡ 2).
@@ -94,9 +94,9 @@ percents-small v f =
     (omega (arith, f .no-men one), omega (arith, f .no-women one)))
     (eq-or-lt-of-le (f .edition-high))
 
-module _ (v : Contents) (room : ℕ) where
-  pub fit : (n : ℕ) → checkContents v room ≡ Accepted n → Fit v
-  unfolding checkContents checkLengths checkEdition checkTables checkLists
+module _ (v : Contents) (capacity : ℕ) where
+  pub fit : (n : ℕ) → checkContents v capacity ≡ Accepted n → Fit v
+  unfolding checkContents checkLengths checkEdition checkGivenTables checkLists
   fit n e =
       let e₁ = then-left _ _ _ e in
       let e₂ = then-left _ _ _ e₁ in
@@ -142,14 +142,14 @@ module _ (v : Contents) (room : ℕ) where
       }
 
   -- the lent buffer takes the book
-  pub room-enough : (n : ℕ) → checkContents v room ≡ Accepted n → bookSize (v .values .first) ≤ room
+  pub capacity-enough : (n : ℕ) → checkContents v capacity ≡ Accepted n → bookSize (v .values .first) ≤ capacity
   unfolding checkContents checkLengths
-  room-enough n e =
+  capacity-enough n e =
       leb-true _ _
       (need-true _ _ _ _ (then-right _ _ _ (then-right _ _ _ (then-left _ _ _ (then-left _ _ _ (then-left _ _ _ e))))))
 
-  pub fit-good : Fit v → bookSize (v .values .first) ≤ room → checkContents v room ≡ Accepted 0
-  unfolding checkContents checkLengths checkEdition checkTables checkLists
+  pub fit-good : Fit v → bookSize (v .values .first) ≤ capacity → checkContents v capacity ≡ Accepted 0
+  unfolding checkContents checkLengths checkEdition checkGivenTables checkLists
   fit-good f enough =
       then-good _ _ _ _
       (then-good _ _ _ _

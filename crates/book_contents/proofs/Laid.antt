@@ -9,9 +9,9 @@ use lib.IntN.{pos}
 use lib.ListN.{length, getD, length-append}
 use Rattle.book.specs.Layout.{headerSize, recordSize, chains, headPlace, costPlace, curvePlace, mortalityPlace}
 use Rattle.buffer.specs.Text.{joined}
-use Rattle.book_contents.specs.Contents.{Contents, sizeOf, before}
-use Rattle.book_contents.specs.Written.{twoBytes, fourBytes, stored, fields, signedFields, headFor, recordBytes}
-use Rattle.book_contents.specs.Written.{recordOf, chainBytes, frontBytes, headBytes, headerBytes, bookOf, bookSize}
+use Rattle.book_contents.specs.Contents.{Contents, sizeOf, recordsBefore}
+use Rattle.book_contents.specs.Written.{twoBytes, fourBytes, twosComplement, fields, signedFields, headFor, encodedRecord}
+use Rattle.book_contents.specs.Written.{recordBytesOf, chainBytes, frontBytes, headBytes, headerBytes, bookOf, bookSize}
 use Rattle.book_contents.proofs.Stands.{Stands, stands-left, stands-right, stands-both, stands-part, stands-joined}
 use Rattle.book_contents.proofs.Stands.{joined-length}
 use Rattle.book_contents.proofs.Numbers.{two-length, four-length}
@@ -21,28 +21,28 @@ pub record Laid (b : List ℕ) (v : Contents) : Type 0 where
   pub front : Stands b 0 (frontBytes (v .values))
   pub head : (k : ℕ) → k < chains → Stands b (headPlace k) (twoBytes (headFor (v .values .first) k))
   pub cost : (j : ℕ) → j < 5 → Stands b (costPlace + 4 * j) (fourBytes (getD (v .values .cost) j 0))
-  pub curve : (j : ℕ) → j < 49 → Stands b (curvePlace + 4 * j) (fourBytes (stored (getD (v .values .curve) j (pos 0))))
+  pub curve : (j : ℕ) → j < 49 → Stands b (curvePlace + 4 * j) (fourBytes (twosComplement (getD (v .values .curve) j (pos 0))))
   pub mortality : (j : ℕ) → j < 242 → Stands b (mortalityPlace + 4 * j) (fourBytes (getD (v .values .mortality) j 0))
   pub entry : (k j : ℕ) → k < chains → j < sizeOf (v .values .first) k
-      → Stands b (headerSize + recordSize * (before (v .values .first) k + j)) (recordOf v k j)
+      → Stands b (headerSize + recordSize * (recordsBefore (v .values .first) k + j)) (recordBytesOf v k j)
 
 -- lengths
 pub record-length : (k class next count lapse premium claims : ℕ)
-    → length (recordBytes k class next count lapse premium claims) ≡ 24
-unfolding recordBytes fourBytes twoBytes
+    → length (encodedRecord k class next count lapse premium claims) ≡ 24
+unfolding encodedRecord fourBytes twoBytes
 record-length k class next count lapse premium claims = refl
 
 module _ (v : Contents) where
-  entry-length : (k j : ℕ) → length (recordOf v k j) ≡ 24
-  unfolding recordOf
+  entry-length : (k j : ℕ) → length (recordBytesOf v k j) ≡ 24
+  unfolding recordBytesOf
   entry-length k j = record-length _ _ _ _ _ _ _
 
   chain-length : (k : ℕ) → length (chainBytes v k) ≡ 24 * sizeOf (v .values .first) k
   unfolding chainBytes
-  chain-length k = joined-length (recordOf v k) 24 (sizeOf (v .values .first) k) (entry-length k)
+  chain-length k = joined-length (recordBytesOf v k) 24 (sizeOf (v .values .first) k) (entry-length k)
 
-  chains-length : (k : ℕ) → length (joined (chainBytes v) k) ≡ 24 * before (v .values .first) k
-  unfolding joined before
+  chains-length : (k : ℕ) → length (joined (chainBytes v) k) ≡ 24 * recordsBefore (v .values .first) k
+  unfolding joined recordsBefore
   chains-length zero = refl
   chains-length (suc k) =
       omega (arith, length-append (joined (chainBytes v) k) (chainBytes v k), chains-length k, chain-length k)
@@ -142,28 +142,28 @@ module _ (b : List ℕ) (f : ℕ → ℕ) (at n : ℕ) where
 module _ (b : List ℕ) (v : Contents) where
   chained-entry : Stands b headerSize (joined (chainBytes v) chains) → (k j : ℕ) → k < chains
       → j < sizeOf (v .values .first) k
-      → Stands b (headerSize + recordSize * (before (v .values .first) k + j)) (recordOf v k j)
+      → Stands b (headerSize + recordSize * (recordsBefore (v .values .first) k + j)) (recordBytesOf v k j)
   unfolding chainBytes
   chained-entry h k j few l =
-      let part = stands-part b (recordOf v k) _ (sizeOf (v .values .first) k) j l
+      let part = stands-part b (recordBytesOf v k) _ (sizeOf (v .values .first) k) j l
       (stands-part b (chainBytes v) headerSize chains k few h) in
       let place : headerSize + length (joined (chainBytes v) k) + length
-      (joined (recordOf v k) j) ≡ headerSize + recordSize * (before (v .values .first) k + j)
-      = omega (arith, chains-length v k, joined-length (recordOf v k) 24 j (entry-length v k)) in
+      (joined (recordBytesOf v k) j) ≡ headerSize + recordSize * (recordsBefore (v .values .first) k + j)
+      = omega (arith, chains-length v k, joined-length (recordBytesOf v k) 24 j (entry-length v k)) in
       rw place at part
 
   entry-chained : ((k j : ℕ) → k < chains → j < sizeOf (v .values .first) k
-      → Stands b (headerSize + recordSize * (before (v .values .first) k + j)) (recordOf v k j))
+      → Stands b (headerSize + recordSize * (recordsBefore (v .values .first) k + j)) (recordBytesOf v k j))
       → Stands b headerSize (joined (chainBytes v) chains)
   unfolding chainBytes
   entry-chained h =
       stands-joined b (chainBytes v) headerSize chains
-      (λ k few. stands-joined b (recordOf v k) (headerSize + length (joined (chainBytes v) k))
+      (λ k few. stands-joined b (recordBytesOf v k) (headerSize + length (joined (chainBytes v) k))
       (sizeOf (v .values .first) k)
       (λ j l.
       let place : headerSize + length (joined (chainBytes v) k) + length
-      (joined (recordOf v k) j) ≡ headerSize + recordSize * (before (v .values .first) k + j)
-      = omega (arith, chains-length v k, joined-length (recordOf v k) 24 j (entry-length v k)) in
+      (joined (recordBytesOf v k) j) ≡ headerSize + recordSize * (recordsBefore (v .values .first) k + j)
+      = omega (arith, chains-length v k, joined-length (recordBytesOf v k) 24 j (entry-length v k)) in
       rw place (h k j few l)))
 
   pub stands-laid : Stands b 0 (bookOf v) → Laid b v
@@ -176,7 +176,7 @@ module _ (b : List ℕ) (v : Contents) where
         front = x .front;
         head = two-run-field b (headFor (v .values .first)) 8 14 (x .heads);
         cost = run-field b (λ (j : ℕ). getD (v .values .cost) j 0) costPlace 5 (x .cost);
-        curve = run-field b (λ (j : ℕ). stored (getD (v .values .curve) j (pos 0))) curvePlace 49 (x .curve);
+        curve = run-field b (λ (j : ℕ). twosComplement (getD (v .values .curve) j (pos 0))) curvePlace 49 (x .curve);
         mortality = run-field b (λ (j : ℕ). getD (v .values .mortality) j 0) mortalityPlace 242 (x .mortality);
         entry = chained-entry (x .records);
       }
@@ -191,7 +191,7 @@ module _ (b : List ℕ) (v : Contents) where
         front = x .front;
         heads = two-run-stands b (headFor (v .values .first)) 8 14 (x .head);
         cost = run-stands b (λ (j : ℕ). getD (v .values .cost) j 0) costPlace 5 (x .cost);
-        curve = run-stands b (λ (j : ℕ). stored (getD (v .values .curve) j (pos 0))) curvePlace 49 (x .curve);
+        curve = run-stands b (λ (j : ℕ). twosComplement (getD (v .values .curve) j (pos 0))) curvePlace 49 (x .curve);
         mortality = run-stands b (λ (j : ℕ). getD (v .values .mortality) j 0) mortalityPlace 242 (x .mortality);
         records = entry-chained (x .entry);
       })

@@ -9,9 +9,9 @@ pub mod Accepted
 pub mod Lists
 pub mod Back
 pub mod Again
-pub mod Walk
+pub mod Projection
 pub mod Round
-pub mod Told
-pub mod Promised
+pub mod ZeroAccepts
+pub mod WriteReadContracts
 pub mod Ordered
 pub mod Trial

@@ -13,9 +13,9 @@ use Rattle.book.specs.Layout.{headerSize, recordSize, chains, records, headPlac
 use Rattle.book.specs.Layout.{fieldOf, countOffset, lapseOffset, premiumOffset, claimsOffset, linkFrom, linkAt}
 use Rattle.book.specs.Rules.{RecordRules}
 use Rattle.book.proofs.Links.{link-none, link-next}
-use Rattle.buffer.proofs.Laws.{le-or-lt}
-use Rattle.book_contents.specs.Contents.{Contents, sizeOf, before}
-use Rattle.book_contents.specs.Written.{twoBytes, numberOf, headFor, nextFor, recordOf, frontBytes}
+use Rattle.buffer.proofs.Digits.{le-or-lt}
+use Rattle.book_contents.specs.Contents.{Contents, sizeOf, recordsBefore}
+use Rattle.book_contents.specs.Written.{twoBytes, numberOf, headFor, nextFor, recordBytesOf, frontBytes}
 use Rattle.book_contents.specs.Limits.{Fit}
 use Rattle.book_contents.proofs.Numbers.{two-read, four-read}
 use Rattle.book_contents.proofs.Laid.{Laid}
@@ -27,14 +27,14 @@ module _ (first : List ℕ) where
   unfolding sizeOf
   size-most k = omega arith
 
-  pub before-most : (n : ℕ) → before first n ≤ 121 * n
-  unfolding before
+  pub before-most : (n : ℕ) → recordsBefore first n ≤ 121 * n
+  unfolding recordsBefore
   before-most zero = omega arith
   before-most (suc n) = omega (arith, before-most n, size-most n)
 
   -- a chain's numbers come before those of later chains
-  pub before-more : (n k : ℕ) → k < n → before first k + sizeOf first k ≤ before first n
-  unfolding before
+  pub before-more : (n k : ℕ) → k < n → recordsBefore first k + sizeOf first k ≤ recordsBefore first n
+  unfolding recordsBefore
   before-more zero k h = absurd (not-suc-le-zero h)
   before-more (suc n) k h =
       ⊎-elim
@@ -59,14 +59,14 @@ module _ (first : List ℕ) where
   unfolding nextFor
   next-more k j h = rw (ne-eqb (j + 1) (sizeOf first k) (λ z. absurd (omega arith)))
 
-  pub head-most : (k : ℕ) → k < chains → headFor first k ≤ before first chains
+  pub head-most : (k : ℕ) → k < chains → headFor first k ≤ recordsBefore first chains
   head-most k few =
       ⊎-elim
       (λ (h : sizeOf first k ≤ 0). omega (arith, head-none k (omega arith)))
       (λ (h : 0 < sizeOf first k). omega (arith, head-some k h, before-more chains k few))
       (le-or-lt (sizeOf first k) 0)
 
-  pub next-most : (k j : ℕ) → k < chains → j < sizeOf first k → nextFor first k j ≤ before first chains
+  pub next-most : (k j : ℕ) → k < chains → j < sizeOf first k → nextFor first k j ≤ recordsBefore first chains
   next-most k j few h =
       ⊎-elim
       (λ (e : j + 1 ≡ sizeOf first k). omega (arith, next-last k j e))
@@ -87,7 +87,7 @@ module _ (b : List ℕ) (v : Contents) (f : Fit v) (x : Laid b v) where
   unfolding frontBytes twoBytes readU16
   year-is = omega (arith, x .front 2 (omega arith), x .front 3 (omega arith), f .year-high)
 
-  pub records-is : records b ≡ before (v .values .first) chains
+  pub records-is : records b ≡ recordsBefore (v .values .first) chains
   unfolding frontBytes twoBytes readU16 records
   records-is = omega (arith, x .front 4 (omega arith), x .front 5 (omega arith), before-most (v .values .first) chains)
 
@@ -107,16 +107,16 @@ module _ (b : List ℕ) (v : Contents) (f : Fit v) (x : Laid b v) where
 
   -- entry j of chain k
   module _ (k j : ℕ) (few : k < chains) (inside : j < sizeOf (v .values .first) k) where
-    at-place : headerSize + recordSize * (before (v .values .first) k + j) ≡ recordAt (numberOf (v .values .first) k j)
+    at-place : headerSize + recordSize * (recordsBefore (v .values .first) k + j) ≡ recordAt (numberOf (v .values .first) k j)
     at-place = omega arith
 
     entry : Entry b (recordAt (numberOf (v .values .first) k j)) k (getD (v .values .first) k 0 + j)
         (nextFor (v .values .first) k j)
-        (getD (v .counts) (before (v .values .first) k + j) 0)
-        (getD (v .lapses) (before (v .values .first) k + j) 0)
-        (getD (v .premiums) (before (v .values .first) k + j) 0)
-        (getD (v .claims) (before (v .values .first) k + j) 0)
-    unfolding recordOf
+        (getD (v .counts) (recordsBefore (v .values .first) k + j) 0)
+        (getD (v .lapses) (recordsBefore (v .values .first) k + j) 0)
+        (getD (v .premiums) (recordsBefore (v .values .first) k + j) 0)
+        (getD (v .claims) (recordsBefore (v .values .first) k + j) 0)
+    unfolding recordBytesOf
     entry = entry-of b _ _ _ _ _ _ _ _ (rw at-place at (x .entry k j few inside))
 
     pub class-of-entry : classOf b (numberOf (v .values .first) k j) ≡ getD (v .values .first) k 0 + j
@@ -136,25 +136,25 @@ module _ (b : List ℕ) (v : Contents) (f : Fit v) (x : Laid b v) where
         (entry .next-stands)
 
     pub count-of-entry : fieldOf b (numberOf (v .values .first) k j) countOffset ≡ getD (v .counts)
-        (before (v .values .first) k + j) 0
+        (recordsBefore (v .values .first) k + j) 0
     unfolding fieldOf
-    count-of-entry = four-read b _ _ (omega (arith, f .count (before (v .values .first) k + j))) (entry .count-stands)
+    count-of-entry = four-read b _ _ (omega (arith, f .count (recordsBefore (v .values .first) k + j))) (entry .count-stands)
 
     pub lapse-of-entry : fieldOf b (numberOf (v .values .first) k j) lapseOffset ≡ getD (v .lapses)
-        (before (v .values .first) k + j) 0
+        (recordsBefore (v .values .first) k + j) 0
     unfolding fieldOf
-    lapse-of-entry = four-read b _ _ (omega (arith, f .lapse (before (v .values .first) k + j))) (entry .lapse-stands)
+    lapse-of-entry = four-read b _ _ (omega (arith, f .lapse (recordsBefore (v .values .first) k + j))) (entry .lapse-stands)
 
     pub premium-of-entry : fieldOf b (numberOf (v .values .first) k j) premiumOffset ≡ getD (v .premiums)
-        (before (v .values .first) k + j) 0
+        (recordsBefore (v .values .first) k + j) 0
     unfolding fieldOf
-    premium-of-entry = four-read b _ _ (omega (arith, f .premium (before (v .values .first) k + j)))
+    premium-of-entry = four-read b _ _ (omega (arith, f .premium (recordsBefore (v .values .first) k + j)))
         (entry .premium-stands)
 
     pub claims-of-entry : fieldOf b (numberOf (v .values .first) k j) claimsOffset ≡ getD (v .claims)
-        (before (v .values .first) k + j) 0
+        (recordsBefore (v .values .first) k + j) 0
     unfolding fieldOf
-    claims-of-entry = four-read b _ _ (omega (arith, f .claim (before (v .values .first) k + j))) (entry .claims-stands)
+    claims-of-entry = four-read b _ _ (omega (arith, f .claim (recordsBefore (v .values .first) k + j))) (entry .claims-stands)
 
     next-cases : (j + 1 ≡ sizeOf (v .values .first) k) ⊎ (j + 1 < sizeOf (v .values .first) k)
     next-cases = eq-or-lt-of-le (omega arith)
@@ -170,10 +170,10 @@ module _ (b : List ℕ) (v : Contents) (f : Fit v) (x : Laid b v) where
           spare-two = two-read b _ 0 (omega arith) (entry .spare-stands);
           class-low = omega arith;
           class-high = omega (arith, class-of-entry, class-size);
-          count = omega (arith, count-of-entry, f .count (before (v .values .first) k + j));
-          lapse = omega (arith, lapse-of-entry, f .lapse (before (v .values .first) k + j));
-          premium = omega (arith, premium-of-entry, f .premium (before (v .values .first) k + j));
-          claims = omega (arith, claims-of-entry, f .claim (before (v .values .first) k + j));
+          count = omega (arith, count-of-entry, f .count (recordsBefore (v .values .first) k + j));
+          lapse = omega (arith, lapse-of-entry, f .lapse (recordsBefore (v .values .first) k + j));
+          premium = omega (arith, premium-of-entry, f .premium (recordsBefore (v .values .first) k + j));
+          claims = omega (arith, claims-of-entry, f .claim (recordsBefore (v .values .first) k + j));
           ends = λ e. next-of-entry ∙ next-last (v .values .first) k j (omega (arith, class-of-entry, class-size));
           goes-on = λ z.
               ⊎-elim

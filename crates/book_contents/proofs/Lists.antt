@@ -6,8 +6,8 @@ use native.Mathlib.Omega.{arith}
 use lib.ListN.{length, getD, length-append}
 use Rattle.book.specs.Layout.{chains, fieldOf, linkAt}
 use Rattle.buffer.specs.Text.{joined}
-use Rattle.book_contents.specs.Contents.{noClass, sizeOf, before}
-use Rattle.book_contents.specs.Reading.{firstIn, firstsOf, listIn, listOf}
+use Rattle.book_contents.specs.Contents.{noClass, sizeOf, recordsBefore}
+use Rattle.book_contents.specs.Reading.{firstIn, firstsOf, listIn, fieldList}
 use Rattle.book_contents.proofs.Stands.{stands-self, stands-whole, stands-part, stands-joined, each-length, each-at}
 
 -- the first classes of a book, one by one
@@ -24,8 +24,8 @@ module _ (b first : List ℕ) (sizes : (k : ℕ) → k < chains → noClass - fi
   unfolding listIn
   list-size k few = each-length _ (noClass - firstIn b k) ∙ sizes k few
 
-  pub lists-size : (n : ℕ) → n ≤ chains → length (joined (listIn b offset) n) ≡ before first n
-  unfolding joined before
+  pub lists-size : (n : ℕ) → n ≤ chains → length (joined (listIn b offset) n) ≡ recordsBefore first n
+  unfolding joined recordsBefore
   lists-size zero h = refl
   lists-size (suc n) h =
       omega (
@@ -42,26 +42,26 @@ module _ (b first : List ℕ) (sizes : (k : ℕ) → k < chains → noClass - fi
 
   -- entry j of chain k, in the lists of all chains
   pub lists-at : (k j : ℕ) → k < chains → j < sizeOf first k
-      → getD (listOf b offset) (before first k + j) 0 ≡ fieldOf b (linkAt b k j) offset
-  unfolding listOf
+      → getD (fieldList b offset) (recordsBefore first k + j) 0 ≡ fieldOf b (linkAt b k j) offset
+  unfolding fieldList
   lists-at k j few h =
-      let place : before first k + j ≡ 0 + length (joined (listIn b offset) k) + j =
+      let place : recordsBefore first k + j ≡ 0 + length (joined (listIn b offset) k) + j =
       omega (arith, lists-size k (omega arith)) in
-      ap (λ (p : ℕ). getD (listOf b offset) p 0) place
-      ∙ stands-part (listOf b offset) (listIn b offset) 0 chains k few (stands-self (listOf b offset)) j
+      ap (λ (p : ℕ). getD (fieldList b offset) p 0) place
+      ∙ stands-part (fieldList b offset) (listIn b offset) 0 chains k few (stands-self (fieldList b offset)) j
       (omega (arith, list-size k few))
       ∙ list-at k j few h
 
   -- a list that has each entry at its place, and no others, is the book's
-  pub lists-whole : (l : List ℕ) → length l ≡ before first chains
-      → ((k j : ℕ) → k < chains → j < sizeOf first k → fieldOf b (linkAt b k j) offset ≡ getD l (before first k + j) 0)
-      → listOf b offset ≡ l
-  unfolding listOf
+  pub lists-whole : (l : List ℕ) → length l ≡ recordsBefore first chains
+      → ((k j : ℕ) → k < chains → j < sizeOf first k → fieldOf b (linkAt b k j) offset ≡ getD l (recordsBefore first k + j) 0)
+      → fieldList b offset ≡ l
+  unfolding fieldList
   lists-whole l size same =
-      stands-whole l (listOf b offset) (lists-size chains (omega arith) ∙ sym size)
+      stands-whole l (fieldList b offset) (lists-size chains (omega arith) ∙ sym size)
       (stands-joined l (listIn b offset) 0 chains
       (λ k few j h.
       let inside : j < sizeOf first k = omega (arith, list-size k few) in
-      let place : 0 + length (joined (listIn b offset) k) + j ≡ before first k + j =
+      let place : 0 + length (joined (listIn b offset) k) + j ≡ recordsBefore first k + j =
       omega (arith, lists-size k (omega arith)) in
       ap (λ (p : ℕ). getD l p 0) place ∙ sym (same k j few inside) ∙ sym (list-at k j few inside)))

@@ -12,7 +12,7 @@ use lib.IntN.{ℤ, pos, negsuc}
 use lib.ListN.{length}
 use Rattle.le_bytes.specs.Bytes.{byteAt, readU16, readU32}
 use Rattle.le_bytes.specs.Fields.{raised}
-use Rattle.book_contents.specs.Written.{twoBytes, fourBytes, stored}
+use Rattle.book_contents.specs.Written.{twoBytes, fourBytes, twosComplement}
 use Rattle.book_contents.specs.Limits.{curveRate}
 use Rattle.book_contents.specs.Reading.{signedOf}
 use Rattle.book_contents.proofs.Stands.{Stands, stands-left, stands-right, stands-both}
@@ -74,31 +74,31 @@ module _ (b : List ℕ) (at x : ℕ) where
       (two-bytes b (at + 2) (x / 65536) bytes (omega arith))
 
 -- curve rates: their range, and the 32 bits that hold them
-pub curve-small : (z : ℤ) → curveRate z ≡ true → stored z < 4294967296
-unfolding curveRate stored
+pub curve-small : (z : ℤ) → curveRate z ≡ true → twosComplement z < 4294967296
+unfolding curveRate twosComplement
 curve-small (pos n) e = omega (arith, leb-true (n + 10000) 210000 e)
 curve-small (negsuc m) e = omega (arith, leb-true (m + 1) 10000 e)
 
-pub curve-raised : (z : ℤ) → curveRate z ≡ true → raised 10000 (stored z) ≤ 210000
-unfolding curveRate stored
+pub curve-raised : (z : ℤ) → curveRate z ≡ true → raised 10000 (twosComplement z) ≤ 210000
+unfolding curveRate twosComplement
 curve-raised (pos n) e = omega (arith, leb-true (n + 10000) 210000 e)
 curve-raised (negsuc m) e = omega (arith, leb-true (m + 1) 10000 e)
 
-pub curve-back : (z : ℤ) → curveRate z ≡ true → signedOf (stored z) ≡ z
-unfolding curveRate stored signedOf
+pub curve-back : (z : ℤ) → curveRate z ≡ true → signedOf (twosComplement z) ≡ z
+unfolding curveRate twosComplement signedOf
 curve-back (pos n) e = rw (le-leb n 2147483647 (omega (arith, leb-true (n + 10000) 210000 e)))
 curve-back (negsuc m) e =
     let le : m ≤ 9999 = omega (arith, leb-true (m + 1) 10000 e) in
-    let high : 2147483647 < stored (negsuc m) = omega arith in
-    let same : 4294967295 - stored (negsuc m) ≡ m = omega arith in
-    rw (lt-leb (stored (negsuc m)) 2147483647 high, same)
+    let high : 2147483647 < twosComplement (negsuc m) = omega arith in
+    let same : 4294967295 - twosComplement (negsuc m) ≡ m = omega arith in
+    rw (lt-leb (twosComplement (negsuc m)) 2147483647 high, same)
 
 module _ (u : ℕ) (small : u < 4294967296) where
-  pub signed-back : stored (signedOf u) ≡ u
-  unfolding signedOf stored
+  pub signed-back : twosComplement (signedOf u) ≡ u
+  unfolding signedOf twosComplement
   signed-back = by-size (leb u 2147483647) refl
     where
-      by-size : (t : Bool) → leb u 2147483647 ≡ t → stored (cond t (pos u) (negsuc (4294967295 - u))) ≡ u
+      by-size : (t : Bool) → leb u 2147483647 ≡ t → twosComplement (cond t (pos u) (negsuc (4294967295 - u))) ≡ u
       by-size true e = refl
       by-size false e = omega arith
 

@@ -7,8 +7,8 @@ use native.Mathlib.Nat.{eq-or-lt-of-le}
 use native.Mathlib.Omega.{arith}
 use Rattle.verdict.specs.declared.Verdict.the-variants.{Accepted}
 use Rattle.book.specs.Layout.{chains, headOf, nextOf, linkAt}
-use Rattle.buffer.proofs.Laws.{le-or-lt}
-use Rattle.book_contents.specs.Contents.{Contents, sizeOf, before}
+use Rattle.buffer.proofs.Digits.{le-or-lt}
+use Rattle.book_contents.specs.Contents.{Contents, sizeOf, recordsBefore}
 use Rattle.book_contents.specs.Written.{bookOf}
 use Rattle.book_contents.specs.Limits.{checkContents, Fit, Shaped}
 use Rattle.book_contents.specs.Reading.{firstsOf, valuesOf, contentsOf, InOrder}
@@ -20,7 +20,7 @@ use Rattle.book_contents.proofs.Linked.{records-is, head-is, next-of-en
 use Rattle.book_contents.proofs.Back.{read-written}
 
 module _ (b : List ℕ) (v : Contents) (f : Fit v) (x : Laid b v) where
-  head-right : (k : ℕ) → k < chains → 0 < headOf b k → headOf b k ≡ before (v .values .first) k + 1
+  head-right : (k : ℕ) → k < chains → 0 < headOf b k → headOf b k ≡ recordsBefore (v .values .first) k + 1
   head-right k few some =
       let head = head-is b v f x k few in
       ⊎-elim
@@ -40,14 +40,14 @@ module _ (b : List ℕ) (v : Contents) (f : Fit v) (x : Laid b v) where
       (λ (l : j + 1 < sizeOf (v .values .first) k). omega (arith, here, next, next-more (v .values .first) k j l))
       (eq-or-lt-of-le (omega arith))
 
-pub written-ordered : (v : Contents) (room n : ℕ) → Shaped (v .values) → checkContents v room ≡ Accepted n
+pub written-ordered : (v : Contents) (capacity n : ℕ) → Shaped (v .values) → checkContents v capacity ≡ Accepted n
     → InOrder (bookOf v)
 unfolding contentsOf valuesOf
-written-ordered v room n s e =
+written-ordered v capacity n s e =
     let b = bookOf v in
-    let f = fit v room n e in
+    let f = fit v capacity n e in
     let x = stands-laid b v (stands-self b) in
-    let firsts : firstsOf b ≡ v .values .first = ap (λ (w : Contents). w .values .first) (read-written v room n s e) in
+    let firsts : firstsOf b ≡ v .values .first = ap (λ (w : Contents). w .values .first) (read-written v capacity n s e) in
     record {
       heads = λ k few some. rw firsts (head-right b v f x k few some);
       nexts = next-right b v f x;

@@ -8,7 +8,7 @@ use native.Mathlib.Omega.{arith}
 use lib.ListN.{length, getD, length-append, List·getD-append, List·getD-eq-default}
 use lib.Seq.{getD-append-add, ext-getD}
 use Rattle.buffer.specs.Text.{joined}
-use Rattle.buffer.proofs.Laws.{le-or-lt}
+use Rattle.buffer.proofs.Digits.{le-or-lt}
 use Rattle.book_contents.specs.Reading.{each}
 
 -- the numbers of t are those of b from a place on

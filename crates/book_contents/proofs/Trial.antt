@@ -9,12 +9,12 @@ use Rattle.le_bytes.specs.Fields.{within}
 use Rattle.verdict.specs.declared.Verdict.the-variants.{Accepted}
 use Rattle.book.specs.Cells.{sumOf}
 use Rattle.book.specs.Check.{checkBook}
-use Rattle.book_contents.specs.Contents.{Contents, given, sizeOf, before}
+use Rattle.book_contents.specs.Contents.{Contents, given, sizeOf, recordsBefore}
 use Rattle.book_contents.specs.Written.{bookOf}
-use Rattle.book_contents.specs.Limits.{checkMost, curveRate, checkCurve, checkLengths, checkPercents, checkEdition}
-use Rattle.book_contents.specs.Limits.{checkTables, checkLists, checkContents, Shaped}
+use Rattle.book_contents.specs.Limits.{checkMost, curveRate, checkCurve, checkLengths, checkGivenPercents, checkEdition}
+use Rattle.book_contents.specs.Limits.{checkGivenTables, checkLists, checkContents, Shaped}
 use Rattle.book_contents.specs.Reading.{contentsOf, InOrder}
-use Rattle.book_contents.specs.Promises.{notZero}
+use Rattle.book_contents.specs.Contracts.{notZero}
 use Rattle.book_contents.proofs.Accepted.{written-accepted}
 use Rattle.book_contents.proofs.Back.{read-written}
 use Rattle.book_contents.proofs.Ordered.{written-ordered}
@@ -39,8 +39,8 @@ shaped : Shaped (oneRecord .values)
 shaped = record { cost = refl; curve = refl; mortality = refl; first = refl }
 
 pub one-record-taken : checkContents oneRecord 1244 ≡ Accepted 0
-unfolding checkContents checkLengths checkPercents checkEdition checkTables checkLists checkMost checkCurve curveRate
-    joinAll need _andThen_ within sizeOf before
+unfolding checkContents checkLengths checkGivenPercents checkEdition checkGivenTables checkLists checkMost checkCurve curveRate
+    joinAll need _andThen_ within sizeOf recordsBefore
 one-record-taken = refl
 
 pub one-record-accepted : checkBook 1 (bookOf oneRecord) ≡ Accepted 1

@@ -29,6 +29,6 @@ unfoldable pub sizeOf : List ℕ → ℕ → ℕ
 sizeOf first k = noClass - getD first k 0
 
 -- how many the chains before chain k have together
-unfoldable pub before : List ℕ → ℕ → ℕ
-before first zero = 0
-before first (suc k) = before first k + sizeOf first k
+unfoldable pub recordsBefore : List ℕ → ℕ → ℕ
+recordsBefore first zero = 0
+recordsBefore first (suc k) = recordsBefore first k + sizeOf first k

@@ -12,7 +12,7 @@ use Rattle.verdict.specs.declared.Verdict.{Verdict}
 use Rattle.book.specs.Layout.{headerSize, recordSize, firstYear, lastYear, mostPercent, chains, mostRate, curveLift}
 use Rattle.book.specs.Layout.{curveSpan, mostCount, mostAmount}
 use Rattle.book_contents.specs.declared.Values.{Values}
-use Rattle.book_contents.specs.Contents.{Contents, noClass, before}
+use Rattle.book_contents.specs.Contents.{Contents, noClass, recordsBefore}
 
 -- refused with the number where one of a list is above the most
 unfoldable pub checkMost : ℕ → ℕ → List ℕ → Verdict
@@ -29,16 +29,16 @@ checkCurve l = joinAll (λ (j : ℕ). need (curveRate (getD l j (pos 0))) 7 0) 0
 -- 22: each list buffer, of so many numbers, is as long as its lists, which together have total; and a byte buffer of so
 -- many bytes takes their book
 unfoldable pub checkLengths : ℕ → ℕ → ℕ → ℕ → ℕ → ℕ → Verdict
-checkLengths total counts lapses premiums claims room =
+checkLengths total counts lapses premiums claims capacity =
     need (eqb counts total) 22 0 andThen
     need (eqb lapses total) 22 0 andThen
     need (eqb premiums total) 22 0 andThen
     need (eqb claims total) 22 0 andThen
-    need (leb (headerSize + recordSize * total) room) 22 0
+    need (leb (headerSize + recordSize * total) capacity) 22 0
 
 -- the percentages: in edition 2 both are in their range, else 23; in edition 1 both are 0, else 4
-unfoldable pub checkPercents : ℕ → ℕ → ℕ → Verdict
-checkPercents edition men women =
+unfoldable pub checkGivenPercents : ℕ → ℕ → ℕ → Verdict
+checkGivenPercents edition men women =
     cond (eqb edition 2)
     (need (within 1 mostPercent men) 23 0 andThen need (within 1 mostPercent women) 23 0)
     (need (eqb men 0) 4 0 andThen need (eqb women 0) 4 0)
@@ -48,11 +48,11 @@ unfoldable pub checkEdition : ℕ → ℕ → ℕ → ℕ → Verdict
 checkEdition edition men women year =
     need (within 1 2 edition) 2 0 andThen
     need (within firstYear lastYear year) 4 0 andThen
-    checkPercents edition men women
+    checkGivenPercents edition men women
 
 -- 6 the cost rates, 7 the curve, 8 mortality
-unfoldable pub checkTables : List ℕ → List ℤ → List ℕ → Verdict
-checkTables cost curve mortality =
+unfoldable pub checkGivenTables : List ℕ → List ℤ → List ℕ → Verdict
+checkGivenTables cost curve mortality =
     checkMost 6 mostRate cost andThen
     checkCurve curve andThen
     checkMost 8 mostRate mortality
@@ -68,22 +68,22 @@ checkLists counts lapses premiums claims =
 -- What stands against writing the contents into a buffer of so many bytes: 11 the first classes, 22 the lengths, 2, 4
 -- and 23 the edition with year and percentages, 6, 7 and 8 the tables, 12 the lists.
 unfoldable pub checkContents : Contents → ℕ → Verdict
-checkContents v room =
+checkContents v capacity =
     checkMost 11 noClass (v .values .first) andThen
-    checkLengths (before (v .values .first) chains) (length (v .counts)) (length (v .lapses)) (length (v .premiums))
-    (length (v .claims)) room andThen
+    checkLengths (recordsBefore (v .values .first) chains) (length (v .counts)) (length (v .lapses)) (length (v .premiums))
+    (length (v .claims)) capacity andThen
     checkEdition (v .values .edition) (v .values .men) (v .values .women) (v .values .year) andThen
-    checkTables (v .values .cost) (v .values .curve) (v .values .mortality) andThen
+    checkGivenTables (v .values .cost) (v .values .curve) (v .values .mortality) andThen
     checkLists (v .counts) (v .lapses) (v .premiums) (v .claims)
 
 -- The rules that contents keep, one by one and in no order of tests. They are not refused, with room enough, exactly
 -- where they keep them all (proofs/Fit). Past its end a list reads 0, which every rule takes.
 pub record Fit (v : Contents) : Type 0 where
   pub first : (k : ℕ) → getD (v .values .first) k 0 ≤ noClass
-  pub counts-size : length (v .counts) ≡ before (v .values .first) chains
-  pub lapses-size : length (v .lapses) ≡ before (v .values .first) chains
-  pub premiums-size : length (v .premiums) ≡ before (v .values .first) chains
-  pub claims-size : length (v .claims) ≡ before (v .values .first) chains
+  pub counts-size : length (v .counts) ≡ recordsBefore (v .values .first) chains
+  pub lapses-size : length (v .lapses) ≡ recordsBefore (v .values .first) chains
+  pub premiums-size : length (v .premiums) ≡ recordsBefore (v .values .first) chains
+  pub claims-size : length (v .claims) ≡ recordsBefore (v .values .first) chains
   pub edition-low : 1 ≤ v .values .edition
   pub edition-high : v .values .edition ≤ 2
   -- the percentages: none in edition 1, in edition 2 each in its range

@@ -15,7 +15,7 @@ use Rattle.book.specs.Layout.{costPlace, curvePlace, mortalityPlace, countOffse
 use Rattle.book.specs.Check.{checkBook}
 use Rattle.buffer.specs.Text.{joined}
 use Rattle.book_contents.specs.declared.Values.{Values}
-use Rattle.book_contents.specs.Contents.{Contents, noClass, before}
+use Rattle.book_contents.specs.Contents.{Contents, noClass, recordsBefore}
 
 -- what f gives for 0, 1 and so on, n of them
 unfoldable pub each : {A : Type 0} → (ℕ → A) → ℕ → List A
@@ -51,22 +51,22 @@ valuesOf b =
 unfoldable pub listIn : List ℕ → ℕ → ℕ → List ℕ
 listIn b offset k = each (λ (j : ℕ). fieldOf b (linkAt b k j) offset) (noClass - firstIn b k)
 
-unfoldable pub listOf : List ℕ → ℕ → List ℕ
-listOf b offset = joined (listIn b offset) chains
+unfoldable pub fieldList : List ℕ → ℕ → List ℕ
+fieldList b offset = joined (listIn b offset) chains
 
 unfoldable pub contentsOf : List ℕ → Contents
 contentsOf b =
     record {
       values = valuesOf b;
-      counts = listOf b countOffset;
-      lapses = listOf b lapseOffset;
-      premiums = listOf b premiumOffset;
-      claims = listOf b claimsOffset;
+      counts = fieldList b countOffset;
+      lapses = fieldList b lapseOffset;
+      premiums = fieldList b premiumOffset;
+      claims = fieldList b claimsOffset;
     }
 
 -- 22: a buffer of so many numbers takes the lists of one kind
 abbrev pub takes : List ℕ → ℕ → Verdict
-takes b room = need (leb (before (firstsOf b) chains) room) 22 0
+takes b capacity = need (leb (recordsBefore (firstsOf b) chains) capacity) 22 0
 
 -- the book's refusals, then 22 for each of the four buffers
 unfoldable pub checkRead : List ℕ → ℕ → ℕ → ℕ → ℕ → Verdict
@@ -98,9 +98,9 @@ OfBytes b = (p : ℕ) → byteAt b p < 256
 -- The records of a book all are linked and stand in chain order: the order in which books are written.
 pub record InOrder (b : List ℕ) : Type 0 where
   -- a head, where it is not 0, is one higher than the number of records of the chains before
-  pub heads : (k : ℕ) → k < chains → 0 < headOf b k → headOf b k ≡ before (firstsOf b) k + 1
+  pub heads : (k : ℕ) → k < chains → 0 < headOf b k → headOf b k ≡ recordsBefore (firstsOf b) k + 1
   -- the next of a linked record, where it is not 0, is one higher than that record
   pub nexts : (k j : ℕ) → k < chains → 0 < linkAt b k j → 0 < nextOf b (linkAt b k j)
       → nextOf b (linkAt b k j) ≡ linkAt b k j + 1
   -- N is the number of records of all chains
-  pub all : records b ≡ before (firstsOf b) chains
+  pub all : records b ≡ recordsBefore (firstsOf b) chains

@@ -8,7 +8,7 @@ use lib.ListN.{getD}
 use Rattle.book.specs.Layout.{headerSize, recordSize, chains, chainCode, chainSex}
 use Rattle.buffer.specs.Text.{joined}
 use Rattle.book_contents.specs.declared.Values.{Values}
-use Rattle.book_contents.specs.Contents.{Contents, sizeOf, before}
+use Rattle.book_contents.specs.Contents.{Contents, sizeOf, recordsBefore}
 
 -- a number in two bytes and in four, least byte first
 unfoldable pub twoBytes : ℕ → List ℕ
@@ -18,20 +18,20 @@ unfoldable pub fourBytes : ℕ → List ℕ
 fourBytes x = twoBytes x ++ twoBytes (x / 65536)
 
 -- a signed number as 32 bits hold it, in two's complement: 4,294,967,295 is -1
-unfoldable pub stored : ℤ → ℕ
-stored (pos n) = n
-stored (negsuc m) = 4294967295 - m
+unfoldable pub twosComplement : ℤ → ℕ
+twosComplement (pos n) = n
+twosComplement (negsuc m) = 4294967295 - m
 
 -- the first n numbers of a list, four bytes each; and of a list of signed ones
 unfoldable pub fields : List ℕ → ℕ → List ℕ
 fields l n = joined (λ (j : ℕ). fourBytes (getD l j 0)) n
 
 unfoldable pub signedFields : List ℤ → ℕ → List ℕ
-signedFields l n = joined (λ (j : ℕ). fourBytes (stored (getD l j (pos 0)))) n
+signedFields l n = joined (λ (j : ℕ). fourBytes (twosComplement (getD l j (pos 0)))) n
 
 -- Records stand in chain order and are numbered from 1: entry j, from 0, of chain k is this record.
 abbrev pub numberOf : List ℕ → ℕ → ℕ → ℕ
-numberOf first k j = before first k + j + 1
+numberOf first k j = recordsBefore first k + j + 1
 
 -- chain k's head: its first record, 0 where it is empty
 unfoldable pub headFor : List ℕ → ℕ → ℕ
@@ -44,7 +44,7 @@ nextFor first k j = cond (eqb (j + 1) (sizeOf first k)) 0 (numberOf first k (j +
 -- bytes 0 to 7: edition, age basis 1, SST year, N, mortality percentages of men and women
 unfoldable pub frontBytes : Values → List ℕ
 frontBytes h =
-    h .edition ∷ 1 ∷ [] ++ twoBytes (h .year) ++ twoBytes (before (h .first) chains) ++ h .men ∷ h .women ∷ []
+    h .edition ∷ 1 ∷ [] ++ twoBytes (h .year) ++ twoBytes (recordsBefore (h .first) chains) ++ h .men ∷ h .women ∷ []
 
 -- bytes 8 to 35: the heads
 unfoldable pub headBytes : List ℕ → List ℕ
@@ -57,23 +57,23 @@ headerBytes h =
     ++ fields (h .mortality) 242
 
 -- a record: code, sex, class, a spare byte, next, two spare bytes, and four numbers
-unfoldable pub recordBytes : ℕ → ℕ → ℕ → ℕ → ℕ → ℕ → ℕ → List ℕ
-recordBytes k class next count lapse premium claims =
+unfoldable pub encodedRecord : ℕ → ℕ → ℕ → ℕ → ℕ → ℕ → ℕ → List ℕ
+encodedRecord k class next count lapse premium claims =
     chainCode k ∷ chainSex k ∷ class ∷ 0 ∷ [] ++ twoBytes next ++ twoBytes 0
     ++ fourBytes count ++ fourBytes lapse ++ fourBytes premium ++ fourBytes claims
 
 -- entry j of chain k: its class is j above the first, its numbers stand after those of the entries before it
-unfoldable pub recordOf : Contents → ℕ → ℕ → List ℕ
-recordOf v k j =
-    recordBytes k (getD (v .values .first) k 0 + j) (nextFor (v .values .first) k j)
-    (getD (v .counts) (before (v .values .first) k + j) 0)
-    (getD (v .lapses) (before (v .values .first) k + j) 0)
-    (getD (v .premiums) (before (v .values .first) k + j) 0)
-    (getD (v .claims) (before (v .values .first) k + j) 0)
+unfoldable pub recordBytesOf : Contents → ℕ → ℕ → List ℕ
+recordBytesOf v k j =
+    encodedRecord k (getD (v .values .first) k 0 + j) (nextFor (v .values .first) k j)
+    (getD (v .counts) (recordsBefore (v .values .first) k + j) 0)
+    (getD (v .lapses) (recordsBefore (v .values .first) k + j) 0)
+    (getD (v .premiums) (recordsBefore (v .values .first) k + j) 0)
+    (getD (v .claims) (recordsBefore (v .values .first) k + j) 0)
 
 -- the records of chain k
 unfoldable pub chainBytes : Contents → ℕ → List ℕ
-chainBytes v k = joined (recordOf v k) (sizeOf (v .values .first) k)
+chainBytes v k = joined (recordBytesOf v k) (sizeOf (v .values .first) k)
 
 -- the book: the header, and then the records, chain after chain
 unfoldable pub bookOf : Contents → List ℕ
@@ -81,4 +81,4 @@ bookOf v = headerBytes (v .values) ++ joined (chainBytes v) chains
 
 -- its length
 abbrev pub bookSize : List ℕ → ℕ
-bookSize first = headerSize + recordSize * before first chains
+bookSize first = headerSize + recordSize * recordsBefore first chains

@@ -6,7 +6,7 @@ ghost use Prim.Native.Nat.{ℕ, _+_, _*_, _<_, _%_, _^_};
 ghost use lib.IntN.{pos};
 ghost use lib.ListN.{length, getD};
 ghost use Rattle.buffer.specs.Text.{Wrote};
-ghost use Rattle.book_contents.specs.Written.{twoBytes, fourBytes, stored, fields, signedFields};
+ghost use Rattle.book_contents.specs.Written.{twoBytes, fourBytes, twosComplement, fields, signedFields};
 ghost use Rattle.book_contents.specs.Limits.{curveRate};
 use buffer::put_byte;
 
@@ -50,7 +50,7 @@ pub fn put_fields(out: &mut [u8], at: usize, list: &[u64]) -> usize
 // A curve rate as 32 bits hold it.
 fn stored(x: i64) -> u64
     requires { ⌜ curveRate x ≡ true ⌝ }
-    ensures { λ r. ⌜ r ≡ stored x ⌝ }
+    ensures { λ r. ⌜ r ≡ twosComplement x ⌝ }
 {
     if x < 0 {
         return (x + 4_294_967_296) as u64;

@@ -2,7 +2,7 @@
 // book_contents/specs/Limits, and the functions here read in its order.
 ghost use mathlib.Core.Path.{_≡_};
 ghost use Rattle.book_contents.specs.Contents.{given};
-ghost use Rattle.book_contents.specs.Limits.{checkTables, checkLists, checkContents};
+ghost use Rattle.book_contents.specs.Limits.{checkGivenTables, checkLists, checkContents};
 use book::MOST_AMOUNT;
 use book::MOST_COUNT;
 use book::MOST_RATE;
@@ -17,7 +17,7 @@ use verdict::Verdict;
 
 // Refusals 6, 7 and 8.
 fn check_tables(cost: &[u64], curve: &[i64], mortality: &[u64]) -> Verdict
-    ensures { λ r. ⌜ r ≡ checkTables (now (cost .entry)) (now (curve .entry))
+    ensures { λ r. ⌜ r ≡ checkGivenTables (now (cost .entry)) (now (curve .entry))
         (now (mortality .entry)) ⌝ }
 {
     let costs = check_most(cost, MOST_RATE, 6);
@@ -45,11 +45,11 @@ pub fn check_contents(
     lapses: &[u64],
     premiums: &[u64],
     claims: &[u64],
-    room: usize,
+    capacity: usize,
 ) -> Verdict
     ensures { λ r. ⌜ r ≡ checkContents
         (given values (now (counts .entry)) (now (lapses .entry)) (now (premiums .entry))
-        (now (claims .entry))) room ⌝ }
+        (now (claims .entry))) capacity ⌝ }
 {
     let first = values.first;
     let cost = values.cost;
@@ -62,7 +62,7 @@ pub fn check_contents(
         lapses.len(),
         premiums.len(),
         claims.len(),
-        room,
+        capacity,
     );
     let edition = check_edition(values.edition, values.men, values.women, values.year);
     let tables = check_tables(&cost, &curve, &mortality);

@@ -2,7 +2,7 @@
 // and the year. The definition is book_contents/specs/Limits; places are 0.
 ghost use mathlib.Core.Path.{_≡_};
 ghost use Rattle.book_contents.specs.Limits.{checkMost, curveRate, checkCurve};
-ghost use Rattle.book_contents.specs.Limits.{checkPercents, checkEdition};
+ghost use Rattle.book_contents.specs.Limits.{checkGivenPercents, checkEdition};
 use book::FIRST_YEAR;
 use book::LAST_YEAR;
 use book::MOST_PERCENT;
@@ -56,7 +56,7 @@ pub fn check_curve(curve: &[i64]) -> Verdict
 
 // Refusal 23 of edition 2, 4 of edition 1.
 fn check_percents(edition: u64, men: u64, women: u64) -> Verdict
-    ensures { λ r. ⌜ r ≡ checkPercents edition men women ⌝ }
+    ensures { λ r. ⌜ r ≡ checkGivenPercents edition men women ⌝ }
 {
     if edition == 2 {
         let of_men = le_bytes::within(1, MOST_PERCENT, men as usize);

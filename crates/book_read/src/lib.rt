@@ -5,8 +5,8 @@ ghost use Prim.Native.Nat.{_+_, _≤_, _<_, _^_};
 ghost use lib.Seq.{sets};
 ghost use Rattle.verdict.specs.declared.Verdict.the-variants.{Refused};
 ghost use Rattle.buffer.specs.Text.{Wrote};
-ghost use Rattle.book_contents.specs.Reading.{listIn, listOf, checkRead, Sound, noValues};
-ghost use Rattle.book_contents.specs.Promises.{readFor, ReadPromised};
+ghost use Rattle.book_contents.specs.Reading.{listIn, fieldList, checkRead, Sound, noValues};
+ghost use Rattle.book_contents.specs.Contracts.{readFor, ReadContract};
 use book::CHAINS;
 use book::CLAIMS_OFFSET;
 use book::COUNT_OFFSET;
@@ -51,7 +51,7 @@ fn fill_chain(book: &[u8], k: usize, offset: usize, list: &mut [u64], at: usize)
 // One field of all linked records, in linked order.
 fn fill_list(book: &[u8], offset: usize, list: &mut [u64])
     requires { ⌜ (offset ≤ 20) × Sound (now book) ⌝ }
-    ensures { λ _. ⌜ now (list .exit) ≡ sets (now (list .entry)) 0 (listOf (now (book .entry)) offset) ⌝ }
+    ensures { λ _. ⌜ now (list .exit) ≡ sets (now (list .entry)) 0 (fieldList (now (book .entry)) offset) ⌝ }
 {
     let mut next = 0;
     for k in 0..CHAINS {
@@ -104,7 +104,7 @@ pub fn read(
     premiums: &mut [u64],
     claims: &mut [u64],
 ) -> ReadReply
-    ensures { λ r. ⌜ ReadPromised (now (book .entry)) (now (counts .entry)) (now (lapses .entry))
+    ensures { λ r. ⌜ ReadContract (now (book .entry)) (now (counts .entry)) (now (lapses .entry))
         (now (premiums .entry)) (now (claims .entry)) (now (counts .exit)) (now (lapses .exit)) (now (premiums .exit))
         (now (claims .exit)) r ⌝ }
 {

@@ -2,7 +2,7 @@
 // definitions are book_contents/specs/Contents and book_contents/specs/Limits.
 ghost use mathlib.Core.Path.{_≡_};
 ghost use Prim.Native.Nat.{_≤_, _<_};
-ghost use Rattle.book_contents.specs.Contents.{sizeOf, before};
+ghost use Rattle.book_contents.specs.Contents.{sizeOf, recordsBefore};
 ghost use Rattle.book_contents.specs.Limits.{checkLengths};
 use book::CHAINS;
 use book::HEADER_SIZE;
@@ -27,7 +27,7 @@ pub fn size_of(first: &[u64; 14], k: usize) -> usize
 
 // How long all lists of one kind are together.
 pub fn total(first: &[u64; 14]) -> usize
-    ensures { λ r. ⌜ (r ≡ before (now (first .entry)) 14) × (r ≤ 1694) ⌝ }
+    ensures { λ r. ⌜ (r ≡ recordsBefore (now (first .entry)) 14) × (r ≤ 1694) ⌝ }
 {
     let mut sum = 0;
     for k in 0..CHAINS {
@@ -44,13 +44,13 @@ pub fn check_lengths(
     lapses: usize,
     premiums: usize,
     claims: usize,
-    room: usize,
+    capacity: usize,
 ) -> Verdict
     requires { ⌜ total ≤ 1694 ⌝ }
-    ensures { λ r. ⌜ r ≡ checkLengths total counts lapses premiums claims room ⌝ }
+    ensures { λ r. ⌜ r ≡ checkLengths total counts lapses premiums claims capacity ⌝ }
 {
     need(counts == total, 22, 0).require(lapses == total, 22, 0)
         .require(premiums == total, 22, 0)
         .require(claims == total, 22, 0)
-        .require(HEADER_SIZE + RECORD_SIZE * total <= room, 22, 0)
+        .require(HEADER_SIZE + RECORD_SIZE * total <= capacity, 22, 0)
 }

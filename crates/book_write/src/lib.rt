@@ -3,7 +3,7 @@ ghost use Rattle.buffer.specs.Text.{Wrote};
 ghost use Rattle.book_contents.specs.Contents.{given};
 ghost use Rattle.book_contents.specs.Written.{bookOf};
 ghost use Rattle.book_contents.specs.Limits.{Fit};
-ghost use Rattle.book_contents.specs.Promises.{WritePromised};
+ghost use Rattle.book_contents.specs.Contracts.{WriteContract};
 use book_contents::Values;
 use book_contents::WriteReply;
 use book_limits::check_contents;
@@ -38,7 +38,7 @@ pub fn write(
     claims: &[u64],
     out: &mut [u8],
 ) -> WriteReply
-    ensures { λ r. ⌜ WritePromised
+    ensures { λ r. ⌜ WriteContract
         (given values (now (counts .entry)) (now (lapses .entry)) (now (premiums .entry)) (now (claims .entry)))
         (now (out .entry)) (now (out .exit)) r ⌝ }
 {

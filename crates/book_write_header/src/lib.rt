@@ -6,7 +6,7 @@ ghost use Prim.Native.Nat.{ℕ, _+_, _<_, _^_};
 ghost use lib.IntN.{pos};
 ghost use lib.ListN.{getD};
 ghost use Rattle.buffer.specs.Text.{Wrote};
-ghost use Rattle.book_contents.specs.Contents.{before};
+ghost use Rattle.book_contents.specs.Contents.{recordsBefore};
 ghost use Rattle.book_contents.specs.Written.{twoBytes, headFor, headBytes, headerBytes};
 ghost use Rattle.book_contents.specs.Limits.{curveRate};
 use book::CHAINS;
@@ -34,7 +34,7 @@ fn put_front(out: &mut [u8], edition: u64, men: u64, women: u64, year: u64, n: u
 
 // The head of chain k, with so many records before its own.
 fn head_for(first: &[u64; 14], k: usize, sum: usize) -> u64
-    requires { ⌜ (k < 14) × (sum ≡ before (now first) k) × (sum < 65536) ⌝ }
+    requires { ⌜ (k < 14) × (sum ≡ recordsBefore (now first) k) × (sum < 65536) ⌝ }
     ensures { λ r. ⌜ r ≡ headFor (now (first .entry)) k ⌝ }
 {
     if size_of(first, k) == 0 {

@@ -4,8 +4,8 @@ ghost use mathlib.Core.Path.{_≡_};
 ghost use Prim.Native.Nat.{_+_, _*_, _<_, _^_};
 ghost use Rattle.book.specs.Layout.{chainCode, chainSex};
 ghost use Rattle.buffer.specs.Text.{Wrote, joined};
-ghost use Rattle.book_contents.specs.Contents.{given, sizeOf, before};
-ghost use Rattle.book_contents.specs.Written.{twoBytes, nextFor, recordBytes, chainBytes};
+ghost use Rattle.book_contents.specs.Contents.{given, sizeOf, recordsBefore};
+ghost use Rattle.book_contents.specs.Written.{twoBytes, nextFor, encodedRecord, chainBytes};
 ghost use Rattle.book_contents.specs.Limits.{Fit};
 use book::CHAINS;
 use book_contents::Values;
@@ -40,7 +40,7 @@ fn put_record(
     claims: u64,
 ) -> usize
     requires { ⌜ (at + 25 < 2 ^ 64) × (k < 14) × (class < 256) ⌝ }
-    ensures { λ r. ⌜ Wrote (now (out .entry)) at (recordBytes k class next count lapse premium claims)
+    ensures { λ r. ⌜ Wrote (now (out .entry)) at (encodedRecord k class next count lapse premium claims)
         (now (out .exit)) r × (r ≡ at + 24) ⌝ }
 {
     let count_at = put_link(out, at, k, class, next);
@@ -52,7 +52,7 @@ fn put_record(
 
 // The next of entry j of chain k, with so many records before the chain's.
 fn next_for(first: &[u64; 14], k: usize, j: usize, sum: usize) -> u64
-    requires { ⌜ (k < 14) × (sum ≡ before (now first) k) × (sum < 65536) × (j < 121) ⌝ }
+    requires { ⌜ (k < 14) × (sum ≡ recordsBefore (now first) k) × (sum < 65536) × (j < 121) ⌝ }
     ensures { λ r. ⌜ r ≡ nextFor (now (first .entry)) k j ⌝ }
 {
     if j + 1 == size_of(first, k) {
@@ -73,7 +73,7 @@ fn put_chain(
     premiums: &[u64],
     claims: &[u64],
 ) -> usize
-    requires { ⌜ (at < 2 ^ 32) × (k < 14) × (sum ≡ before (values .first) k)
+    requires { ⌜ (at < 2 ^ 32) × (k < 14) × (sum ≡ recordsBefore (values .first) k)
         × Fit (given values (now counts) (now lapses) (now premiums) (now claims)) ⌝ }
     ensures { λ r. ⌜ Wrote (now (out .entry)) at
         (chainBytes (given values (now (counts .entry)) (now (lapses .entry)) (now (premiums .entry))

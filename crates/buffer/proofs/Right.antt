@@ -8,7 +8,7 @@ use borrow.Author.Tests.{lt-ltb, le-ltb}
 use lib.IntN.{negsuc}
 use lib.ListN.{length, length-append, getD, List·getD-append}
 use Rattle.buffer.specs.Text.{spelled, decimal, signed}
-use Rattle.buffer.proofs.Laws.{le-or-lt}
+use Rattle.buffer.proofs.Digits.{le-or-lt}
 
 -- the number that a list of digits spells, read from the left
 unfoldable pub read : ℕ → List ℕ → ℕ

@@ -33,20 +33,20 @@ abbrev pub bufferFor : Verdict → List ℕ → List ℕ → List ℕ
 bufferFor (Accepted m) text before = text ++ drop (length text) before
 bufferFor (Refused number place) text before = before
 
--- the refusals of the call: v, those before it writes; then 20 where a buffer of `room` bytes is shorter than the text
-unfoldable pub withRoom : Verdict → List ℕ → ℕ → Verdict
-withRoom v text room = v andThen need (leb (length text) room) 20 0
+-- the refusals of the call: v, those before it writes; then 20 where a buffer of `capacity` bytes is shorter than the text
+unfoldable pub withCapacity : Verdict → List ℕ → ℕ → Verdict
+withCapacity v text capacity = v andThen need (leb (length text) capacity) 20 0
 
 -- what the call replies: the text's length, or the first refusal
 unfoldable pub textReply : Verdict → List ℕ → ℕ → TextReply
-textReply v text room = lengthFor (withRoom v text room) (length text)
+textReply v text capacity = lengthFor (withCapacity v text capacity) (length text)
 
 -- what the buffer then holds
 unfoldable pub textBuffer : Verdict → List ℕ → List ℕ → List ℕ
-textBuffer v text before = bufferFor (withRoom v text (length before)) text before
+textBuffer v text before = bufferFor (withCapacity v text (length before)) text before
 
 -- What the call promises: its reply and the buffer equal their definitions.
-pub record TextPromised (v : Verdict) (text before after : List ℕ) (reply : TextReply) : Type 0 where
+pub record TextContract (v : Verdict) (text before after : List ℕ) (reply : TextReply) : Type 0 where
   pub reply-is : reply ≡ textReply v text (length before)
   pub buffer-is : after ≡ textBuffer v text before
   -- follows from the two: the bytes written stand in the buffer

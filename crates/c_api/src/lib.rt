@@ -3,18 +3,18 @@
 // of two funds, nothing of the refused one's half.
 ghost use mathlib.Core.Path.{_≡_};
 ghost use Rattle.record_view.specs.Looker.{locatedIn};
-ghost use Rattle.valuation.specs.Totals.{TotalsPromised};
-ghost use Rattle.cost_rates.specs.Replies.{RatesPromised};
-ghost use Rattle.standard_deviation.specs.Deviation.{DeviationPromised};
+ghost use Rattle.valuation.specs.Totals.{TotalsContract};
+ghost use Rattle.cost_rates.specs.Replies.{RatesContract};
+ghost use Rattle.standard_deviation.specs.Deviation.{DeviationContract};
 ghost use Rattle.book_contents.specs.Contents.{given};
-ghost use Rattle.book_contents.specs.Promises.{ReadPromised};
-ghost use Rattle.c_api.specs.Boundary.{verdictFields, CheckHanded, GroupHanded};
-ghost use Rattle.c_api.specs.Boundary.{ConvertHanded, WriteHanded};
-ghost use Rattle.c_api.specs.Boundary.{reportFields, ListingHanded, ReportHanded, RoomHanded};
-ghost use Rattle.c_api.specs.Boundary.{FundsHanded};
-ghost use Rattle.c_api.specs.Boundary.{InForceHanded};
-ghost use Rattle.c_api.specs.Boundary.{SpreadHanded};
-ghost use Rattle.c_api.specs.Boundary.{writeFields, PracticeHanded};
+ghost use Rattle.book_contents.specs.Contracts.{ReadContract};
+ghost use Rattle.c_api.specs.Boundary.{verdictFields, CheckExported, GroupExported};
+ghost use Rattle.c_api.specs.Boundary.{ConvertExported, WriteExported};
+ghost use Rattle.c_api.specs.Boundary.{reportFields, ListingExported, ReportExported, ReportLengthExported};
+ghost use Rattle.c_api.specs.Boundary.{FundsExported};
+ghost use Rattle.c_api.specs.Boundary.{InForceExported};
+ghost use Rattle.c_api.specs.Boundary.{SpreadExported};
+ghost use Rattle.c_api.specs.Boundary.{writeFields, PracticeExported};
 use book_contents::ReadReply;
 use book_contents::Values;
 use book_contents::WriteReply;
@@ -67,7 +67,7 @@ fn in_fields(v: Verdict) -> VerdictFields
 
 #[no_mangle]
 pub extern "C" fn xaropinto_check(book: &[u8]) -> VerdictFields
-    ensures { λ r. ⌜ CheckHanded (now (book .entry)) r ⌝ }
+    ensures { λ r. ⌜ CheckExported (now (book .entry)) r ⌝ }
 {
     in_fields(book_check::check(book))
 }
@@ -79,11 +79,11 @@ pub extern "C" fn xaropinto_group(
     group: usize,
     table: &mut [u64],
 ) -> GroupFields
-    ensures { λ r. ⌜ GroupHanded (now (book .entry)) setting group (now (table .entry)) (now (table .exit)) r ⌝ }
+    ensures { λ r. ⌜ GroupExported (now (book .entry)) setting group (now (table .entry)) (now (table .exit)) r ⌝ }
 {
     let reply = group_liability::group(book, setting, group, table);
     match reply {
-        GroupReply::Reckoned(liability, n) => GroupFields {
+        GroupReply::Valued(liability, n) => GroupFields {
             refusal: 0,
             place: 0,
             liability,
@@ -100,7 +100,7 @@ pub extern "C" fn xaropinto_group(
 
 #[no_mangle]
 pub extern "C" fn xaropinto_totals(book: &[u8]) -> TotalsReply
-    ensures { λ r. ⌜ TotalsPromised (now (book .entry)) r ⌝ }
+    ensures { λ r. ⌜ TotalsContract (now (book .entry)) r ⌝ }
 {
     totals::totals(book)
 }
@@ -114,7 +114,7 @@ pub extern "C" fn xaropinto_record(book: &[u8], number: usize) -> Located
 
 #[no_mangle]
 pub extern "C" fn xaropinto_cost_rates(accounts: Accounts) -> CostRates
-    ensures { λ r. ⌜ RatesPromised accounts r ⌝ }
+    ensures { λ r. ⌜ RatesContract accounts r ⌝ }
 {
     cost_rates::cost_rates(accounts)
 }
@@ -146,28 +146,28 @@ fn report_fields(reply: TextReply) -> ReportFields
 
 #[no_mangle]
 pub extern "C" fn xaropinto_listing(book: &[u8], out: &mut [u8]) -> ReportFields
-    ensures { λ r. ⌜ ListingHanded (now (book .entry)) (now (out .entry)) (now (out .exit)) r ⌝ }
+    ensures { λ r. ⌜ ListingExported (now (book .entry)) (now (out .entry)) (now (out .exit)) r ⌝ }
 {
     report_fields(listing::write_listing(book, out))
 }
 
 #[no_mangle]
 pub extern "C" fn xaropinto_report(book: &[u8], setting: usize, out: &mut [u8]) -> ReportFields
-    ensures { λ r. ⌜ ReportHanded (now (book .entry)) setting (now (out .entry)) (now (out .exit)) r ⌝ }
+    ensures { λ r. ⌜ ReportExported (now (book .entry)) setting (now (out .entry)) (now (out .exit)) r ⌝ }
 {
     report_fields(year_report::write_report(book, setting, out))
 }
 
 #[no_mangle]
 pub extern "C" fn xaropinto_report_room(book: &[u8], setting: usize) -> ReportFields
-    ensures { λ r. ⌜ RoomHanded (now (book .entry)) setting r ⌝ }
+    ensures { λ r. ⌜ ReportLengthExported (now (book .entry)) setting r ⌝ }
 {
-    report_fields(year_report::report_room(book, setting))
+    report_fields(year_report::report_length(book, setting))
 }
 
 #[no_mangle]
 pub extern "C" fn xaropinto_convert(book: &[u8], out: &mut [u8]) -> VerdictFields
-    ensures { λ r. ⌜ ConvertHanded (now (book .entry)) (now (out .entry)) (now (out .exit)) r ⌝ }
+    ensures { λ r. ⌜ ConvertExported (now (book .entry)) (now (out .entry)) (now (out .exit)) r ⌝ }
 {
     in_fields(age_basis::convert(book, out))
 }
@@ -207,7 +207,7 @@ pub extern "C" fn xaropinto_write(
     claims: &[u64],
     out: &mut [u8],
 ) -> WriteFields
-    ensures { λ r. ⌜ WriteHanded
+    ensures { λ r. ⌜ WriteExported
         (given values (now (counts .entry)) (now (lapses .entry)) (now (premiums .entry)) (now (claims .entry)))
         (now (out .entry)) (now (out .exit)) r ⌝ }
 {
@@ -222,7 +222,7 @@ pub extern "C" fn xaropinto_read(
     premiums: &mut [u64],
     claims: &mut [u64],
 ) -> ReadReply
-    ensures { λ r. ⌜ ReadPromised (now (book .entry)) (now (counts .entry)) (now (lapses .entry))
+    ensures { λ r. ⌜ ReadContract (now (book .entry)) (now (counts .entry)) (now (lapses .entry))
         (now (premiums .entry)) (now (claims .entry)) (now (counts .exit)) (now (lapses .exit)) (now (premiums .exit))
         (now (claims .exit)) r ⌝ }
 {
@@ -243,7 +243,7 @@ pub extern "C" fn xaropinto_funds(
     second: &[u8],
     numbers: &mut [i64],
 ) -> FundsFields
-    ensures { λ r. ⌜ FundsHanded (now (table .entry)) (now (first .entry)) (now (second .entry))
+    ensures { λ r. ⌜ FundsExported (now (table .entry)) (now (first .entry)) (now (second .entry))
         (now (numbers .entry)) (now (numbers .exit)) r ⌝ }
 {
     let reply = funds::funds(table, first, second, numbers);
@@ -271,7 +271,7 @@ pub extern "C" fn xaropinto_in_force(
     class: usize,
     out: &mut [u64],
 ) -> InForceFields
-    ensures { λ r. ⌜ InForceHanded (now (book .entry)) setting code sex class
+    ensures { λ r. ⌜ InForceExported (now (book .entry)) setting code sex class
         (now (out .entry)) (now (out .exit)) r ⌝ }
 {
     let reply = in_force::in_force(book, setting, code, sex, class, out);
@@ -297,7 +297,7 @@ pub struct SpreadFields {
 
 #[no_mangle]
 pub extern "C" fn xaropinto_spread(claims: Summary, xi: f64, eta: f64) -> SpreadFields
-    ensures { λ r. ⌜ SpreadHanded claims xi eta r ⌝ }
+    ensures { λ r. ⌜ SpreadExported claims xi eta r ⌝ }
 {
     let factors = SampleFactors { xi, eta };
     let reply = claims_variation::spread(claims, factors);
@@ -329,14 +329,14 @@ pub extern "C" fn xaropinto_spread(claims: Summary, xi: f64, eta: f64) -> Spread
 // The model by value, as the accounts: a matrix lent by pointer would have a length of its own to refuse.
 #[no_mangle]
 pub extern "C" fn xaropinto_deviation(book: &[u8], model: RiskModel) -> DeviationReply
-    ensures { λ r. ⌜ DeviationPromised (now (book .entry)) model r ⌝ }
+    ensures { λ r. ⌜ DeviationContract (now (book .entry)) model r ⌝ }
 {
     standard_deviation::deviation(book, model)
 }
 
 #[no_mangle]
 pub extern "C" fn xaropinto_practice(start: u64, out: &mut [u8]) -> WriteFields
-    ensures { λ r. ⌜ PracticeHanded start (now (out .entry)) (now (out .exit)) r ⌝ }
+    ensures { λ r. ⌜ PracticeExported start (now (out .entry)) (now (out .exit)) r ⌝ }
 {
     write_fields(practice_book::practice(start, out))
 }

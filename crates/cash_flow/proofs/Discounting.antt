@@ -8,11 +8,11 @@ use native.Mathlib.Numerals.{sub-one}
 use native.Mathlib.Omega.{arith}
 use lib.ListN.{getD, set}
 use lib.Seq.{getD-set-other}
-use Rattle.arith.specs.Fractions.{Fraction}
+use Rattle.arith.specs.Fractions.{IsFraction}
 use Rattle.arith.proofs.Division.{fraction-is}
 use Rattle.valuation.specs.Arithmetic.{rounded}
 use Rattle.valuation.specs.Steps.{discounted}
-use Rattle.cash_flow.specs.Settling.{AtMost, Stepped, Discounted, DiscountedIn}
+use Rattle.cash_flow.specs.CashFlow.{FirstAtMost, Stepped, Discounted, DiscountedIn}
 
 discounted-none : (d j x : ℕ) → j ≡ 0 → x ≡ discounted rounded d j x
 unfolding discounted
@@ -34,7 +34,7 @@ back-most d j y hd h hj hy = div-le-of-le-mul d (omega (arith, mul-le-mul-right 
 
 -- the fraction of a divisor, from what is whole of it and what is left
 pub fraction-down : (d q s c : ℕ) → q * d + s ≡ 9223372036854775808 → c * d ≤ 1000000 * s → 1000000 * s < c * d + d
-    → Fraction 1000000 (2 * d) (1000000 * q + c)
+    → IsFraction 1000000 (2 * d) (1000000 * q + c)
 fraction-down d q s c e low high = fraction-is 1000000 (2 * d) (1000000 * q + c) (omega arith) (omega arith)
 
 -- what is doubled over what is doubled
@@ -83,7 +83,7 @@ module _ (divisors : List ℕ) (from : ℕ) (before : List ℕ) where
 
 -- all years at once: for no year, and for one year more
 module _ (divisors : List ℕ) (to : ℕ) (before : List ℕ) where
-  pub in-none : (j : ℕ) → j ≡ 0 → AtMost 4_000_000_000_000_000 to before → DiscountedIn divisors j to before before
+  pub in-none : (j : ℕ) → j ≡ 0 → FirstAtMost 4_000_000_000_000_000 to before → DiscountedIn divisors j to before before
   in-none j e small = record { each = none }
     where
       none : (k : ℕ) → k < to → Discounted (getD divisors k 0) (min j k) (getD before k 0) (getD before k 0)
@@ -114,5 +114,5 @@ module _ (divisors : List ℕ) (to : ℕ) (before : List ℕ) where
           rw (s .earlier k (omega arith), ← e) (p .each k h)
 
   -- what is discounted leaves room for a further step
-  pub room : (j : ℕ) (u : List ℕ) → j ≤ 49 → DiscountedIn divisors j to before u → AtMost 10_000_000_000_000_000 to u
-  room j u h p k l = omega (arith, p .each k l .most)
+  pub capacity : (j : ℕ) (u : List ℕ) → j ≤ 49 → DiscountedIn divisors j to before u → FirstAtMost 10_000_000_000_000_000 to u
+  capacity j u h p k l = omega (arith, p .each k l .most)

@@ -1,2 +1,2 @@
 pub mod Discounting
-pub mod Settling
+pub mod CashFlow

@@ -10,8 +10,8 @@ ghost use Rattle.settings.specs.Settings.{OutgoWeighed};
 ghost use Rattle.valuation.specs.Arithmetic.{rounded};
 ghost use Rattle.valuation.specs.Steps.{capped};
 ghost use Rattle.valuation.specs.Portfolio.{costRateOf, divisorOf};
-ghost use Rattle.arith.specs.Fractions.{Fraction};
-ghost use Rattle.cash_flow.specs.Settling.{Divisor, Divisors, AtMost, Stepped, DiscountedIn, outgoOf, fourOf};
+ghost use Rattle.arith.specs.Fractions.{IsFraction};
+ghost use Rattle.cash_flow.specs.CashFlow.{Divisor, Divisors, FirstAtMost, Stepped, DiscountedIn, outgoOf, fourOf};
 use arith::Two;
 use settings::Outgoings;
 
@@ -40,7 +40,7 @@ pub fn divisor_of(book: &[u8], k: usize) -> u64
 // 1,000,000 over 2 d in parts of 2^64, rounded down: 1,000,000 times 2^63 over d.
 pub fn fraction_of(d: u64) -> u64
     requires { ⌜ (990000 ≤ d) × (d ≤ 1200000) ⌝ }
-    ensures { λ r. ⌜ Fraction 1000000 (2 * d) r ⌝ }
+    ensures { λ r. ⌜ IsFraction 1000000 (2 * d) r ⌝ }
 {
     let whole = 9_223_372_036_854_775_808 / d;
     let rest = 9_223_372_036_854_775_808 % d;
@@ -91,7 +91,7 @@ fn step_years(
     premium: &mut [u64; 50],
     outgo: &mut [u64; 50],
 )
-    requires { ⌜ (from ≤ to) × (to ≤ 50) × Divisors (now divisors) (now fractions) × AtMost 10000000000000000 to (now premium) × AtMost 10000000000000000 to (now outgo) ⌝ }
+    requires { ⌜ (from ≤ to) × (to ≤ 50) × Divisors (now divisors) (now fractions) × FirstAtMost 10000000000000000 to (now premium) × FirstAtMost 10000000000000000 to (now outgo) ⌝ }
     ensures { λ _. ⌜ Stepped (now (divisors .entry)) from to (now (premium .entry)) (now (premium .exit)) × Stepped (now (divisors .entry)) from to (now (outgo .entry)) (now (outgo .exit)) ⌝ }
 {
     let mut k = from;
@@ -115,7 +115,7 @@ pub fn discount(
     premium: &mut [u64; 50],
     outgo: &mut [u64; 50],
 )
-    requires { ⌜ (j < to) × (to ≤ 50) × Divisors (now divisors) (now fractions) × AtMost 4000000000000000 to (now premium) × AtMost 4000000000000000 to (now outgo) ⌝ }
+    requires { ⌜ (j < to) × (to ≤ 50) × Divisors (now divisors) (now fractions) × FirstAtMost 4000000000000000 to (now premium) × FirstAtMost 4000000000000000 to (now outgo) ⌝ }
     ensures { λ _. ⌜ DiscountedIn (now (divisors .entry)) j to (now (premium .entry)) (now (premium .exit)) × DiscountedIn (now (divisors .entry)) j to (now (outgo .entry)) (now (outgo .exit)) ⌝ }
 {
     if j == 0 {
@@ -149,8 +149,8 @@ pub fn counted(k: usize, premium: u64, outgo: u64) -> u64
 pub struct Year {
     pub premium: u64,
     pub outgo: u64,
-    pub dpremium: u64,
-    pub doutgo: u64,
+    pub discounted_premium: u64,
+    pub discounted_outgo: u64,
 }
 
 // Writes a year's numbers to its place in the table.
@@ -161,8 +161,8 @@ pub fn put_year(table: &mut [u64], k: usize, y: Year)
     let at = 4 * k;
     table[at] = y.premium;
     table[at + 1] = y.outgo;
-    table[at + 2] = y.dpremium;
-    table[at + 3] = y.doutgo;
+    table[at + 2] = y.discounted_premium;
+    table[at + 3] = y.discounted_outgo;
 }
 
 // a less b, with its sign.

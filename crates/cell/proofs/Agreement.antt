@@ -10,8 +10,8 @@ use lib.Dec.{ltb}
 use Rattle.book.specs.Layout.{chainSex, sexOf, classOf, fieldOf, countOffset, lapseOffset, premiumOffset, claimsOffset}
 use Rattle.book.specs.Reading.{Standing}
 use Rattle.settings.specs.Settings.{weightOf, mortalityWeight, decrementsOf, mortalityIn, lapseIn, sameMortality, livingColumn, stayingColumn}
-use Rattle.settings.proofs.Laws.{each-setting}
-use Rattle.settings.proofs.Held.{living-low, staying-low}
+use Rattle.settings.proofs.Weights.{each-setting}
+use Rattle.settings.proofs.Held.{survival-low, persistency-low}
 use Rattle.settings.specs.declared.Decrements.{Decrements}
 use Rattle.valuation.specs.Arithmetic.{rounded}
 use Rattle.valuation.specs.Steps.{inForce, cellPremium, cellClaims}
@@ -19,7 +19,7 @@ use Rattle.valuation.specs.Portfolio.{mortalityOf, oneLess, onward, rowAt, cell
 use Rattle.valuation.proofs.Rows.{row-standing}
 use Rattle.rate_table.specs.Rows.{rate, rateOf, RowReady, RowOf, RowsOf}
 use Rattle.rate_table.proofs.Order.{row-ordered}
-use Rattle.cell.specs.States.{cellIn, Walkable, premiumBy, claimsBy, premiumAt, claimsAt}
+use Rattle.cell.specs.States.{cellIn, Projectable, premiumBy, claimsBy, premiumAt, claimsAt}
 use Rattle.cell.proofs.Cells.{share-le}
 
 -- the record of a later year, from that of a year between
@@ -33,9 +33,9 @@ module _ (b : List ℕ) (sex i k : ℕ) where
   Lives : ℕ → Type 0
   Lives setting = rateOf b sex i (livingColumn setting k) ≡ oneLess (mortalityOf b sex (classOf b i)) (mortalityIn (decrementsOf b setting) sex k)
 
-  column-living : (setting : ℕ) → setting < 8 → Lives setting
+  column-survival : (setting : ℕ) → setting < 8 → Lives setting
   unfolding Lives rateOf livingColumn sameMortality decrementsOf mortalityWeight weightOf
-  column-living = by (ltb k 5) refl
+  column-survival = by (ltb k 5) refl
     where
       by : (early : Bool) → ltb k 5 ≡ early → (setting : ℕ) → setting < 8 → Lives setting
       by true e = each-setting Lives (rw e) (rw e) (rw e) (rw e) (rw e) (rw e) (rw e) (rw e)
@@ -44,9 +44,9 @@ module _ (b : List ℕ) (sex i k : ℕ) where
   Stays : ℕ → Type 0
   Stays setting = rateOf b sex i (stayingColumn setting k) ≡ oneLess (fieldOf b i lapseOffset) (lapseIn (decrementsOf b setting) k)
 
-  column-staying : (setting : ℕ) → setting < 8 → Stays setting
+  column-persistency : (setting : ℕ) → setting < 8 → Stays setting
   unfolding Stays rateOf stayingColumn decrementsOf weightOf
-  column-staying = by (ltb k 5) refl
+  column-persistency = by (ltb k 5) refl
     where
       by : (early : Bool) → ltb k 5 ≡ early → (setting : ℕ) → setting < 8 → Stays setting
       by true e = each-setting Stays (rw e) (rw e) (rw e) (rw e) (rw e) (rw e) (rw e) (rw e)
@@ -64,25 +64,25 @@ module _ (b : List ℕ) (chain i : ℕ) (s : Standing b 120 chain i) (t : List �
   here : (k : ℕ) → k < 50 → RowOf b (chainSex chain) (rowAt b record-of k) t (own + k)
   here k h = rw (row-sum b i own k) at (rows (own + k) (omega (arith, s .0 .class-high)))
 
-  pub walkable : Walkable t own contracts
-  walkable = record { rows = λ k h. here k h .ready; ordered = λ k h. row-ordered _ _ _ t (own + k) (here k h); fits = omega arith; few = row-standing b chain i s own .0 .count }
+  pub projectable : Projectable t own contracts
+  projectable = record { rows = λ k h. here k h .ready; ordered = λ k h. row-ordered _ _ _ t (own + k) (here k h); fits = omega arith; few = row-standing b chain i s own .0 .count }
 
   sex-is : sexOf b record-of ≡ chainSex chain
   sex-is = row-standing b chain i s own .0 .sex
 
   module _ (setting : ℕ) (known : setting < 8) where
-    living-is : (k : ℕ) → k < 50 → rate t (own + k) (livingColumn setting k) ≡ oneLess (mortalityOf b (sexOf b record-of) (classOf b (rowAt b record-of k))) (mortalityIn (decrementsOf b setting) (sexOf b record-of) k)
+    survival-is : (k : ℕ) → k < 50 → rate t (own + k) (livingColumn setting k) ≡ oneLess (mortalityOf b (sexOf b record-of) (classOf b (rowAt b record-of k))) (mortalityIn (decrementsOf b setting) (sexOf b record-of) k)
     unfolding Lives
-    living-is k h = rw sex-is (here k h .rates _ (omega (arith, living-low setting k)) ∙ column-living b (chainSex chain) (rowAt b record-of k) k setting known)
+    survival-is k h = rw sex-is (here k h .rates _ (omega (arith, survival-low setting k)) ∙ column-survival b (chainSex chain) (rowAt b record-of k) k setting known)
 
-    staying-is : (k : ℕ) → k < 50 → rate t (own + k) (stayingColumn setting k) ≡ oneLess (fieldOf b (rowAt b record-of k) lapseOffset) (lapseIn (decrementsOf b setting) k)
+    persistency-is : (k : ℕ) → k < 50 → rate t (own + k) (stayingColumn setting k) ≡ oneLess (fieldOf b (rowAt b record-of k) lapseOffset) (lapseIn (decrementsOf b setting) k)
     unfolding Stays
-    staying-is k h = here k h .rates _ (omega (arith, staying-low setting k)) ∙ column-staying b (chainSex chain) (rowAt b record-of k) k setting known
+    persistency-is k h = here k h .rates _ (omega (arith, persistency-low setting k)) ∙ column-persistency b (chainSex chain) (rowAt b record-of k) k setting known
 
     pub inforce-same : (k : ℕ) → k ≤ 50 → inForce rounded (cellIn t own contracts setting) k ≡ inForce rounded (cellOf b (decrementsOf b setting) record-of) k
     unfolding inForce cellIn cellOf
     inforce-same zero h = refl
-    inforce-same (suc k) h = rw (inforce-same k (omega arith), living-is k (omega arith), staying-is k (omega arith))
+    inforce-same (suc k) h = rw (inforce-same k (omega arith), survival-is k (omega arith), persistency-is k (omega arith))
 
     pub premium-same : (k : ℕ) → k < 50 → premiumBy (cellIn t own contracts setting) k ≡ premiumAt b (decrementsOf b setting) record-of k
     unfolding premiumAt premiumBy cellPremium cellIn cellOf rateOf

@@ -8,12 +8,12 @@ use native.Mathlib.Numerals.{add-one}
 use native.Mathlib.Omega.{arith}
 use Rattle.settings.specs.Settings.{livingColumn, stayingColumn, columnsOf, livesIn, staysIn}
 use Rattle.settings.specs.declared.Columns.{Columns}
-use Rattle.settings.proofs.Held.{living-low, staying-low, lives-is, stays-is}
+use Rattle.settings.proofs.Held.{survival-low, persistency-low, survives-is, persists-is}
 use Rattle.valuation.specs.Arithmetic.{rounded}
 use Rattle.valuation.specs.Steps.{inForce, cellPremium, cellClaims}
 use Rattle.rate_table.specs.Rows.{rate, RowReady}
 use Rattle.cell.specs.declared.Cell.{Cell}
-use Rattle.cell.specs.States.{cellIn, Walkable, Ready, nextBy, nextYear, stateIn, premiumIn, claimsIn, premiumBy, claimsBy}
+use Rattle.cell.specs.States.{cellIn, Projectable, Ready, nextBy, nextYear, stateIn, premiumIn, claimsIn, premiumBy, claimsBy}
 
 -- a share of at most the whole is at most the amount
 pub share-le : (x y : ℕ) → y ≤ 1_000_000_000 → x * y / 1_000_000_000 ≤ x
@@ -34,11 +34,11 @@ module _ (t : List ℕ) (c : Cell) (r : Ready t c) where
 -- the columns of a setting are those of its year k
 module _ (setting k : ℕ) (columns : Columns) (e : columns ≡ columnsOf setting) where
   pub held-low : (livesIn columns k ≤ 5) × (staysIn columns k ≤ 5)
-  held-low = rw e (omega (arith, lives-is setting k, living-low setting k), omega (arith, stays-is setting k, staying-low setting k))
+  held-low = rw e (omega (arith, survives-is setting k, survival-low setting k), omega (arith, persists-is setting k, persistency-low setting k))
 
   pub next-held : (t : List ℕ) (c r : Cell) → r ≡ nextBy t (livesIn columns k) (staysIn columns k) c → r ≡ nextYear t setting k c
   unfolding nextYear
-  next-held t c r h = h ∙ rw (e, lives-is setting k, stays-is setting k)
+  next-held t c r h = h ∙ rw (e, survives-is setting k, persists-is setting k)
 
 module _ (t : List ℕ) (r n setting : ℕ) where
   pub state-start : stateIn t r n setting 0 ≡ record { row = r; inforce = n * 1_000_000_000 }
@@ -65,15 +65,15 @@ module _ (t : List ℕ) (r n setting : ℕ) where
   unfolding claimsBy stateIn cellClaims cellIn
   claims-is k = refl
 
-  module _ (s : Walkable t r n) where
+  module _ (s : Projectable t r n) where
     -- what the reckoning has in force is no more than the contracts
     inforce-le : (k : ℕ) → k ≤ 50 → inForce rounded (cellIn t r n setting) k ≤ 100_000_000_000_000
     unfolding inForce cellIn
     inforce-le zero h = omega (arith, s .few)
     inforce-le (suc k) h =
         let row = s .rows k (omega arith) in
-        le-trans (share-le _ _ (row .shares (stayingColumn setting k) (omega (arith, staying-low setting k))))
-        (le-trans (share-le _ _ (row .shares (livingColumn setting k) (omega (arith, living-low setting k)))) (inforce-le k (omega arith)))
+        le-trans (share-le _ _ (row .shares (stayingColumn setting k) (omega (arith, persistency-low setting k))))
+        (le-trans (share-le _ _ (row .shares (livingColumn setting k) (omega (arith, survival-low setting k)))) (inforce-le k (omega arith)))
 
     -- every state of the reckoning can go on
     pub state-ready : (k : ℕ) → k < 50 → Ready t (stateIn t r n setting k)

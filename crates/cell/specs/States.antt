@@ -3,7 +3,7 @@ use mathlib.Core.Path.{_≡_}
 use mathlib.Core.List.{List}
 use Prim.Native.Nat.{ℕ, _+_, _*_, _/_, _<_, _≤_}
 use lib.ListN.{getD}
-use Rattle.arith.specs.Fractions.{Fraction}
+use Rattle.arith.specs.Fractions.{IsFraction}
 use Rattle.settings.specs.Settings.{livingColumn, stayingColumn}
 use Rattle.settings.specs.declared.Decrements.{Decrements}
 use Rattle.valuation.specs.Arithmetic.{rounded}
@@ -17,14 +17,14 @@ use Rattle.cell.specs.declared.Cell.{Cell}
 unfoldable pub cellIn : List ℕ → ℕ → ℕ → ℕ → steps.Cell
 cellIn t r n setting = record {
   count = n;
-  living = λ k. rate t (r + k) (livingColumn setting k);
-  staying = λ k. rate t (r + k) (stayingColumn setting k);
+  survival = λ k. rate t (r + k) (livingColumn setting k);
+  persistency = λ k. rate t (r + k) (stayingColumn setting k);
   premium = λ k. rate t (r + k) 6;
   claims = λ k. rate t (r + k) 7;
 }
 
 -- its rows can be walked for fifty years, and its contracts are few enough
-pub record Walkable (t : List ℕ) (r n : ℕ) : Type 0 where
+pub record Projectable (t : List ℕ) (r n : ℕ) : Type 0 where
   pub rows : (k : ℕ) → k < 50 → RowReady t (r + k)
   pub ordered : (k : ℕ) → k < 50 → RowOrdered t (r + k)
   pub fits : r ≤ 120
@@ -38,7 +38,7 @@ pub record Ready (t : List ℕ) (c : Cell) : Type 0 where
 
 -- a place of the rows by which shares can be taken: it has the fraction of the rate eight further, which is at most the whole
 pub record ShareAt (t : List ℕ) (at : ℕ) : Type 0 where
-  pub fraction-is : Fraction (getD t (at + 8) 0) 1_000_000_000 (getD t at 0)
+  pub fraction-is : IsFraction (getD t (at + 8) 0) 1_000_000_000 (getD t at 0)
   pub most : getD t (at + 8) 0 ≤ 1_000_000_000
 
 -- the share of x that it gives, rounded down
@@ -47,9 +47,9 @@ shareOf t at x = x * getD t (at + 8) 0 / 1_000_000_000
 
 -- the state a year later, by the columns of what lives on and of what stays: what lives on, rounded down, and of that what stays, rounded down
 abbrev pub nextBy : List ℕ → ℕ → ℕ → Cell → Cell
-nextBy t lives stays c = record {
+nextBy t survives persists c = record {
   row = c .row + 1;
-  inforce = c .inforce * rate t (c .row) lives / 1_000_000_000 * rate t (c .row) stays / 1_000_000_000;
+  inforce = c .inforce * rate t (c .row) survives / 1_000_000_000 * rate t (c .row) persists / 1_000_000_000;
 }
 
 -- the state a year after year k of a setting

@@ -16,8 +16,8 @@ fn part(x: u64, rows: &[u64; 2720], at: usize) -> u64
     ensures { λ r. ⌜ r ≡ shareOf (now (rows .entry)) at x ⌝ }
 {
     let half = arith::mul_high(x, rows[at]);
-    if arith::near(x, rows[at], MOST_IN_FORCE) {
-        return arith::mended(x, rows[at + 8], 1_000_000_000, half);
+    if arith::may_be_low(x, rows[at], MOST_IN_FORCE) {
+        return arith::corrected(x, rows[at + 8], 1_000_000_000, half);
     }
     half
 }
@@ -41,14 +41,14 @@ impl Cell {
     }
 
     // The state a year later: of what is in force, what lives on by one column, and of that what stays by another.
-    pub fn next_by(self, rows: &[u64; 2720], lives: usize, stays: usize) -> Cell
-        requires { ⌜ Ready (now rows) self × (lives ≤ 5) × (stays ≤ 5) ⌝ }
-        ensures { λ r. ⌜ r ≡ nextBy (now (rows .entry)) lives stays self ⌝ }
+    pub fn next_by(self, rows: &[u64; 2720], survives: usize, persists: usize) -> Cell
+        requires { ⌜ Ready (now rows) self × (survives ≤ 5) × (persists ≤ 5) ⌝ }
+        ensures { λ r. ⌜ r ≡ nextBy (now (rows .entry)) survives persists self ⌝ }
     {
-        let alive = part(self.inforce, rows, 16 * self.row + lives);
+        let alive = part(self.inforce, rows, 16 * self.row + survives);
         Cell {
             row: self.row + 1,
-            inforce: part(alive, rows, 16 * self.row + stays),
+            inforce: part(alive, rows, 16 * self.row + persists),
         }
     }
 
@@ -57,7 +57,7 @@ impl Cell {
         requires { ⌜ Ready (now rows) self × (livesIn columns k ≤ 5) × (staysIn columns k ≤ 5) ⌝ }
         ensures { λ r. ⌜ r ≡ nextBy (now (rows .entry)) (livesIn columns k) (staysIn columns k) self ⌝ }
     {
-        self.next_by(rows, columns.lives(k), columns.stays(k))
+        self.next_by(rows, columns.survives(k), columns.persists(k))
     }
 
     // The premium of the state's year.

@@ -11,12 +11,12 @@ use lib.ListN.{getD}
 use Rattle.valuation.specs.Arithmetic.{rounded}
 use Rattle.valuation.specs.Steps.{inForce}
 use Rattle.cell.specs.declared.Cell.{Cell}
-use Rattle.cell.specs.States.{cellIn, stateIn, Walkable}
+use Rattle.cell.specs.States.{cellIn, stateIn, Projectable}
 use Rattle.cell.proofs.Cells.{state-ready, state-start, state-next, premium-is, claims-is}
-use Rattle.cell_projection.specs.Tables.{amountBy, added, late, within, AtMost}
+use Rattle.cell_projection.specs.Tables.{amountBy, added, late, sumWithin, AtMost}
 use Rattle.cell_projection.specs.Ends.{Going}
 use Rattle.cell_projection.specs.Five.{fiveIn, startOf, FiveReady, AllInForce, nextFive, tenMore, yearMore}
-use Rattle.cell_projection.specs.Walked.{Reached, WalkedTo}
+use Rattle.cell_projection.specs.Projected.{Reached, ProjectedTo}
 use Rattle.cell_projection.specs.declared.Five.{Five}
 use Rattle.cell_projection.specs.declared.Stop.{Stop}
 use Rattle.cell_projection.proofs.Years.{two-added, amount-premium, amount-claims, added-most, added-rest, added-same, added-join, late-low, late-high, late-start, from-start, joined}
@@ -26,12 +26,12 @@ use Rattle.cell_projection.proofs.Single.{amount-le, within-other, with
 module _ (t : List ℕ) (r n : ℕ) where
   -- the start
   pub five-start : (c : Cell) → c ≡ record { row = r; inforce = n * 1_000_000_000 }
-      → _≡_ {A = Five} (record { base = c; moredeaths = c; fewerdeaths = c; morelapses = c; fewerlapses = c }) (fiveIn t r n 0)
+      → _≡_ {A = Five} (record { base = c; «mortality_up» = c; «mortality_down» = c; «lapse_up» = c; «lapse_down» = c }) (fiveIn t r n 0)
   unfolding fiveIn
   five-start c e = rw (e, state-start t r n 0, state-start t r n 1, state-start t r n 2, state-start t r n 3, state-start t r n 4)
 
   pub reached-start : (c : Cell) → c ≡ record { row = r; inforce = n * 1_000_000_000 }
-      → Reached t r n 0 (record { base = c; moredeaths = c; fewerdeaths = c; morelapses = c; fewerlapses = c })
+      → Reached t r n 0 (record { base = c; «mortality_up» = c; «mortality_down» = c; «lapse_up» = c; «lapse_down» = c })
   reached-start c e = record { states = five-start c e; going = λ s h. going-start (cellIn t r n s) }
 
   module _ (k : ℕ) where
@@ -46,10 +46,10 @@ module _ (t : List ℕ) (r n : ℕ) where
     all-on h c e a =
         each-five (λ s. inForce rounded (cellIn t r n s) k ≡ 0 → ⊥)
         (λ z. omega (arith, a .base, ap (λ (x : Five). x .base .inforce) e, z))
-        (λ z. omega (arith, a .more-deaths, ap (λ (x : Five). x .moredeaths .inforce) e, z))
-        (λ z. omega (arith, a .fewer-deaths, ap (λ (x : Five). x .fewerdeaths .inforce) e, z))
-        (λ z. omega (arith, a .more-lapses, ap (λ (x : Five). x .morelapses .inforce) e, z))
-        (λ z. omega (arith, a .fewer-lapses, ap (λ (x : Five). x .fewerlapses .inforce) e, z))
+        (λ z. omega (arith, a .mortality-up, ap (λ (x : Five). x .«mortality_up» .inforce) e, z))
+        (λ z. omega (arith, a .mortality-down, ap (λ (x : Five). x .«mortality_down» .inforce) e, z))
+        (λ z. omega (arith, a .lapse-up, ap (λ (x : Five). x .«lapse_up» .inforce) e, z))
+        (λ z. omega (arith, a .lapse-down, ap (λ (x : Five). x .«lapse_down» .inforce) e, z))
 
     -- what a projection adds
     one-added : (s : ℕ) → s < 5 → (g : ℕ → ℕ) → ((j : ℕ) → 10 * k ≤ j → g j ≡ amountBy (cellIn t r n) j) → (u v : List ℕ) → u ≡ added g (10 * k + 2 * s) v
@@ -75,16 +75,16 @@ module _ (t : List ℕ) (r n : ℕ) where
             let end : 10 * k + 2 * s + 2 ≡ m = omega (arith, q) in
             rw end at (one-added s h g same w v f)
 
-  module _ (s : Walkable t r n) where
+  module _ (s : Projectable t r n) where
     pub five-ready : (k : ℕ) → k < 50 → FiveReady t (fiveIn t r n k)
     unfolding fiveIn
     five-ready k h =
         record {
           base = state-ready t r n 0 s k h;
-          more-deaths = state-ready t r n 1 s k h;
-          fewer-deaths = state-ready t r n 2 s k h;
-          more-lapses = state-ready t r n 3 s k h;
-          fewer-lapses = state-ready t r n 4 s k h;
+          mortality-up = state-ready t r n 1 s k h;
+          mortality-down = state-ready t r n 2 s k h;
+          lapse-up = state-ready t r n 3 s k h;
+          lapse-down = state-ready t r n 4 s k h;
         }
 
 -- f from number a on is bounded as f is
@@ -101,11 +101,11 @@ Run t r n m k cells u v = (m ≤ k) × (k ≤ 50) × Reached t r n k cells × (v
 
 module _ (t : List ℕ) (r n m k : ℕ) (cells : Five) (u v : List ℕ) (run : Run t r n m k cells u v) where
   -- the next year can be reckoned
-  pub run-ready : Walkable t r n → k < 50 → FiveReady t cells
+  pub run-ready : Projectable t r n → k < 50 → FiveReady t cells
   run-ready s h = rw (run .2 .states) (five-ready t r n s k h)
 
-  pub run-room : Walkable t r n → (most : ℕ) → AtMost most u → AtMost (most + 1_000_000_000_000) v
-  run-room s most a j =
+  pub run-capacity : Projectable t r n → (most : ℕ) → AtMost most u → AtMost (most + 1_000_000_000_000) v
+  run-capacity s most a j =
       omega (
         arith,
         ap (λ (l : List ℕ). getD l j 0) (run .3),
@@ -129,10 +129,10 @@ module _ (t : List ℕ) (r n : ℕ) (some : 0 < n) where
   start-in-force : AllInForce (startOf r n)
   start-in-force = record {
     base = omega arith;
-    more-deaths = omega arith;
-    fewer-deaths = omega arith;
-    more-lapses = omega arith;
-    fewer-lapses = omega arith;
+    mortality-up = omega arith;
+    mortality-down = omega arith;
+    lapse-up = omega arith;
+    lapse-down = omega arith;
   }
 
   pub first-run : (cells : Five) (u v : List ℕ) → cells ≡ nextFive t 0 (startOf r n) → v ≡ tenMore t 0 (startOf r n) u → Run t r n 0 1 cells u v
@@ -140,7 +140,7 @@ module _ (t : List ℕ) (r n : ℕ) (some : 0 < n) where
       run-more t r n 0 0 (startOf r n) u u (omega arith, omega arith, reached-start t r n _ refl, late-start _ _ _) (omega arith) start-in-force cells v ec ev
 
 -- one run, and then what comes after it
-pub run-then : (t : List ℕ) (r n m to : ℕ) (cells : Five) (s : Stop) (u v w : List ℕ) → Run t r n 0 m cells u v → WalkedTo t r n m to s v w → WalkedTo t r n 0 to s u w
+pub run-then : (t : List ℕ) (r n m to : ℕ) (cells : Five) (s : Stop) (u v w : List ℕ) → Run t r n 0 m cells u v → ProjectedTo t r n m to s v w → ProjectedTo t r n 0 to s u w
 run-then t r n m to cells s u v w run e = record {
   sums = joined _ m (s .k) u v w (e .since) (run .3) (e .sums);
   since = omega arith;
@@ -169,14 +169,14 @@ early-added f m u h =
 -- the years of all five before year k, and those of each from there on, are all years
 module _ (f : ℕ → ℕ) (k : ℕ) (few : k ≤ 50) where
   Whole : ℕ → Type 0
-  Whole j = early (10 * k) f j + within f 0 k 50 j + within f 1 k 50 j + within f 2 k 50 j + within f 3 k 50 j + within f 4 k 50 j ≡ f j
+  Whole j = early (10 * k) f j + sumWithin f 0 k 50 j + sumWithin f 1 k 50 j + sumWithin f 2 k 50 j + sumWithin f 3 k 50 j + sumWithin f 4 k 50 j ≡ f j
 
   whole : (j : ℕ) → j < 500 → Whole j
   unfolding Whole
   whole j l = by (ltb j (10 * k)) refl
     where
       by : (b : Bool) → ltb j (10 * k) ≡ b
-          → early (10 * k) f j + within f 0 k 50 j + within f 1 k 50 j + within f 2 k 50 j + within f 3 k 50 j + within f 4 k 50 j ≡ f j
+          → early (10 * k) f j + sumWithin f 0 k 50 j + sumWithin f 1 k 50 j + sumWithin f 2 k 50 j + sumWithin f 3 k 50 j + sumWithin f 4 k 50 j ≡ f j
       by true e =
           let h = ltb-true j (10 * k) e in
           omega (arith, early-low f (10 * k) j h, within-early f 0 k 50 j (omega (arith, h)), within-early f 1 k 50 j (omega (arith, h)), within-early f 2 k 50 j (omega (arith, h)), within-early f 3 k 50 j (omega (arith, h)), within-early f 4 k 50 j (omega (arith, h)))
@@ -184,7 +184,7 @@ module _ (f : ℕ → ℕ) (k : ℕ) (few : k ≤ 50) where
           let h = ltb-false j (10 * k) e in
           let z = early-high f (10 * k) j h in
           each-five
-          (λ s. j % 10 / 2 ≡ s → early (10 * k) f j + within f 0 k 50 j + within f 1 k 50 j + within f 2 k 50 j + within f 3 k 50 j + within f 4 k 50 j ≡ f j)
+          (λ s. j % 10 / 2 ≡ s → early (10 * k) f j + sumWithin f 0 k 50 j + sumWithin f 1 k 50 j + sumWithin f 2 k 50 j + sumWithin f 3 k 50 j + sumWithin f 4 k 50 j ≡ f j)
           (λ q. omega (arith, z, within-own f 0 k 50 j q (omega (arith, h)) (omega arith), within-other f 1 k 50 j (λ p. omega (arith, p, q)), within-other f 2 k 50 j (λ p. omega (arith, p, q)), within-other f 3 k 50 j (λ p. omega (arith, p, q)), within-other f 4 k 50 j (λ p. omega (arith, p, q))))
           (λ q. omega (arith, z, within-own f 1 k 50 j q (omega (arith, h)) (omega arith), within-other f 0 k 50 j (λ p. omega (arith, p, q)), within-other f 2 k 50 j (λ p. omega (arith, p, q)), within-other f 3 k 50 j (λ p. omega (arith, p, q)), within-other f 4 k 50 j (λ p. omega (arith, p, q))))
           (λ q. omega (arith, z, within-own f 2 k 50 j q (omega (arith, h)) (omega arith), within-other f 0 k 50 j (λ p. omega (arith, p, q)), within-other f 1 k 50 j (λ p. omega (arith, p, q)), within-other f 3 k 50 j (λ p. omega (arith, p, q)), within-other f 4 k 50 j (λ p. omega (arith, p, q))))
@@ -192,13 +192,13 @@ module _ (f : ℕ → ℕ) (k : ℕ) (few : k ≤ 50) where
           (λ q. omega (arith, z, within-own f 4 k 50 j q (omega (arith, h)) (omega arith), within-other f 0 k 50 j (λ p. omega (arith, p, q)), within-other f 1 k 50 j (λ p. omega (arith, p, q)), within-other f 2 k 50 j (λ p. omega (arith, p, q)), within-other f 3 k 50 j (λ p. omega (arith, p, q))))
           (j % 10 / 2) (omega arith) refl
 
-  pub all-added : (u v v₀ v₁ v₂ v₃ v₄ : List ℕ) → v ≡ added (late 0 f) (10 * k) u → v₀ ≡ added (within f 0 k 50) 500 v → v₁ ≡ added (within f 1 k 50) 500 v₀
-      → v₂ ≡ added (within f 2 k 50) 500 v₁ → v₃ ≡ added (within f 3 k 50) 500 v₂ → v₄ ≡ added (within f 4 k 50) 500 v₃ → v₄ ≡ added f 500 u
+  pub all-added : (u v v₀ v₁ v₂ v₃ v₄ : List ℕ) → v ≡ added (late 0 f) (10 * k) u → v₀ ≡ added (sumWithin f 0 k 50) 500 v → v₁ ≡ added (sumWithin f 1 k 50) 500 v₀
+      → v₂ ≡ added (sumWithin f 2 k 50) 500 v₁ → v₃ ≡ added (sumWithin f 3 k 50) 500 v₂ → v₄ ≡ added (sumWithin f 4 k 50) 500 v₃ → v₄ ≡ added f 500 u
   unfolding Whole
   all-added u v v₀ v₁ v₂ v₃ v₄ e e₀ e₁ e₂ e₃ e₄ =
-      added-join _ (within f 4 k 50) f 500 u v₃ v₄
-      (added-join _ (within f 3 k 50) _ 500 u v₂ v₃
-      (added-join _ (within f 2 k 50) _ 500 u v₁ v₂
-      (added-join _ (within f 1 k 50) _ 500 u v₀ v₁
-      (added-join (early (10 * k) f) (within f 0 k 50) (λ j. early (10 * k) f j + within f 0 k 50 j) 500 u v v₀ (from-start f (10 * k) u v e ∙ early-added f (10 * k) u (omega arith)) e₀ (λ j l. refl))
+      added-join _ (sumWithin f 4 k 50) f 500 u v₃ v₄
+      (added-join _ (sumWithin f 3 k 50) _ 500 u v₂ v₃
+      (added-join _ (sumWithin f 2 k 50) _ 500 u v₁ v₂
+      (added-join _ (sumWithin f 1 k 50) _ 500 u v₀ v₁
+      (added-join (early (10 * k) f) (sumWithin f 0 k 50) (λ j. early (10 * k) f j + sumWithin f 0 k 50 j) 500 u v v₀ (from-start f (10 * k) u v e ∙ early-added f (10 * k) u (omega arith)) e₀ (λ j l. refl))
       e₁ (λ j l. refl)) e₂ (λ j l. refl)) e₃ (λ j l. refl)) e₄ whole

@@ -10,7 +10,7 @@ use Rattle.settings.specs.Settings.{weightOf, sameMortality, livingColumn, stay
 use Rattle.valuation.specs.Arithmetic.{rounded}
 use Rattle.valuation.specs.Steps.{Cell, inForce}
 use Rattle.rate_table.specs.Rows.{rate, RowOrdered}
-use Rattle.cell.specs.States.{cellIn, stateIn, Walkable}
+use Rattle.cell.specs.States.{cellIn, stateIn, Projectable}
 use Rattle.cell_projection.specs.Five.{fiveIn, LeastInForce, AllInForce}
 use Rattle.cell_projection.specs.declared.Five.{Five}
 
@@ -18,62 +18,62 @@ share-mono : (a b x y : ℕ) → a ≤ b → x ≤ y → a * x / 1_000_000_000 �
 share-mono a b x y h g = omega (arith, mul-le-mul h g)
 
 -- with as many contracts, and at rates that are nowhere greater, nowhere more is in force
-module _ (c d : Cell) (same : c .count ≡ d .count) (m : ℕ) (lives : (k : ℕ) → k < m → c .living k ≤ d .living k)
-    (stays : (k : ℕ) → k < m → c .staying k ≤ d .staying k) where
+module _ (c d : Cell) (same : c .count ≡ d .count) (m : ℕ) (survives : (k : ℕ) → k < m → c .survival k ≤ d .survival k)
+    (persists : (k : ℕ) → k < m → c .persistency k ≤ d .persistency k) where
   in-force-le : (k : ℕ) → k ≤ m → inForce rounded c k ≤ inForce rounded d k
   unfolding inForce
   in-force-le zero h = omega (arith, same)
-  in-force-le (suc k) h = share-mono _ _ _ _ (share-mono _ _ _ _ (in-force-le k (omega arith)) (lives k (omega arith))) (stays k (omega arith))
+  in-force-le (suc k) h = share-mono _ _ _ _ (share-mono _ _ _ _ (in-force-le k (omega arith)) (survives k (omega arith))) (persists k (omega arith))
 
-module _ (t : List ℕ) (r n : ℕ) (s : Walkable t r n) where
+module _ (t : List ℕ) (r n : ℕ) (s : Projectable t r n) where
   -- what lives on and what stays, where the table orders them
   module _ (k : ℕ) (h : k < 50) where
     o : RowOrdered t (r + k)
     o = s .ordered k h
 
-    Lives : ℕ → ℕ → Type 0
-    Lives a b = rate t (r + k) (livingColumn a k) ≤ rate t (r + k) (livingColumn b k)
+    Survives : ℕ → ℕ → Type 0
+    Survives a b = rate t (r + k) (livingColumn a k) ≤ rate t (r + k) (livingColumn b k)
 
-    Stays : ℕ → ℕ → Type 0
-    Stays a b = rate t (r + k) (stayingColumn a k) ≤ rate t (r + k) (stayingColumn b k)
+    Persists : ℕ → ℕ → Type 0
+    Persists a b = rate t (r + k) (stayingColumn a k) ≤ rate t (r + k) (stayingColumn b k)
 
-    more-deaths-lives : Lives 1 0
-    unfolding Lives livingColumn sameMortality weightOf
-    more-deaths-lives = by (ltb k 5) refl
+    mortality-up-survives : Survives 1 0
+    unfolding Survives livingColumn sameMortality weightOf
+    mortality-up-survives = by (ltb k 5) refl
       where
-        by : (early : Bool) → ltb k 5 ≡ early → Lives 1 0
-        by true e = rw e (o .more-deaths)
+        by : (early : Bool) → ltb k 5 ≡ early → Survives 1 0
+        by true e = rw e (o .mortality-up)
         by false e = rw e (omega arith)
 
-    fewer-deaths-lives : Lives 0 2
-    unfolding Lives livingColumn sameMortality weightOf
-    fewer-deaths-lives = by (ltb k 5) refl
+    mortality-down-survives : Survives 0 2
+    unfolding Survives livingColumn sameMortality weightOf
+    mortality-down-survives = by (ltb k 5) refl
       where
-        by : (early : Bool) → ltb k 5 ≡ early → Lives 0 2
-        by true e = rw e (o .fewer-deaths)
+        by : (early : Bool) → ltb k 5 ≡ early → Survives 0 2
+        by true e = rw e (o .mortality-down)
         by false e = rw e (omega arith)
 
-    base-lives : (Lives 3 0) × (Lives 0 4)
-    unfolding Lives livingColumn sameMortality weightOf
-    base-lives = by (ltb k 5) refl
+    base-survives : (Survives 3 0) × (Survives 0 4)
+    unfolding Survives livingColumn sameMortality weightOf
+    base-survives = by (ltb k 5) refl
       where
-        by : (early : Bool) → ltb k 5 ≡ early → (Lives 3 0) × (Lives 0 4)
+        by : (early : Bool) → ltb k 5 ≡ early → (Survives 3 0) × (Survives 0 4)
         by true e = (rw e (omega arith), rw e (omega arith))
         by false e = (rw e (omega arith), rw e (omega arith))
 
-    lapses : (Stays 3 0) × (Stays 0 4)
-    unfolding Stays stayingColumn weightOf
+    lapses : (Persists 3 0) × (Persists 0 4)
+    unfolding Persists stayingColumn weightOf
     lapses = by (ltb k 5) refl
       where
-        by : (early : Bool) → ltb k 5 ≡ early → (Stays 3 0) × (Stays 0 4)
-        by true e = (rw e (o .more-lapses), rw e (o .fewer-lapses))
-        by false e = (rw e (o .more-lapses), rw e (o .fewer-lapses))
+        by : (early : Bool) → ltb k 5 ≡ early → (Persists 3 0) × (Persists 0 4)
+        by true e = (rw e (o .lapse-up), rw e (o .lapse-down))
+        by false e = (rw e (o .lapse-up), rw e (o .lapse-down))
 
-    base-stays : (Stays 1 0) × (Stays 0 2)
-    unfolding Stays stayingColumn weightOf
-    base-stays = by (ltb k 5) refl
+    base-persists : (Persists 1 0) × (Persists 0 2)
+    unfolding Persists stayingColumn weightOf
+    base-persists = by (ltb k 5) refl
       where
-        by : (early : Bool) → ltb k 5 ≡ early → (Stays 1 0) × (Stays 0 2)
+        by : (early : Bool) → ltb k 5 ≡ early → (Persists 1 0) × (Persists 0 2)
         by true e = (rw e (omega arith), rw e (omega arith))
         by false e = (rw e (omega arith), rw e (omega arith))
 
@@ -82,22 +82,22 @@ module _ (t : List ℕ) (r n : ℕ) (s : Walkable t r n) where
   Most a b = (k : ℕ) → k ≤ 50 → inForce rounded (cellIn t r n a) k ≤ inForce rounded (cellIn t r n b) k
 
   ordered : (Most 1 0) × (Most 0 2) × (Most 0 4)
-  unfolding Most Lives Stays cellIn
+  unfolding Most Survives Persists cellIn
   ordered = (
-    in-force-le (cellIn t r n 1) (cellIn t r n 0) refl 50 (λ k h. more-deaths-lives k h) (λ k h. base-stays k h .0),
-    in-force-le (cellIn t r n 0) (cellIn t r n 2) refl 50 (λ k h. fewer-deaths-lives k h) (λ k h. base-stays k h .1),
-    in-force-le (cellIn t r n 0) (cellIn t r n 4) refl 50 (λ k h. base-lives k h .1) (λ k h. lapses k h .1),
+    in-force-le (cellIn t r n 1) (cellIn t r n 0) refl 50 (λ k h. mortality-up-survives k h) (λ k h. base-persists k h .0),
+    in-force-le (cellIn t r n 0) (cellIn t r n 2) refl 50 (λ k h. mortality-down-survives k h) (λ k h. base-persists k h .1),
+    in-force-le (cellIn t r n 0) (cellIn t r n 4) refl 50 (λ k h. base-survives k h .1) (λ k h. lapses k h .1),
   )
 
   pub all-in-force : (k : ℕ) → k ≤ 50 → (c : Five) → c ≡ fiveIn t r n k → LeastInForce c → AllInForce c
   unfolding Most fiveIn stateIn
   all-in-force k h c e l =
       let base = ap (λ (x : Five). x .base .inforce) e in
-      let more = ap (λ (x : Five). x .moredeaths .inforce) e in
+      let more = ap (λ (x : Five). x .«mortality_up» .inforce) e in
       record {
-        base = omega (arith, l .more-deaths, ordered .0 k h, base, more);
-        more-deaths = l .more-deaths;
-        fewer-deaths = omega (arith, l .more-deaths, ordered .0 k h, ordered .1 k h, ap (λ (x : Five). x .fewerdeaths .inforce) e, more);
-        more-lapses = l .more-lapses;
-        fewer-lapses = omega (arith, l .more-deaths, ordered .0 k h, ordered .2 k h, ap (λ (x : Five). x .fewerlapses .inforce) e, more);
+        base = omega (arith, l .mortality-up, ordered .0 k h, base, more);
+        mortality-up = l .mortality-up;
+        mortality-down = omega (arith, l .mortality-up, ordered .0 k h, ordered .1 k h, ap (λ (x : Five). x .«mortality_down» .inforce) e, more);
+        lapse-up = l .lapse-up;
+        lapse-down = omega (arith, l .mortality-up, ordered .0 k h, ordered .2 k h, ap (λ (x : Five). x .«lapse_down» .inforce) e, more);
       }

@@ -12,8 +12,8 @@ use Rattle.valuation.specs.Arithmetic.{rounded}
 use Rattle.valuation.specs.Steps.{inForce}
 use Rattle.valuation.specs.Portfolio.{rowAt, cellOf}
 use Rattle.rate_table.specs.Rows.{RowsOf}
-use Rattle.cell.specs.States.{cellIn, Walkable, premiumBy, claimsBy, premiumAt, claimsAt}
-use Rattle.cell.proofs.Agreement.{walkable, inforce-same, premium-same, claims-same, premium-at-le, claims-at-le}
+use Rattle.cell.specs.States.{cellIn, Projectable, premiumBy, claimsBy, premiumAt, claimsAt}
+use Rattle.cell.proofs.Agreement.{projectable, inforce-same, premium-same, claims-same, premium-at-le, claims-at-le}
 use Rattle.cell_projection.specs.Tables.{amountBy, amountAt, amountIn, chosen, Among, added}
 use Rattle.cell_projection.specs.Ends.{firstZero, yearsInForce}
 use Rattle.cell_projection.proofs.Years.{added-same, amount-each, amount-premium, amount-claims}
@@ -27,8 +27,8 @@ first-same f g (suc left) k h = rw (h k (omega arith), first-same f g left (k + 
 
 module _ (b : List ℕ) (chain i : ℕ) (s : Standing b 120 chain i) (t : List ℕ) (rows : RowsOf b chain i t) (own j n : ℕ)
     (fits : own ≤ 120 - classOf b i) (record-is : j ≡ rowAt b i own) (count-is : n ≡ fieldOf b j countOffset) where
-  pub walkable-here : Walkable t own n
-  walkable-here = rw (count-is, record-is) (walkable b chain i s t rows own fits)
+  pub projectable-here : Projectable t own n
+  projectable-here = rw (count-is, record-is) (projectable b chain i s t rows own fits)
 
   amount-same : (m : ℕ) → m < 500 → amountBy (cellIn t own n) m ≡ amountAt b j m
   unfolding amountBy amountAt premiumAt claimsAt

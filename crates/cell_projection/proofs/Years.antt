@@ -172,8 +172,8 @@ amount-each P c j p q = by (eqb (j % 2) 0)
     by false = q
 
 -- after one addition every number but its own is as it was, and has room
-pub room : (t u : List ℕ) (j i x y : ℕ) → u ≡ oneMore t j x → (i ≡ j → ⊥) → AtMost 4000000000000000 t → y ≤ 1000000000000 → getD u i 0 + y < 2 ^ 64
-room t u j i x y e o h l = omega (arith, ap (λ (v : List ℕ). getD v i 0) e, getD-set-other t j i (getD t j 0 + x) 0 o, h i)
+pub capacity : (t u : List ℕ) (j i x y : ℕ) → u ≡ oneMore t j x → (i ≡ j → ⊥) → AtMost 4000000000000000 t → y ≤ 1000000000000 → getD u i 0 + y < 2 ^ 64
+capacity t u j i x y e o h l = omega (arith, ap (λ (v : List ℕ). getD v i 0) e, getD-set-other t j i (getD t j 0 + x) 0 o, h i)
 
 -- two additions
 pub both : (t u v : List ℕ) (j x y p q : ℕ) → u ≡ oneMore t j x → v ≡ oneMore u (j + 1) y → x ≡ p → y ≡ q → v ≡ twoMore t j p q

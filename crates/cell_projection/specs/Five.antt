@@ -10,38 +10,38 @@ use Rattle.cell_projection.specs.Tables.{twoMore}
 unfoldable pub fiveIn : List ℕ → ℕ → ℕ → ℕ → Five
 fiveIn t r n k = record {
   base = stateIn t r n 0 k;
-  moredeaths = stateIn t r n 1 k;
-  fewerdeaths = stateIn t r n 2 k;
-  morelapses = stateIn t r n 3 k;
-  fewerlapses = stateIn t r n 4 k;
+  «mortality_up» = stateIn t r n 1 k;
+  «mortality_down» = stateIn t r n 2 k;
+  «lapse_up» = stateIn t r n 3 k;
+  «lapse_down» = stateIn t r n 4 k;
 }
 
 -- its states in year 0: the same in all five
 abbrev pub startOf : ℕ → ℕ → Five
 startOf r n = record {
   base = record { row = r; inforce = n * 1_000_000_000 };
-  moredeaths = record { row = r; inforce = n * 1_000_000_000 };
-  fewerdeaths = record { row = r; inforce = n * 1_000_000_000 };
-  morelapses = record { row = r; inforce = n * 1_000_000_000 };
-  fewerlapses = record { row = r; inforce = n * 1_000_000_000 };
+  «mortality_up» = record { row = r; inforce = n * 1_000_000_000 };
+  «mortality_down» = record { row = r; inforce = n * 1_000_000_000 };
+  «lapse_up» = record { row = r; inforce = n * 1_000_000_000 };
+  «lapse_down» = record { row = r; inforce = n * 1_000_000_000 };
 }
 
 -- states that can go on
 pub record FiveReady (t : List ℕ) (c : Five) : Type 0 where
   pub base : Ready t (c .base)
-  pub more-deaths : Ready t (c .moredeaths)
-  pub fewer-deaths : Ready t (c .fewerdeaths)
-  pub more-lapses : Ready t (c .morelapses)
-  pub fewer-lapses : Ready t (c .fewerlapses)
+  pub mortality-up : Ready t (c .«mortality_up»)
+  pub mortality-down : Ready t (c .«mortality_down»)
+  pub lapse-up : Ready t (c .«lapse_up»)
+  pub lapse-down : Ready t (c .«lapse_down»)
 
 -- the states a year after year k
 unfoldable pub nextFive : List ℕ → ℕ → Five → Five
 nextFive t k c = record {
   base = nextYear t 0 k (c .base);
-  moredeaths = nextYear t 1 k (c .moredeaths);
-  fewerdeaths = nextYear t 2 k (c .fewerdeaths);
-  morelapses = nextYear t 3 k (c .morelapses);
-  fewerlapses = nextYear t 4 k (c .fewerlapses);
+  «mortality_up» = nextYear t 1 k (c .«mortality_up»);
+  «mortality_down» = nextYear t 2 k (c .«mortality_down»);
+  «lapse_up» = nextYear t 3 k (c .«lapse_up»);
+  «lapse_down» = nextYear t 4 k (c .«lapse_down»);
 }
 
 -- premium and claims of a state in year k of a projection, added at their places
@@ -51,7 +51,7 @@ yearMore t setting k c u = twoMore u (10 * k + 2 * setting) (premiumIn t c) (cla
 -- the same for all five
 unfoldable pub tenMore : List ℕ → ℕ → Five → List ℕ → List ℕ
 tenMore t k c u =
-    yearMore t 4 k (c .fewerlapses) (yearMore t 3 k (c .morelapses) (yearMore t 2 k (c .fewerdeaths) (yearMore t 1 k (c .moredeaths) (yearMore t 0 k (c .base) u))))
+    yearMore t 4 k (c .«lapse_down») (yearMore t 3 k (c .«lapse_up») (yearMore t 2 k (c .«mortality_down») (yearMore t 1 k (c .«mortality_up») (yearMore t 0 k (c .base) u))))
 
 -- x more at the place of each projection's premium in year 0, and y more at that of its claims
 unfoldable pub fiveTimesMore : List ℕ → ℕ → ℕ → List ℕ
@@ -59,13 +59,13 @@ fiveTimesMore u x y = twoMore (twoMore (twoMore (twoMore (twoMore u 0 x y) 2 x y
 
 -- something is in force with more deaths and with more lapses, which leave the least
 pub record LeastInForce (c : Five) : Type 0 where
-  pub more-deaths : 0 < c .moredeaths .inforce
-  pub more-lapses : 0 < c .morelapses .inforce
+  pub mortality-up : 0 < c .«mortality_up» .inforce
+  pub lapse-up : 0 < c .«lapse_up» .inforce
 
 -- something is in force in all five
 pub record AllInForce (c : Five) : Type 0 where
   pub base : 0 < c .base .inforce
-  pub more-deaths : 0 < c .moredeaths .inforce
-  pub fewer-deaths : 0 < c .fewerdeaths .inforce
-  pub more-lapses : 0 < c .morelapses .inforce
-  pub fewer-lapses : 0 < c .fewerlapses .inforce
+  pub mortality-up : 0 < c .«mortality_up» .inforce
+  pub mortality-down : 0 < c .«mortality_down» .inforce
+  pub lapse-up : 0 < c .«lapse_up» .inforce
+  pub lapse-down : 0 < c .«lapse_down» .inforce

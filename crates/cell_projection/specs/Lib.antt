@@ -1,4 +1,4 @@
 pub mod Tables
 pub mod Ends
 pub mod Five
-pub mod Walked
+pub mod Projected

@@ -6,10 +6,10 @@ ghost use mathlib.Core.Path.{_≡_};
 ghost use Prim.Native.Nat.{_+_, _*_, _<_, _≤_, _^_};
 ghost use lib.ListN.{getD, set};
 ghost use Rattle.settings.specs.Settings.{columnsOf, fiveColumns};
-ghost use Rattle.cell.specs.States.{cellIn, premiumIn, claimsIn, nextYear, Ready, Walkable};
+ghost use Rattle.cell.specs.States.{cellIn, premiumIn, claimsIn, nextYear, Ready, Projectable};
 ghost use Rattle.cell_projection.specs.Tables.{amountBy, added, chosen, AtMost, twoMore};
 ghost use Rattle.cell_projection.specs.Five.{FiveReady, startOf, nextFive, tenMore, fiveTimesMore, LeastInForce};
-ghost use Rattle.cell_projection.specs.Walked.{ReachedIn, WalkedIn, Reached, WalkedTo, Walked};
+ghost use Rattle.cell_projection.specs.Projected.{ReachedIn, ProjectedIn, Reached, ProjectedTo, Projected};
 use cell::Cell;
 use settings::Columns;
 use settings::FiveColumns;
@@ -56,9 +56,9 @@ fn alone(
     from: usize,
     sums: &mut [u64; 500],
 ) -> usize
-    requires { ⌜ Walkable (now rows) own count × (setting < 5) × (from ≤ 50) × ReachedIn (now rows) own count setting from start
+    requires { ⌜ Projectable (now rows) own count × (setting < 5) × (from ≤ 50) × ReachedIn (now rows) own count setting from start
         × AtMost 3000000000000000 (now sums) × (columns ≡ columnsOf setting) ⌝ }
-    ensures { λ years. ⌜ WalkedIn (now (rows .entry)) own count setting from years (now (sums .entry)) (now (sums .exit)) ⌝ }
+    ensures { λ years. ⌜ ProjectedIn (now (rows .entry)) own count setting from years (now (sums .entry)) (now (sums .exit)) ⌝ }
 {
     let mut cell = start;
     let mut k = from;
@@ -72,10 +72,10 @@ fn alone(
 // A cell in one year of the five projections: of the base, with more and fewer deaths, with more and fewer lapses.
 pub struct Five {
     pub base: Cell,
-    pub moredeaths: Cell,
-    pub fewerdeaths: Cell,
-    pub morelapses: Cell,
-    pub fewerlapses: Cell,
+    pub mortality_up: Cell,
+    pub mortality_down: Cell,
+    pub lapse_up: Cell,
+    pub lapse_down: Cell,
 }
 
 // One year of all five. None waits for another.
@@ -90,16 +90,23 @@ fn year(
     ensures { λ r. ⌜ (r ≡ nextFive (now (rows .entry)) k cells) × (now (sums .exit) ≡ tenMore (now (rows .entry)) k cells (now (sums .entry))) ⌝ }
 {
     let base = one_year(rows, cells.base, columns.base, 0, k, sums);
-    let moredeaths = one_year(rows, cells.moredeaths, columns.moredeaths, 1, k, sums);
-    let fewerdeaths = one_year(rows, cells.fewerdeaths, columns.fewerdeaths, 2, k, sums);
-    let morelapses = one_year(rows, cells.morelapses, columns.morelapses, 3, k, sums);
-    let fewerlapses = one_year(rows, cells.fewerlapses, columns.fewerlapses, 4, k, sums);
+    let mortality_up = one_year(rows, cells.mortality_up, columns.mortality_up, 1, k, sums);
+    let mortality_down = one_year(
+        rows,
+        cells.mortality_down,
+        columns.mortality_down,
+        2,
+        k,
+        sums,
+    );
+    let lapse_up = one_year(rows, cells.lapse_up, columns.lapse_up, 3, k, sums);
+    let lapse_down = one_year(rows, cells.lapse_down, columns.lapse_down, 4, k, sums);
     Five {
         base,
-        moredeaths,
-        fewerdeaths,
-        morelapses,
-        fewerlapses,
+        mortality_up,
+        mortality_down,
+        lapse_up,
+        lapse_down,
     }
 }
 
@@ -133,7 +140,7 @@ fn year_0(
     columns: FiveColumns,
     sums: &mut [u64; 500],
 ) -> Five
-    requires { ⌜ Walkable (now rows) own count × AtMost 2000000000000000 (now sums) × (columns ≡ fiveColumns) ⌝ }
+    requires { ⌜ Projectable (now rows) own count × AtMost 2000000000000000 (now sums) × (columns ≡ fiveColumns) ⌝ }
     ensures { λ r. ⌜ (r ≡ nextFive (now (rows .entry)) 0 (startOf own count))
         × (now (sums .exit) ≡ tenMore (now (rows .entry)) 0 (startOf own count) (now (sums .entry))) ⌝ }
 {
@@ -142,16 +149,16 @@ fn year_0(
     add_year_0(sums, premium, claims);
     let cell = Cell::new(own, count);
     let base = cell.next_year(rows, columns.base, 0);
-    let moredeaths = cell.next_year(rows, columns.moredeaths, 0);
-    let fewerdeaths = cell.next_year(rows, columns.fewerdeaths, 0);
-    let morelapses = cell.next_year(rows, columns.morelapses, 0);
-    let fewerlapses = cell.next_year(rows, columns.fewerlapses, 0);
+    let mortality_up = cell.next_year(rows, columns.mortality_up, 0);
+    let mortality_down = cell.next_year(rows, columns.mortality_down, 0);
+    let lapse_up = cell.next_year(rows, columns.lapse_up, 0);
+    let lapse_down = cell.next_year(rows, columns.lapse_down, 0);
     Five {
         base,
-        moredeaths,
-        fewerdeaths,
-        morelapses,
-        fewerlapses,
+        mortality_up,
+        mortality_down,
+        lapse_up,
+        lapse_down,
     }
 }
 
@@ -159,7 +166,7 @@ fn year_0(
 fn all(cells: Five) -> bool
     ensures { λ r. ⌜ (r ≡ true → LeastInForce cells) ⌝ }
 {
-    0 < cells.moredeaths.inforce && 0 < cells.morelapses.inforce
+    0 < cells.mortality_up.inforce && 0 < cells.lapse_up.inforce
 }
 
 // Where the years of all five stop: a year, and the states in it.
@@ -180,9 +187,9 @@ fn together(
     to: usize,
     sums: &mut [u64; 500],
 ) -> Stop
-    requires { ⌜ Walkable (now rows) own count × (from ≤ to) × (to ≤ 50) × Reached (now rows) own count from start × AtMost 2500000000000000 (now sums)
+    requires { ⌜ Projectable (now rows) own count × (from ≤ to) × (to ≤ 50) × Reached (now rows) own count from start × AtMost 2500000000000000 (now sums)
         × (columns ≡ fiveColumns) ⌝ }
-    ensures { λ r. ⌜ WalkedTo (now (rows .entry)) own count from to r (now (sums .entry)) (now (sums .exit)) ⌝ }
+    ensures { λ r. ⌜ ProjectedTo (now (rows .entry)) own count from to r (now (sums .entry)) (now (sums .exit)) ⌝ }
 {
     let mut cells = start;
     let mut k = from;
@@ -202,16 +209,16 @@ fn side_by_side(
     columns: FiveColumns,
     sums: &mut [u64; 500],
 ) -> Stop
-    requires { ⌜ Walkable (now rows) own count × AtMost 2000000000000000 (now sums) × (columns ≡ fiveColumns) ⌝ }
-    ensures { λ r. ⌜ WalkedTo (now (rows .entry)) own count 0 50 r (now (sums .entry)) (now (sums .exit)) ⌝ }
+    requires { ⌜ Projectable (now rows) own count × AtMost 2000000000000000 (now sums) × (columns ≡ fiveColumns) ⌝ }
+    ensures { λ r. ⌜ ProjectedTo (now (rows .entry)) own count 0 50 r (now (sums .entry)) (now (sums .exit)) ⌝ }
 {
     let cell = Cell::new(own, count);
     let start = Five {
         base: cell,
-        moredeaths: cell,
-        fewerdeaths: cell,
-        morelapses: cell,
-        fewerlapses: cell,
+        mortality_up: cell,
+        mortality_down: cell,
+        lapse_up: cell,
+        lapse_down: cell,
     };
     if count == 0 {
         return Stop { k: 0, cells: start };
@@ -227,78 +234,78 @@ fn side_by_side(
 // How many years each of the five has something in force.
 pub struct Counts {
     pub base: usize,
-    pub moredeaths: usize,
-    pub fewerdeaths: usize,
-    pub morelapses: usize,
-    pub fewerlapses: usize,
+    pub mortality_up: usize,
+    pub mortality_down: usize,
+    pub lapse_up: usize,
+    pub lapse_down: usize,
 }
 
 // The walk of the cell that starts at the row `own` with `count` contracts: all five side by side, and then each alone.
-pub fn walk(
+pub fn project(
     rows: &[u64; 2720],
     own: usize,
     count: u64,
     columns: FiveColumns,
     sums: &mut [u64; 500],
 ) -> Counts
-    requires { ⌜ Walkable (now rows) own count × AtMost 2000000000000000 (now sums) × (columns ≡ fiveColumns) ⌝ }
-    ensures { λ r. ⌜ Walked (now (rows .entry)) own count r (now (sums .entry)) (now (sums .exit)) ⌝ }
+    requires { ⌜ Projectable (now rows) own count × AtMost 2000000000000000 (now sums) × (columns ≡ fiveColumns) ⌝ }
+    ensures { λ r. ⌜ Projected (now (rows .entry)) own count r (now (sums .entry)) (now (sums .exit)) ⌝ }
 {
     let stop = side_by_side(rows, own, count, columns, sums);
     let k = stop.k;
     let cells = stop.cells;
     let base = alone(rows, own, count, columns.base, 0, cells.base, k, sums);
-    let moredeaths = alone(
+    let mortality_up = alone(
         rows,
         own,
         count,
-        columns.moredeaths,
+        columns.mortality_up,
         1,
-        cells.moredeaths,
+        cells.mortality_up,
         k,
         sums,
     );
-    let fewerdeaths = alone(
+    let mortality_down = alone(
         rows,
         own,
         count,
-        columns.fewerdeaths,
+        columns.mortality_down,
         2,
-        cells.fewerdeaths,
+        cells.mortality_down,
         k,
         sums,
     );
-    let morelapses = alone(
+    let lapse_up = alone(
         rows,
         own,
         count,
-        columns.morelapses,
+        columns.lapse_up,
         3,
-        cells.morelapses,
+        cells.lapse_up,
         k,
         sums,
     );
-    let fewerlapses = alone(
+    let lapse_down = alone(
         rows,
         own,
         count,
-        columns.fewerlapses,
+        columns.lapse_down,
         4,
-        cells.fewerlapses,
+        cells.lapse_down,
         k,
         sums,
     );
     Counts {
         base,
-        moredeaths,
-        fewerdeaths,
-        morelapses,
-        fewerlapses,
+        mortality_up,
+        mortality_down,
+        lapse_up,
+        lapse_down,
     }
 }
 
 // The walk in one projection.
-pub fn walk_in(
+pub fn project_in(
     rows: &[u64; 2720],
     own: usize,
     count: u64,
@@ -306,15 +313,15 @@ pub fn walk_in(
     setting: usize,
     sums: &mut [u64; 500],
 ) -> usize
-    requires { ⌜ Walkable (now rows) own count × (setting < 5) × AtMost 2000000000000000 (now sums) × (columns ≡ columnsOf setting) ⌝ }
-    ensures { λ years. ⌜ WalkedIn (now (rows .entry)) own count setting 0 years (now (sums .entry)) (now (sums .exit)) ⌝ }
+    requires { ⌜ Projectable (now rows) own count × (setting < 5) × AtMost 2000000000000000 (now sums) × (columns ≡ columnsOf setting) ⌝ }
+    ensures { λ years. ⌜ ProjectedIn (now (rows .entry)) own count setting 0 years (now (sums .entry)) (now (sums .exit)) ⌝ }
 {
     let start = Cell::new(own, count);
     alone(rows, own, count, columns, setting, start, 0, sums)
 }
 
 // The walk in one projection, or in all five.
-pub fn walk_by(
+pub fn project_by(
     rows: &[u64; 2720],
     own: usize,
     count: u64,
@@ -323,12 +330,12 @@ pub fn walk_by(
     which: usize,
     sums: &mut [u64; 500],
 )
-    requires { ⌜ Walkable (now rows) own count × (which ≤ 5) × AtMost 2000000000000000 (now sums) × (five ≡ fiveColumns) × (which < 5 → one ≡ columnsOf which) ⌝ }
+    requires { ⌜ Projectable (now rows) own count × (which ≤ 5) × AtMost 2000000000000000 (now sums) × (five ≡ fiveColumns) × (which < 5 → one ≡ columnsOf which) ⌝ }
     ensures { λ _. ⌜ now (sums .exit) ≡ added (chosen which (amountBy (cellIn (now (rows .entry)) own count))) 500 (now (sums .entry)) ⌝ }
 {
     if which == ALL {
-        walk(rows, own, count, five, sums);
+        project(rows, own, count, five, sums);
         return;
     }
-    walk_in(rows, own, count, one, which, sums);
+    project_in(rows, own, count, one, which, sums);
 }

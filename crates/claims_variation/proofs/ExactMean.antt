@@ -25,8 +25,8 @@ lower (fin t m e) k d n c p is h = (
 shifted : (x n d a b : ℕ) → x ≡ n * d → a ≡ b * 8 → x * a ≡ n * b * (8 * d)
 shifted x n d a b p q = rw (p, q) (simp (mul-assoc, mul-comm, mul-left-comm))
 
-room : (n : ℕ) → n < 2 ^ 53 → n * 2 ^ 1071 < 2 ^ 2098
-room n small = lt-of-lt-of-le (mul-lt-mul-of-pos-right small (lit< tt)) (lit≤ tt)
+capacity : (n : ℕ) → n < 2 ^ 53 → n * 2 ^ 1071 < 2 ^ 2098
+capacity n small = lt-of-lt-of-le (mul-lt-mul-of-pos-right small (lit< tt)) (lit≤ tt)
 
 -- an eighth of a whole number below 2 ^ 53 is a double, so nothing is rounded
 eighth : (x : Float) (n : ℕ) → n < 2 ^ 53 → HasValue x false n 1 → HasValue (div binary64 x eight) false n 8
@@ -36,7 +36,7 @@ eighth (fin false m e) n small h =
     let w : m * up e * 1 ≡ n * down e = h .1 in
     let some : 0 < 8 * down e = mul-pos {m = 8} (omega arith) (down-pos e) in
     lower (round binary64 false (m * up e * 1) (8 * down e)) (m * up e * 1) (down e) n 8 (down-pos e) w
-    (round-exact binary64 false (m * up e * 1) (8 * down e) n 1071 some small (room n small)
+    (round-exact binary64 false (m * up e * 1) (8 * down e) n 1071 some small (capacity n small)
     (shifted (m * up e * 1) n (down e) (2 ^ 1074) (2 ^ 1071) w refl))
 
 pub mean-exact : (s : Summary) → Ranked s → HasValue (meanOf s) false (weighted s) 8

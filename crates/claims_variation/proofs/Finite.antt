@@ -21,7 +21,7 @@ use Rattle.claims_estimates.specs.Ranked.{Ranked}
 use Rattle.claims_estimates.specs.declared.Summary.{Summary}
 use Rattle.claims_estimates.specs.declared.SampleFactors.{SampleFactors}
 use Rattle.claims_variation.specs.Refusals.{leastFactor, highestFactor, badFactor}
-use Rattle.claims_variation.specs.Replies.{nought}
+use Rattle.claims_variation.specs.Replies.{zeroFloat}
 use Rattle.claims_variation.proofs.ExactMean.{mean-exact, weighted-some}
 
 -- finite, not negative and at most n
@@ -184,15 +184,15 @@ value-finite nan n k h = h
 value-finite (inf s) n k h = h
 value-finite (fin s m e) n k h = tt
 
-pub value-not-below : (x : Float) (n k : ℕ) → 0 < k → HasValue x false n k → T (le nought x)
-value-not-below x n k p h = le-of-values nought x 0 1 n k (omega arith) p (refl, refl) h (omega arith)
+pub value-not-below : (x : Float) (n k : ℕ) → 0 < k → HasValue x false n k → T (le zeroFloat x)
+value-not-below x n k p h = le-of-values zeroFloat x 0 1 n k (omega arith) p (refl, refl) h (omega arith)
 
 pub upto-finite : (n : ℕ) (x : Float) → UpTo n x → T (finite x)
 upto-finite n nan h = h
 upto-finite n (inf s) h = h
 upto-finite n (fin s m e) h = tt
 
-pub upto-not-below : (n : ℕ) (x : Float) → UpTo n x → T (le nought x)
+pub upto-not-below : (n : ℕ) (x : Float) → UpTo n x → T (le zeroFloat x)
 upto-not-below n nan h = absurd h
 upto-not-below n (inf s) h = absurd h
 upto-not-below n (fin s m e) h = value-not-below (fin s m e) (m * up e) (down e) (down-pos e) (h .0, refl)

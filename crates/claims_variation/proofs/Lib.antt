@@ -1,4 +1,4 @@
 pub mod Passed
 pub mod ExactMean
 pub mod Finite
-pub mod Promised
+pub mod SpreadContract

@@ -18,17 +18,17 @@ use Rattle.claims_variation.specs.declared.SpreadReply.{SpreadReply}
 use Rattle.claims_variation.specs.declared.SpreadReply.the-variants.{Coefficient, Level, Refused}
 
 -- mean and coefficient; where the claims are level the mean only; or the refusal
-abbrev pub replyFor : Verdict → Bool → Estimates → SpreadReply
-replyFor (Accepted n) level e = cond level (Level (e .mean)) (Coefficient (e .mean) (e .coefficient))
-replyFor (VerdictRefused number place) level e = Refused number place
+abbrev pub spreadReplyFor : Verdict → Bool → Estimates → SpreadReply
+spreadReplyFor (Accepted n) level e = cond level (Level (e .mean)) (Coefficient (e .mean) (e .coefficient))
+spreadReplyFor (VerdictRefused number place) level e = Refused number place
 
 -- the reply to a summary and its factors; the claims are level where the lowest equals the highest
 unfoldable pub spreadReply : Summary → SampleFactors → SpreadReply
-spreadReply s f = replyFor (checkSpread s f) (eqb (s .lowest) (s .highest)) (estimatesOf s f)
+spreadReply s f = spreadReplyFor (checkSpread s f) (eqb (s .lowest) (s .highest)) (estimatesOf s f)
 
 -- 0, with no sign
-abbrev pub nought : Float
-nought = fin false 0 (pos 0)
+abbrev pub zeroFloat : Float
+zeroFloat = fin false 0 (pos 0)
 
 -- The paper's values of a reply: the refusal's number and its place, 0 and 0 where accepted; whether it is 'level';
 -- mean and coefficient, 0 where it has none.
@@ -50,19 +50,19 @@ spreadLevel (Refused number place) = false
 abbrev pub spreadMean : SpreadReply → Float
 spreadMean (Coefficient mean coefficient) = mean
 spreadMean (Level mean) = mean
-spreadMean (Refused number place) = nought
+spreadMean (Refused number place) = zeroFloat
 
 abbrev pub spreadCoefficient : SpreadReply → Float
 spreadCoefficient (Coefficient mean coefficient) = coefficient
-spreadCoefficient (Level mean) = nought
-spreadCoefficient (Refused number place) = nought
+spreadCoefficient (Level mean) = zeroFloat
+spreadCoefficient (Refused number place) = zeroFloat
 
 -- What the call promises. The mean is exact: `HasValue x false a 8` says that x is finite, without a minus, and just
 -- the fraction a / 8. No double of a reply is an infinity or not a number, and none is below zero.
-pub record SpreadPromised (s : Summary) (f : SampleFactors) (reply : SpreadReply) : Type 0 where
+pub record SpreadContract (s : Summary) (f : SampleFactors) (reply : SpreadReply) : Type 0 where
   pub reply-is : reply ≡ spreadReply s f
   pub mean-exact : spreadRefusal reply ≡ 0 → HasValue (spreadMean reply) false (weighted s) 8
   pub mean-finite : T (finite (spreadMean reply))
   pub coefficient-finite : T (finite (spreadCoefficient reply))
-  pub mean-not-below-zero : T (le nought (spreadMean reply))
-  pub coefficient-not-below-zero : T (le nought (spreadCoefficient reply))
+  pub mean-not-below-zero : T (le zeroFloat (spreadMean reply))
+  pub coefficient-not-below-zero : T (le zeroFloat (spreadCoefficient reply))

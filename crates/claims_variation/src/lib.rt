@@ -2,7 +2,7 @@
 // and two sample factors, or what is refused of them.
 ghost use mathlib.Core.Path.{_≡_};
 ghost use Rattle.claims_variation.specs.Refusals.{rising, withinLimit, badFactor, checkSpread};
-ghost use Rattle.claims_variation.specs.Replies.{SpreadPromised};
+ghost use Rattle.claims_variation.specs.Replies.{SpreadContract};
 use claims_estimates::SampleFactors;
 use claims_estimates::Summary;
 use verdict::Verdict;
@@ -58,7 +58,7 @@ fn check(s: Summary, factors: SampleFactors) -> Verdict
 // Mean and coefficient of yearly claims, 'level' with the mean where all are alike, or the first
 // refusal.
 pub fn spread(claims: Summary, factors: SampleFactors) -> SpreadReply
-    ensures { λ r. ⌜ SpreadPromised claims factors r ⌝ }
+    ensures { λ r. ⌜ SpreadContract claims factors r ⌝ }
 {
     let v = check(claims, factors);
     if let Verdict::Refused(number, place) = v {

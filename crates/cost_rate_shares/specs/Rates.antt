@@ -42,9 +42,9 @@ unfoldable pub isEmpty : Accounts → ℕ → Bool
 isEmpty a group = noneIn (a .stock) group && noneIn (a .claims) group && noneIn (a .premium) group
 
 -- step 5: the group's rate, the three years' rates averaged; 0 for an empty group
-unfoldable pub rate : Accounts → ℕ → ℕ
-rate a group = cond (isEmpty a group) 0 ((yearRate a 0 group + yearRate a 1 group + yearRate a 2 group) / 3)
+unfoldable pub accountsRate : Accounts → ℕ → ℕ
+accountsRate a group = cond (isEmpty a group) 0 ((yearRate a 0 group + yearRate a 1 group + yearRate a 2 group) / 3)
 
 -- the five rates, PG1 first
 unfoldable pub ratesOf : Accounts → List ℕ
-ratesOf a = rate a 0 ∷ rate a 1 ∷ rate a 2 ∷ rate a 3 ∷ rate a 4 ∷ []
+ratesOf a = accountsRate a 0 ∷ accountsRate a 1 ∷ accountsRate a 2 ∷ accountsRate a 3 ∷ accountsRate a 4 ∷ []

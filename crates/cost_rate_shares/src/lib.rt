@@ -3,7 +3,7 @@
 ghost use mathlib.Core.Path.{_≡_};
 ghost use Prim.Native.Nat.{_≤_, _<_};
 ghost use Rattle.cost_rate_shares.specs.Rates.{figure, yearSum, lowered, share, yearRate};
-ghost use Rattle.cost_rate_shares.specs.Rates.{noneIn, isEmpty, rate, ratesOf};
+ghost use Rattle.cost_rate_shares.specs.Rates.{noneIn, isEmpty, accountsRate, ratesOf};
 ghost use Rattle.cost_rate_shares.specs.Usable.{Limited, Bounded, Usable};
 
 // Three years, in the order in which they are given. The figure of year y, 0 to 2, and group g, 0
@@ -88,7 +88,7 @@ pub fn is_empty(accounts: Accounts, group: usize) -> bool
 
 fn rate(accounts: Accounts, group: usize) -> u64
     requires { ⌜ (group < 5) × Usable accounts ⌝ }
-    ensures { λ r. ⌜ r ≡ rate accounts group ⌝ }
+    ensures { λ r. ⌜ r ≡ accountsRate accounts group ⌝ }
 {
     if is_empty(accounts, group) {
         return 0;

@@ -1,4 +1,4 @@
 pub mod Usable
 pub mod Shares
 pub mod Replied
-pub mod Promised
+pub mod RatesContract

@@ -15,7 +15,7 @@ use Rattle.cost_rate_shares.specs.declared.Accounts.{Accounts}
 use Rattle.cost_rate_shares.specs.Rates.{figure, yearSum, isEmpty}
 use Rattle.cost_rate_shares.specs.Usable.{Limited, Bounded, Usable}
 use Rattle.cost_rates.specs.Refusals.{highestAmount, highestStock, allAtMost, withinLimits}
-use Rattle.cost_rates.specs.Refusals.{canSplit, isPaid, canReckon}
+use Rattle.cost_rates.specs.Refusals.{canSplit, isPaid, canCompute}
 
 pub each-at-most : (limit : ℕ) (figures : List ℕ) (n place : ℕ) → allAtMost limit figures n ≡ true → place < n
     → getD figures place 0 ≤ limit
@@ -57,8 +57,8 @@ premium-paid a group year p e h =
     ltb-true _ _ (every-holds test 3 year (or-other (isEmpty a group) _ p e) h)
 
 -- 18 passed
-pub usable : (a : Accounts) → Bounded a → canReckon a ≡ true → Usable a
-unfolding canReckon
+pub usable : (a : Accounts) → Bounded a → canCompute a ≡ true → Usable a
+unfolding canCompute
 usable a b e =
     let stock = canSplit (a .stock) in
     let claims = canSplit (a .claims) in

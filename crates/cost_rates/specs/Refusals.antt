@@ -44,10 +44,10 @@ unfoldable pub isPaid : Accounts → ℕ → Bool
 isPaid a group = isEmpty a group || every (λ (year : ℕ). ltb 0 (figure (a .premium) year group)) 3
 
 -- 18 where not: every year can be split by stock and by claims, and every group is empty or paid
-unfoldable pub canReckon : Accounts → Bool
-canReckon a = canSplit (a .stock) && canSplit (a .claims) && every (isPaid a) 5
+unfoldable pub canCompute : Accounts → Bool
+canCompute a = canSplit (a .stock) && canSplit (a .claims) && every (isPaid a) 5
 
 -- the verdict on accounts: 19 where a rate passes 1,000,000
 unfoldable pub checkAccounts : Accounts → Verdict
 checkAccounts a =
-    need (withinLimits a) 17 0 andThen need (canReckon a) 18 0 andThen need (allAtMost highestRate (ratesOf a) 5) 19 0
+    need (withinLimits a) 17 0 andThen need (canCompute a) 18 0 andThen need (allAtMost highestRate (ratesOf a) 5) 19 0

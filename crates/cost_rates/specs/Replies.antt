@@ -11,13 +11,13 @@ use Rattle.cost_rates.specs.declared.CostRates.{CostRates}
 use Rattle.cost_rates.specs.Refusals.{highestRate, checkAccounts}
 
 -- the five rates, or the refusal and 0 in every other field
-abbrev pub replyFor : Verdict → List ℕ → CostRates
-replyFor (Accepted n) rates = record { refusal = 0; place = 0; rates = rates }
-replyFor (Refused number place) rates = record { refusal = number; place = place; rates = 0 ∷ 0 ∷ 0 ∷ 0 ∷ 0 ∷ [] }
+abbrev pub ratesReplyFor : Verdict → List ℕ → CostRates
+ratesReplyFor (Accepted n) rates = record { refusal = 0; place = 0; rates = rates }
+ratesReplyFor (Refused number place) rates = record { refusal = number; place = place; rates = 0 ∷ 0 ∷ 0 ∷ 0 ∷ 0 ∷ [] }
 
 -- the reply to accounts
 unfoldable pub costRates : Accounts → CostRates
-costRates a = replyFor (checkAccounts a) (ratesOf a)
+costRates a = ratesReplyFor (checkAccounts a) (ratesOf a)
 
 -- the five shares of a year together, where its expenses are split by stock, or by claims
 unfoldable pub sharesOf : List ℕ → List ℕ → ℕ → ℕ
@@ -30,7 +30,7 @@ pub record SplitWhole (expenses split : List ℕ) (year : ℕ) : Type 0 where
 
 -- What the call promises: its reply equals its definition; where the accounts are not refused, both splits of each year
 -- are whole; no rate is above 1,000,000, the most that a book's cost rate may be.
-pub record RatesPromised (a : Accounts) (reply : CostRates) : Type 0 where
+pub record RatesContract (a : Accounts) (reply : CostRates) : Type 0 where
   pub reply-is : reply ≡ costRates a
   pub by-stock : (year : ℕ) → year < 3 → reply .refusal ≡ 0 → SplitWhole (a .expenses) (a .stock) year
   pub by-claims : (year : ℕ) → year < 3 → reply .refusal ≡ 0 → SplitWhole (a .expenses) (a .claims) year

@@ -6,8 +6,8 @@ ghost use lib.ListN.{length};
 ghost use Rattle.verdict.specs.declared.Verdict.the-variants.{Refused};
 ghost use Rattle.conditions.specs.Every.{every};
 ghost use Rattle.cost_rate_shares.specs.Usable.{Limited, Bounded};
-ghost use Rattle.cost_rates.specs.Refusals.{allAtMost, withinLimits, canSplit, isPaid, canReckon};
-ghost use Rattle.cost_rates.specs.Replies.{replyFor, RatesPromised};
+ghost use Rattle.cost_rates.specs.Refusals.{allAtMost, withinLimits, canSplit, isPaid, canCompute};
+ghost use Rattle.cost_rates.specs.Replies.{ratesReplyFor, RatesContract};
 use cost_rate_shares::Accounts;
 use cost_rate_shares::figure;
 use cost_rate_shares::is_empty;
@@ -90,9 +90,9 @@ fn all_paid(accounts: Accounts) -> bool
 }
 
 // 18 looks at what shares and rates are divided by.
-fn can_reckon(accounts: Accounts) -> bool
+fn can_compute(accounts: Accounts) -> bool
     requires { ⌜ Bounded accounts ⌝ }
-    ensures { λ r. ⌜ r ≡ canReckon accounts ⌝ }
+    ensures { λ r. ⌜ r ≡ canCompute accounts ⌝ }
 {
     let stock = accounts.stock;
     let claims = accounts.claims;
@@ -100,7 +100,7 @@ fn can_reckon(accounts: Accounts) -> bool
 }
 
 fn refused(number: u64) -> CostRates
-    ensures { λ r. ⌜ r ≡ replyFor (Refused number 0) [] ⌝ }
+    ensures { λ r. ⌜ r ≡ ratesReplyFor (Refused number 0) [] ⌝ }
 {
     CostRates {
         refusal: number,
@@ -111,12 +111,12 @@ fn refused(number: u64) -> CostRates
 
 // The five cost rates out of the accounts, or the first refusal.
 pub fn cost_rates(accounts: Accounts) -> CostRates
-    ensures { λ r. ⌜ RatesPromised accounts r ⌝ }
+    ensures { λ r. ⌜ RatesContract accounts r ⌝ }
 {
     if !within_limits(accounts) {
         return refused(17);
     }
-    if !can_reckon(accounts) {
+    if !can_compute(accounts) {
         return refused(18);
     }
     let rates = cost_rate_shares::rates(accounts);

@@ -14,9 +14,9 @@ use Rattle.verdict.specs.declared.Verdict.{Verdict}
 use Rattle.verdict.specs.declared.Verdict.the-variants.{Accepted, Refused}
 use Rattle.book.specs.Check.{checkBook}
 use Rattle.valuation.specs.Totals.{totalsOf, totalsFor, totalsReply}
-use Rattle.buffer.proofs.Laws.{le-or-lt}
+use Rattle.buffer.proofs.Digits.{le-or-lt}
 use Rattle.funds.specs.Funds.{joinedBook, checkLent, fundReply, halfFor, fundHalf, fundsReply, firstHalf, secondHalf, fundsNumbers, FirstApart, SecondApart}
-use Rattle.funds.specs.Reckoned.{FundReckoned}
+use Rattle.funds.specs.Valued.{FundValued}
 use Rattle.funds.specs.declared.FundsReply.{FundsReply}
 
 -- eight numbers in the middle of a list, put back
@@ -26,7 +26,7 @@ put-back at l = rw (← take-add at 8 l) (take-append-drop (at + 8) l)
 -- one fund: refused it changes nothing, accepted its totals stand in its half
 module _ (table fund : List ℕ) (at : ℕ) (before : List ℤ) where
   pub fund-refused : (reply : Verdict) → reply ≡ fundReply (length before) table fund
-      → ((n : ℕ) → reply ≡ Accepted n → ⊥) → FundReckoned table fund at before before reply
+      → ((n : ℕ) → reply ≡ Accepted n → ⊥) → FundValued table fund at before before reply
   unfolding fundHalf
   fund-refused reply reply-is never = record { reply-is = reply-is; numbers-are = sym (rw (← reply-is) (by reply never)) }
     where
@@ -38,7 +38,7 @@ module _ (table fund : List ℕ) (at : ℕ) (before : List ℤ) where
 
   pub fund-accepted : (n : ℕ) (after : List ℤ) → Accepted n ≡ fundReply (length before) table fund
       → after ≡ take at before ++ totalsReply (joinedBook table fund) .totals ++ drop (at + 8) before
-      → FundReckoned table fund at before after (Accepted n)
+      → FundValued table fund at before after (Accepted n)
   unfolding fundHalf
   fund-accepted n after reply-is numbers-are = record { reply-is = reply-is; numbers-are = rw (← reply-is) numbers-are }
 
@@ -88,7 +88,7 @@ module _ (x y rest : List ℤ) (eight : length x ≡ 8) (eight′ : length y ≡
       sym (getD-drop 8 (x ++ y ++ rest) i (pos 0)) ∙ rw drop-first (List·getD-append y rest (pos 0) i (omega arith))
 
 module _ (table : List ℕ) (before : List ℤ) where
-  module _ (first second : List ℕ) (room : 16 ≤ length before) where
+  module _ (first second : List ℕ) (capacity : 16 ≤ length before) where
     -- what then stands in the halves
     abbrev first-after : List ℤ
     first-after = fundHalf (length before) table first (firstHalf before)
@@ -145,7 +145,7 @@ module _ (table : List ℕ) (before : List ℤ) where
     reply-alike = refl;
     half-alike =
         ⊎-elim
-        (λ room. first-is first second room ∙ sym (first-is first other room))
+        (λ capacity. first-is first second capacity ∙ sym (first-is first other capacity))
         (λ h. rw (short-kept first second h, short-kept first other h)) (le-or-lt 16 (length before));
   }
 
@@ -156,25 +156,25 @@ module _ (table : List ℕ) (before : List ℤ) where
     reply-alike = refl;
     half-alike =
         ⊎-elim
-        (λ room. second-is first second room ∙ sym (second-is other second room))
+        (λ capacity. second-is first second capacity ∙ sym (second-is other second capacity))
         (λ h. rw (short-kept first second h, short-kept other second h)) (le-or-lt 16 (length before));
   }
 
   -- numbers from 16 on are as they were
   pub later-kept : (first second : List ℕ) → drop 16 (fundsNumbers table first second before) ≡ drop 16 before
   later-kept first second =
-      ⊎-elim (λ room. rest-is first second room) (λ h. ap (drop 16) (short-kept first second h)) (le-or-lt 16 (length before))
+      ⊎-elim (λ capacity. rest-is first second capacity) (λ h. ap (drop 16) (short-kept first second h)) (le-or-lt 16 (length before))
 
 -- one fund after the other
-module _ (table first second : List ℕ) (before middle after : List ℤ) (x y : Verdict) (room : 16 ≤ length before)
+module _ (table first second : List ℕ) (before middle after : List ℤ) (x y : Verdict) (capacity : 16 ≤ length before)
     (same : length middle ≡ length before) where
-  pub both : FundReckoned table first 0 before middle x → FundReckoned table second 8 middle after y
+  pub both : FundValued table first 0 before middle x → FundValued table second 8 middle after y
       → (_≡_ {A = FundsReply} (record { first = x; second = y }) (fundsReply (length before) table first second))
       × (after ≡ fundsNumbers table first second before)
   unfolding fundsReply fundsNumbers
   both f s =
       let half = fundHalf (length before) table first (firstHalf before) in
-      let eight = first-eight table before first second room in
+      let eight = first-eight table before first second capacity in
       let front : take 8 middle ≡ half = rw (f .numbers-are) (take-at half (drop 8 before) 8 eight) in
       let back : drop 8 middle ≡ drop 8 before = rw (f .numbers-are) (drop-at half (drop 8 before) 8 eight) in
       let rest : drop 16 middle ≡ drop 16 before

@@ -12,7 +12,7 @@ use lib.Seq.{length-take-le, getD-take, take-all, take-at}
 use Rattle.verdict.specs.Verdicts.{need, _andThen_, countOf}
 use Rattle.verdict.specs.declared.Verdict.{Verdict}
 use Rattle.verdict.specs.declared.Verdict.the-variants.{Accepted, Refused}
-use Rattle.verdict.proofs.Verdicts.{need-true, then-left, then-right, Told, told-need, told-then}
+use Rattle.verdict.proofs.Verdicts.{need-true, then-left, then-right, ZeroAccepts, zero-accepts-need, zero-accepts-then}
 use Rattle.le_bytes.proofs.Same.{Same}
 use Rattle.book.specs.Layout.{mostSize, lastClass}
 use Rattle.book.specs.Cells.{heldInAll}
@@ -25,7 +25,7 @@ use Rattle.book.proofs.Exact.{accepted-held}
 use Rattle.valuation.specs.Totals.{totalsOf, differencesOf, totalsFor, totalsReply}
 use Rattle.valuation.specs.declared.TotalsReply.{TotalsReply}
 use Rattle.buffer.specs.Text.{Wrote}
-use Rattle.buffer.proofs.Laws.{from-start, kept}
+use Rattle.buffer.proofs.Digits.{from-start, kept}
 use Rattle.funds.specs.Funds.{frontSize, tableSize, joinedBook, verdictIn, checkLent, fundReply}
 
 -- a refusal is no acceptance
@@ -43,7 +43,7 @@ module _ (table fund : List ℕ) (whole : frontSize ≤ length fund) where
   -- written into a buffer with room for it, the joined book is read back
   pub read-back : {e x : List ℕ} {r : ℕ} → Wrote e 0 (joinedBook table fund) x r → length fund + length table ≤ length e
       → (r ≤ length x) × (take r x ≡ joinedBook table fund)
-  read-back {e} {x} {r} w room =
+  read-back {e} {x} {r} w capacity =
       let b = joinedBook table fund in
       let fits : length b ≤ length e = omega (arith, joined-length) in (
         omega (arith, w .place, kept w),
@@ -68,9 +68,9 @@ module _ (table fund : List ℕ) (whole : frontSize ≤ length fund) where
       (header-same (joinedBook table fund) fund (λ p lo hi. joined-front p lo (omega arith)) 1 (length fund + length table))
 
 -- what Totals tells of a book is what the check says of it
-told-checked : (b : List ℕ) → verdictIn (totalsReply b) ≡ checkBook 1 b
+zero-accepts-checked : (b : List ℕ) → verdictIn (totalsReply b) ≡ checkBook 1 b
 unfolding totalsReply
-told-checked b = by (checkBook 1 b) refl
+zero-accepts-checked b = by (checkBook 1 b) refl
   where
     by : (v : Verdict) → checkBook 1 b ≡ v
         → verdictIn (totalsFor v (heldInAll b (lastClass 1)) (totalsOf b) (differencesOf b)) ≡ v
@@ -79,8 +79,8 @@ told-checked b = by (checkBook 1 b) refl
         rw (ne-eqb q 0 (λ z. never-accepted (sym e ∙ zero-accepted 1 b (rw e z))))
 
 -- an accepted reply of Totals
-pub told-accepted : (reply : TotalsReply) (n : ℕ) → verdictIn reply ≡ Accepted n → (reply .refusal ≡ 0) × (reply .n ≡ n)
-told-accepted reply n = by (eqb (reply .refusal) 0) refl
+pub zero-accepts-accepted : (reply : TotalsReply) (n : ℕ) → verdictIn reply ≡ Accepted n → (reply .refusal ≡ 0) × (reply .n ≡ n)
+zero-accepts-accepted reply n = by (eqb (reply .refusal) 0) refl
   where
     by : (t : Bool) → eqb (reply .refusal) 0 ≡ t
         → cond t (Accepted (reply .n)) (Refused (reply .refusal) (reply .place)) ≡ Accepted n
@@ -89,52 +89,52 @@ told-accepted reply n = by (eqb (reply .refusal) 0) refl
     by false e a = absurd (never-accepted a)
 
 -- what is tested for both funds
-pub lent-good : (numbers : ℕ) (table : List ℕ) (m : ℕ) → checkLent numbers table ≡ Accepted m
+pub arguments-good : (numbers : ℕ) (table : List ℕ) (m : ℕ) → checkLent numbers table ≡ Accepted m
     → (16 ≤ numbers) × (length table ≡ tableSize)
 unfolding checkLent
-lent-good numbers table m e =
+arguments-good numbers table m e =
     (leb-true _ _ (need-true _ _ _ _ (then-left _ _ _ e)), eqb-true _ _ (need-true _ _ _ _ (then-right _ _ _ e)))
 
-pub lent-bad : (numbers : ℕ) (table fund : List ℕ) (q p : ℕ) → checkLent numbers table ≡ Refused q p
+pub arguments-bad : (numbers : ℕ) (table fund : List ℕ) (q p : ℕ) → checkLent numbers table ≡ Refused q p
     → fundReply numbers table fund ≡ Refused q p
 unfolding fundReply _andThen_
-lent-bad numbers table fund q p e = rw e
+arguments-bad numbers table fund q p e = rw e
 
 -- As-checked: after the tests of its own, a fund's reply is what the check says of its joined book.
 pub as-checked : (numbers : ℕ) (table fund : List ℕ)
     → fundReply numbers table fund
     ≡ (checkLent numbers table andThen need (leb frontSize (length fund)) 1 (length fund) andThen checkBook 1 (joinedBook table fund))
 unfolding fundReply
-as-checked numbers table fund = rw (told-checked (joinedBook table fund))
+as-checked numbers table fund = rw (zero-accepts-checked (joinedBook table fund))
 
 -- refusal 0 is acceptance, of a fund too
-pub fund-told : (numbers : ℕ) (table fund : List ℕ) → Told (fundReply numbers table fund)
-unfolding Told checkLent
+pub fund-told : (numbers : ℕ) (table fund : List ℕ) → ZeroAccepts (fundReply numbers table fund)
+unfolding ZeroAccepts checkLent
 fund-told numbers table fund =
     rw (as-checked numbers table fund)
-    (told-then _ _ (told-then _ _ (told-then _ _ (told-need _ 15 0) (told-need _ 23 0)) (told-need _ 0 _))
+    (zero-accepts-then _ _ (zero-accepts-then _ _ (zero-accepts-then _ _ (zero-accepts-need _ 15 0) (zero-accepts-need _ 23 0)) (zero-accepts-need _ 0 _))
     (zero-accepted 1 (joinedBook table fund)))
 
 -- a fund's reply where the buffer and the table file are as they should be
-module _ (numbers : ℕ) (table fund : List ℕ) (room : 16 ≤ numbers) (sized : length table ≡ tableSize) where
+module _ (numbers : ℕ) (table fund : List ℕ) (capacity : 16 ≤ numbers) (sized : length table ≡ tableSize) where
   pub reply-short : length fund < frontSize → fundReply numbers table fund ≡ Refused 1 (length fund)
   unfolding fundReply checkLent need _andThen_
-  reply-short h = rw (le-leb _ _ room, eq-eqb _ _ sized, lt-leb _ _ h)
+  reply-short h = rw (le-leb _ _ capacity, eq-eqb _ _ sized, lt-leb _ _ h)
 
   pub reply-joined : frontSize ≤ length fund → fundReply numbers table fund ≡ verdictIn (totalsReply (joinedBook table fund))
   unfolding fundReply checkLent need _andThen_
-  reply-joined h = rw (le-leb _ _ room, eq-eqb _ _ sized, le-leb _ _ h)
+  reply-joined h = rw (le-leb _ _ capacity, eq-eqb _ _ sized, le-leb _ _ h)
 
   -- a file that is longer than any book's is refused by the header that it begins with
   pub reply-long : frontSize ≤ length fund → mostSize < length fund + tableSize
       → fundReply numbers table fund ≡ checkHeader 1 (length fund + tableSize) fund
   reply-long h long =
-      reply-joined h ∙ told-checked (joinedBook table fund) ∙ rw (← sized) (joined-long table fund h (omega arith))
+      reply-joined h ∙ zero-accepts-checked (joinedBook table fund) ∙ rw (← sized) (joined-long table fund h (omega arith))
 
   -- and is not accepted
   pub never-long : mostSize < length fund + tableSize → (n : ℕ) → fundReply numbers table fund ≡ Accepted n → ⊥
   never-long long n e =
       let b = joinedBook table fund in
       let whole : frontSize ≤ length fund = omega arith in
-      let h = valid 1 b n (sym (told-checked b) ∙ sym (reply-joined whole) ∙ e) .header in
+      let h = valid 1 b n (sym (zero-accepts-checked b) ∙ sym (reply-joined whole) ∙ e) .header in
       omega (arith, h .size, h .few, joined-length table fund whole)

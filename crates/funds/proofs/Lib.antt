@@ -1,3 +1,3 @@
 pub mod Joined
 pub mod Halves
-pub mod Promised
+pub mod FundsContract

@@ -13,7 +13,7 @@ use Rattle.verdict.specs.declared.Verdict.the-variants.{Accepted, Refused}
 use Rattle.book.specs.Layout.{headerSize, curvePlace}
 use Rattle.valuation.specs.Portfolio.{NoRateBelowZero}
 use Rattle.valuation.specs.Bounds.{Within}
-use Rattle.valuation.specs.Promises.{totalDistanceOf, halfTotalDistanceOf}
+use Rattle.valuation.specs.Contracts.{totalDistanceOf, halfTotalDistanceOf}
 use Rattle.valuation.specs.Totals.{exactTotalOf, totalsReply}
 use Rattle.valuation.specs.declared.TotalsReply.{TotalsReply}
 use Rattle.funds.specs.declared.FundsReply.{FundsReply}
@@ -89,7 +89,7 @@ pub record SecondApart (table second : List ℕ) (before after : List ℤ) (repl
 
 -- What the call promises: replies and lent numbers equal their definitions; neither fund's reply and half depend on the
 -- other's file; and, for each fund whose reply has no refusal, demand 3.
-pub record FundsPromised (table first second : List ℕ) (before after : List ℤ) (reply : FundsReply) : Type 0 where
+pub record FundsContract (table first second : List ℕ) (before after : List ℤ) (reply : FundsReply) : Type 0 where
   pub reply-is : reply ≡ fundsReply (length before) table first second
   pub numbers-are : after ≡ fundsNumbers table first second before
   pub first-apart : (other : List ℕ) → FirstApart table first before after reply other

@@ -1,2 +1,2 @@
 pub mod Funds
-pub mod Reckoned
+pub mod Valued

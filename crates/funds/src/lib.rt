@@ -6,10 +6,10 @@ ghost use mathlib.Core.List.{_++_};
 ghost use Prim.Native.Nat.{_+_, _≤_};
 ghost use lib.ListN.{length, take, drop};
 ghost use Rattle.book.specs.Layout.{mostSize};
-ghost use Rattle.valuation.specs.Totals.{TotalsPromised};
+ghost use Rattle.valuation.specs.Totals.{TotalsContract};
 ghost use Rattle.buffer.specs.Text.{Wrote};
-ghost use Rattle.funds.specs.Funds.{frontSize, tableSize, joinedBook, checkLent, FundsPromised};
-ghost use Rattle.funds.specs.Reckoned.{FundReckoned};
+ghost use Rattle.funds.specs.Funds.{frontSize, tableSize, joinedBook, checkLent, FundsContract};
+ghost use Rattle.funds.specs.Valued.{FundValued};
 use book::CURVE_PLACE;
 use book::HEADER_SIZE;
 use book::MOST_SIZE;
@@ -43,9 +43,9 @@ fn join(book: &mut [u8], table: &[u8], fund: &[u8]) -> usize
 // Totals of a fund's joined book, where it is no longer than a book can be.
 fn joined_totals(table: &[u8], fund: &[u8]) -> TotalsReply
     requires { ⌜ (frontSize ≤ length (now fund)) × (length (now fund) + length (now table) ≤ mostSize) ⌝ }
-    ensures { λ r. ⌜ TotalsPromised (joinedBook (now (table .entry)) (now (fund .entry))) r ⌝ }
+    ensures { λ r. ⌜ TotalsContract (joinedBook (now (table .entry)) (now (fund .entry))) r ⌝ }
 {
-    let mut book = book::room();
+    let mut book = book::input_buffer();
     let size = join(&mut book, table, fund);
     totals::totals(&book[..size])
 }
@@ -62,9 +62,9 @@ fn put_totals(numbers: &mut [i64], at: usize, totals: [i64; 8])
 }
 
 // One fund: its reply, and its half in the eight numbers from `at` on.
-fn reckon_fund(table: &[u8], fund: &[u8], numbers: &mut [i64], at: usize) -> Verdict
+fn value_fund(table: &[u8], fund: &[u8], numbers: &mut [i64], at: usize) -> Verdict
     requires { ⌜ (16 ≤ length (now numbers)) × (length (now table) ≡ tableSize) × (at + 8 ≤ length (now numbers)) ⌝ }
-    ensures { λ r. ⌜ FundReckoned (now (table .entry)) (now (fund .entry)) at (now (numbers .entry))
+    ensures { λ r. ⌜ FundValued (now (table .entry)) (now (fund .entry)) at (now (numbers .entry))
         (now (numbers .exit)) r ⌝ }
 {
     if fund.len() < FRONT_SIZE {
@@ -85,7 +85,7 @@ fn reckon_fund(table: &[u8], fund: &[u8], numbers: &mut [i64], at: usize) -> Ver
 }
 
 // What is tested for both funds.
-fn check_lent(count: usize, table: &[u8]) -> Verdict
+fn check_arguments(count: usize, table: &[u8]) -> Verdict
     ensures { λ r. ⌜ r ≡ checkLent count (now (table .entry)) ⌝ }
 {
     verdict::need(16 <= count, 16, 0).require(table.len() == TABLE_SIZE, 24, 0)
@@ -93,18 +93,18 @@ fn check_lent(count: usize, table: &[u8]) -> Verdict
 
 // The first fund's totals come in numbers 0 to 7, the second's in 8 to 15; a refused fund's stay as they were.
 pub fn funds(table: &[u8], first: &[u8], second: &[u8], numbers: &mut [i64]) -> FundsReply
-    ensures { λ r. ⌜ FundsPromised (now (table .entry)) (now (first .entry)) (now (second .entry))
+    ensures { λ r. ⌜ FundsContract (now (table .entry)) (now (first .entry)) (now (second .entry))
         (now (numbers .entry)) (now (numbers .exit)) r ⌝ }
 {
-    let v = check_lent(numbers.len(), table);
+    let v = check_arguments(numbers.len(), table);
     let Verdict::Accepted(_) = v else {
         return FundsReply {
             first: v,
             second: v,
         };
     };
-    let first_reply = reckon_fund(table, first, numbers, 0);
-    let second_reply = reckon_fund(table, second, numbers, 8);
+    let first_reply = value_fund(table, first, numbers, 0);
+    let second_reply = value_fund(table, second, numbers, 8);
     FundsReply {
         first: first_reply,
         second: second_reply,

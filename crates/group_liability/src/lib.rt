@@ -1,6 +1,6 @@
 // The call Group: a product group's liability in a setting, its n, and its year table.
 ghost use mathlib.Core.Path.{_≡_};
-ghost use Rattle.valuation.specs.Replies.{groupCheck, GroupPromised};
+ghost use Rattle.valuation.specs.Replies.{groupCheck, GroupContract};
 use settings::Setting;
 use settings::Shifts;
 use valuation::GroupReply;
@@ -20,7 +20,7 @@ fn check_group(book: &[u8], setting: usize, group: usize, numbers: usize) -> Ver
 }
 
 pub fn group(book: &[u8], setting: usize, group: usize, table: &mut [u64]) -> GroupReply
-    ensures { λ r. ⌜ GroupPromised (now (book .entry)) setting group (now (table .entry)) (now (table .exit)) r ⌝ }
+    ensures { λ r. ⌜ GroupContract (now (book .entry)) setting group (now (table .entry)) (now (table .exit)) r ⌝ }
 {
     let v = check_group(book, setting, group, table.len());
     if let Verdict::Refused(number, place) = v {
@@ -31,5 +31,8 @@ pub fn group(book: &[u8], setting: usize, group: usize, table: &mut [u64]) -> Gr
     let s = Setting::new(setting);
     let w = Shifts::new(book);
     let n = group_projection::group_sums(book, w, group, s.projection, &mut rows, &mut numbers);
-    GroupReply::Reckoned(present_value::settle(book, s, group, &numbers, table), n)
+    GroupReply::Valued(
+        present_value::value_group(book, s, group, &numbers, table),
+        n,
+    )
 }

@@ -55,7 +55,7 @@ fn add_cells(
     let mut n: u64 = 0;
     loop {
         let count = book::field_of(book, i, book::COUNT_OFFSET);
-        cell_projection::walk_by(rows, own, count, five, one, which, sums);
+        cell_projection::project_by(rows, own, count, five, one, which, sums);
         n += book::holds(book, i);
         if above == 0 {
             return n;

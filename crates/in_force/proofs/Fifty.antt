@@ -6,7 +6,7 @@ use native.Mathlib.Omega.{arith}
 use native.Mathlib.Numerals.{add-one}
 use lib.ListN.{length, getD, set, drop, length-append, length-drop}
 use lib.Seq.{set-at, drop-cons}
-use Rattle.in_force.specs.Screen.{firstYears}
+use Rattle.in_force.specs.InForceRun.{firstYears}
 
 module _ (f : ℕ → ℕ) where
   front-length : (j : ℕ) → length (firstYears f j) ≡ j
@@ -23,7 +23,7 @@ module _ (f : ℕ → ℕ) where
   pub years-more : (j : ℕ) (t u v : List ℕ) (x : ℕ) → j < length t → u ≡ firstYears f j ++ drop j t → v ≡ set u j x
       → x ≡ f j → v ≡ firstYears f (j + 1) ++ drop (j + 1) t
   unfolding firstYears
-  years-more j t u v x room eu ev ex =
+  years-more j t u v x capacity eu ev ex =
       ev
       ∙ rw (eu, drop-cons t j 0, add-one j, ex)
       (set-at (firstYears f j) (getD t j 0) (drop (suc j) t) (f j) j (front-length j)

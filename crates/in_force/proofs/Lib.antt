@@ -1,4 +1,4 @@
 pub mod Records
 pub mod Fifty
-pub mod Promised
+pub mod InForceContract
 pub mod Unlinked

@@ -17,7 +17,7 @@ use Rattle.book.proofs.Exact.{empty-chain}
 use Rattle.valuation.specs.Portfolio.{linksFrom, chainLinks}
 use Rattle.valuation.proofs.Rows.{chain-standing}
 use Rattle.valuation.proofs.Members.{counted, links-counted}
-use Rattle.in_force.specs.Screen.{chainOf, ofClass, recordOf, OnlyOne}
+use Rattle.in_force.specs.InForceRun.{chainOf, ofClass, recordAtClass, OnlyOne}
 
 module _ (b : List ℕ) (class : ℕ) where
   -- by the class of the first record
@@ -176,15 +176,15 @@ module _ (b : List ℕ) (v : ValidBook 1 b) (r : Rules 1 b) (code sex class : �
 
   -- a linked record with the code, the sex and the class is the one
   asked-only : (k j : ℕ) → k < chains → 0 < linkAt b k j → codeOf b (linkAt b k j) ≡ code → sexOf b (linkAt b k j) ≡ sex
-      → classOf b (linkAt b k j) ≡ class → linkAt b k j ≡ recordOf b code sex class
-  unfolding recordOf
+      → classOf b (linkAt b k j) ≡ class → linkAt b k j ≡ recordAtClass b code sex class
+  unfolding recordAtClass
   asked-only k j few l e f g =
       let owner = r .chain k few .linked j l in
       let chain : k ≡ chainOf code sex = omega (arith, owner .code, owner .sex) in
       rw (← chain) (link-only b r k few v class j l g)
 
-  pub only-one : 0 < recordOf b code sex class → OnlyOne b code sex class (recordOf b code sex class)
-  unfolding recordOf
+  pub only-one : 0 < recordAtClass b code sex class → OnlyOne b code sex class (recordAtClass b code sex class)
+  unfolding recordAtClass
   only-one some =
       let owner = link-standing b v (chainOf code sex) asked-few class some .0 in
       record {
@@ -195,6 +195,6 @@ module _ (b : List ℕ) (v : ValidBook 1 b) (r : Rules 1 b) (code sex class : �
       }
 
   -- where there is none, no linked record has all three
-  pub none-linked : recordOf b code sex class ≡ 0 → (k j : ℕ) → k < chains → 0 < linkAt b k j
+  pub none-linked : recordAtClass b code sex class ≡ 0 → (k j : ℕ) → k < chains → 0 < linkAt b k j
       → codeOf b (linkAt b k j) ≡ code → sexOf b (linkAt b k j) ≡ sex → classOf b (linkAt b k j) ≡ class → ⊥
   none-linked none k j few l e f g = absurd (omega (arith, asked-only k j few l e f g))

@@ -11,7 +11,7 @@ use lib.Dec.{eqb}
 use lib.ListN.{length}
 use Rattle.verdict.specs.declared.Verdict.{Verdict}
 use Rattle.verdict.specs.declared.Verdict.the-variants.{Accepted, Refused}
-use Rattle.book.specs.Layout.{lastClass, chains, headOf, classOf, nextOf, after, linkFrom, linkAt}
+use Rattle.book.specs.Layout.{lastClass, chains, headOf, classOf, nextOf, recordAfter, linkFrom, linkAt}
 use Rattle.book.specs.Rules.{SameButUnlinked}
 use Rattle.book.specs.Reading.{ValidBook}
 use Rattle.book.proofs.Links.{link-next}
@@ -20,17 +20,17 @@ use Rattle.book.proofs.Unlinked.{unlinked-same}
 use Rattle.settings.specs.Settings.{decrementsOf}
 use Rattle.valuation.specs.Portfolio.{linksFrom, chainLinks}
 use Rattle.valuation.proofs.Unlinked.{Kept, cell-same, decrements-same}
-use Rattle.in_force.specs.Screen.{chainOf, ofClass, recordOf, askedCheck, inForceCheck, inForceRun}
-use Rattle.in_force.specs.Screen.{numbersFor, inForceNumbers}
+use Rattle.in_force.specs.InForceRun.{chainOf, ofClass, recordAtClass, askedCheck, inForceCheck, inForceRun}
+use Rattle.in_force.specs.InForceRun.{numbersFor, inForceNumbers}
 use Rattle.in_force.proofs.Records.{link-all, link-standing}
-use Rattle.in_force.proofs.Promised.{asked-code, asked-sex, by-asked}
-use Rattle.in_force.proofs.Promised.{accepted-asked, accepted-valid, accepted-some}
+use Rattle.in_force.proofs.InForceContract.{asked-code, asked-sex, by-asked}
+use Rattle.in_force.proofs.InForceContract.{accepted-asked, accepted-valid, accepted-some}
 
 -- steps along a chain, one after the other
 link-add : (b : List ℕ) (m i j : ℕ) → linkFrom b (linkFrom b i m) j ≡ linkFrom b i (m + j)
 unfolding linkFrom
 link-add b zero i j = ap (linkFrom b i) (sym (zero-add j))
-link-add b (suc m) i j = link-add b m (after b i) j ∙ ap (linkFrom b i) (sym (suc-add m j))
+link-add b (suc m) i j = link-add b m (recordAfter b i) j ∙ ap (linkFrom b i) (sym (suc-add m j))
 
 module _ (b b′ : List ℕ) (class : ℕ) where
   -- the same record is found where the linked ones have the same bytes
@@ -74,7 +74,7 @@ module _ (b b′ : List ℕ) (s : SameButUnlinked b b′) where
     -- the reply
     pub check-same : (numbers : ℕ)
         → inForceCheck b setting code sex class numbers ≡ inForceCheck b′ setting code sex class numbers
-    unfolding inForceCheck recordOf
+    unfolding inForceCheck recordAtClass
     check-same numbers = by (askedCheck setting code sex numbers) refl
       where
         by : (v : Verdict) → askedCheck setting code sex numbers ≡ v
@@ -88,8 +88,8 @@ module _ (b b′ : List ℕ) (s : SameButUnlinked b b′) where
 
     -- the fifty numbers
     run-same : (numbers n : ℕ) → inForceCheck b setting code sex class numbers ≡ Accepted n
-        → inForceRun b setting (recordOf b code sex class) ≡ inForceRun b′ setting (recordOf b′ code sex class)
-    unfolding inForceRun recordOf
+        → inForceRun b setting (recordAtClass b code sex class) ≡ inForceRun b′ setting (recordAtClass b′ code sex class)
+    unfolding inForceRun recordAtClass
     run-same numbers n e =
         let asked = accepted-asked b setting code sex class numbers n e in
         let codes = asked-code setting code sex numbers _ asked in
@@ -110,7 +110,7 @@ module _ (b b′ : List ℕ) (s : SameButUnlinked b b′) where
         rw (← (check-same (length before))) (by (inForceCheck b setting code sex class (length before)) refl)
       where
         by : (v : Verdict) → inForceCheck b setting code sex class (length before) ≡ v
-            → numbersFor v (inForceRun b setting (recordOf b code sex class)) before
-            ≡ numbersFor v (inForceRun b′ setting (recordOf b′ code sex class)) before
+            → numbersFor v (inForceRun b setting (recordAtClass b code sex class)) before
+            ≡ numbersFor v (inForceRun b′ setting (recordAtClass b′ code sex class)) before
         by (Accepted n) e = rw (run-same (length before) n e)
         by (Refused q p) e = refl

@@ -9,7 +9,7 @@ ghost use Rattle.cell.specs.States.{Ready, nextBy};
 ghost use Rattle.valuation.specs.Arithmetic.{rounded};
 ghost use Rattle.valuation.specs.Steps.{inForce};
 ghost use Rattle.valuation.specs.Portfolio.{cellOf, chainLinks};
-ghost use Rattle.in_force.specs.Screen.{chainOf, ofClass, askedCheck, firstYears, InForcePromised};
+ghost use Rattle.in_force.specs.InForceRun.{chainOf, ofClass, askedCheck, firstYears, InForceContract};
 use cell::Cell;
 use settings::Columns;
 use settings::Shifts;
@@ -100,7 +100,7 @@ pub fn in_force(
     class: usize,
     out: &mut [u64],
 ) -> Verdict
-    ensures { λ r. ⌜ InForcePromised (now (book .entry)) setting code sex class
+    ensures { λ r. ⌜ InForceContract (now (book .entry)) setting code sex class
         (now (out .entry)) (now (out .exit)) r ⌝ }
 {
     let asked = check_asked(setting, code, sex, out.len());

@@ -1,3 +1,3 @@
 pub mod Refusals
-pub mod Promised
-pub mod Trials
+pub mod ListingContract
+pub mod TestVectors

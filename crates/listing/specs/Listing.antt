@@ -26,17 +26,17 @@ listingText totals n = joined (lineOf totals n) 8
 unfoldable pub listingOf : List ℕ → List ℕ
 listingOf b = listingText (totalsReply b .totals) (totalsReply b .n)
 
--- What the call replies, given a buffer of `room` bytes: the listing's length, or the first refusal: the book's, and
+-- What the call replies, given a buffer of `capacity` bytes: the listing's length, or the first refusal: the book's, and
 -- then 20 where the buffer is shorter than the listing.
 abbrev pub listingReply : List ℕ → ℕ → TextReply
-listingReply b room = textReply (checkBook 1 b) (listingOf b) room
+listingReply b capacity = textReply (checkBook 1 b) (listingOf b) capacity
 
 -- what the passed buffer then holds: the listing and then what stood there, or, where refused, what stood there
 abbrev pub listingBuffer : List ℕ → List ℕ → List ℕ
 listingBuffer b before = textBuffer (checkBook 1 b) (listingOf b) before
 
 -- What the call promises: its reply and the buffer equal their definitions.
-pub record ListingPromised (b before after : List ℕ) (reply : TextReply) : Type 0 where
+pub record ListingContract (b before after : List ℕ) (reply : TextReply) : Type 0 where
   pub reply-is : reply ≡ listingReply b (length before)
   pub buffer-is : after ≡ listingBuffer b before
   -- follows from the two: the bytes written stand in the buffer

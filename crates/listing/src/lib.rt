@@ -4,7 +4,7 @@ use buffer::put_ended;
 use buffer::put_signed_ended;
 ghost use Prim.Native.Nat.{_+_, _<_, _≤_, _^_};
 ghost use Rattle.buffer.specs.Text.{Wrote};
-ghost use Rattle.listing.specs.Listing.{listingLine, listingText, ListingPromised};
+ghost use Rattle.listing.specs.Listing.{listingLine, listingText, ListingContract};
 
 fn put_line(out: &mut [u8], at: usize, setting: u64, total: i64, n: u64) -> usize
     requires { ⌜ at + 65 < 2 ^ 64 ⌝ }
@@ -28,7 +28,7 @@ fn put_listing(out: &mut [u8], totals: [i64; 8], n: u64) -> usize
 // Writes the listing, from the book's bytes to the bytes to file, and replies its length. Where the book is refused, or
 // the buffer is shorter than the listing, it replies the refusal and writes nothing.
 pub fn write_listing(book: &[u8], out: &mut [u8]) -> TextReply
-    ensures { λ r. ⌜ ListingPromised (now (book .entry)) (now (out .entry)) (now (out .exit)) r ⌝ }
+    ensures { λ r. ⌜ ListingContract (now (book .entry)) (now (out .entry)) (now (out .exit)) r ⌝ }
 {
     let reply = totals::totals(book);
     if reply.refusal != 0 {

@@ -4,7 +4,7 @@ use libc::STDIN_FILENO;
 use libc::STDOUT_FILENO;
 
 fn main() {
-    let mut space = book::room();
+    let mut space = book::input_buffer();
     let got = io::read_full(STDIN_FILENO, &mut space);
     // No listing is longer: so `short` of the call's contract says.
     let mut text = [0u8; 512];

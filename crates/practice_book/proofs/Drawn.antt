@@ -12,22 +12,22 @@ use lib.ListN.{length, getD, replicate, getD-replicate, List·getD-eq-default}
 use Rattle.verdict.specs.declared.Verdict.the-variants.{Accepted}
 use Rattle.book.specs.Layout.{chains, mostRecords, mostRate, mostCount, mostAmount}
 use Rattle.book.specs.Check.{checkBook}
-use Rattle.buffer.proofs.Laws.{le-or-lt}
+use Rattle.buffer.proofs.Digits.{le-or-lt}
 use Rattle.book_contents.specs.declared.WriteReply.{WriteReply}
-use Rattle.book_contents.specs.Contents.{Contents, given, sizeOf, before}
+use Rattle.book_contents.specs.Contents.{Contents, given, sizeOf, recordsBefore}
 use Rattle.book_contents.specs.Written.{bookSize}
 use Rattle.book_contents.specs.Reading.{each}
 use Rattle.book_contents.specs.Limits.{Fit, curveRate}
-use Rattle.book_contents.specs.Promises.{notZero, WritePromised}
+use Rattle.book_contents.specs.Contracts.{notZero, WriteContract}
 use Rattle.book_contents.proofs.Stands.{each-length, each-all}
 use Rattle.book_contents.proofs.Accepted.{fit-accepted}
 use Rattle.book_contents.proofs.Laid.{book-length}
-use Rattle.generator.specs.declared.Words.{Words}
-use Rattle.generator.specs.Draws.{after, drawAt}
-use Rattle.generator.proofs.Laws.{after-after}
+use Rattle.generator.specs.declared.GeneratorState.{GeneratorState}
+use Rattle.generator.specs.Draws.{stateAfter, drawAt}
+use Rattle.generator.proofs.DrawSequence.{after-after}
 use Rattle.practice_book.specs.Practice.{drawnNumber, drawnRate, recordDraw, drawnValues, drawnContents}
 use Rattle.practice_book.specs.Practice.{practiceContents, practiceBook, practiceSize}
-use Rattle.practice_book.proofs.Laws.{later-run}
+use Rattle.practice_book.proofs.DrawnLists.{later-run}
 
 number-most : (span draw : ℕ) → drawnNumber span draw ≤ span
 unfolding drawnNumber
@@ -68,11 +68,11 @@ first-0 k =
     (λ (l : k < 14). getD-replicate 14 k 0 0 l)
     (le-or-lt 14 k)
 
-full : before firsts chains ≡ mostRecords
-unfolding before sizeOf
+full : recordsBefore firsts chains ≡ mostRecords
+unfolding recordsBefore sizeOf
 full = refl
 
-pub drawn-fit : (w : Words) → Fit (drawnContents w)
+pub drawn-fit : (w : GeneratorState) → Fit (drawnContents w)
 unfolding drawnContents drawnValues
 drawn-fit w =
     record {
@@ -105,7 +105,7 @@ pub practice-accepted : (start : ℕ)
     → checkBook 1 (practiceBook start) ≡ Accepted (notZero (practiceContents start .counts))
 practice-accepted start = fit-accepted (practiceContents start) (drawn-fit _)
 
-pub drawn-size : (w : Words) → bookSize (drawnContents w .values .first) ≡ practiceSize
+pub drawn-size : (w : GeneratorState) → bookSize (drawnContents w .values .first) ≡ practiceSize
 unfolding drawnContents drawnValues
 drawn-size w = omega (arith, full)
 
@@ -113,21 +113,21 @@ pub practice-length : (start : ℕ) → length (practiceBook start) ≡ practice
 practice-length start = book-length (practiceContents start) ∙ drawn-size _
 
 -- The contents as they are drawn, part after part, each from the words that the one before it left.
-module _ (w : Words) {costs curves tables : Words} {cost mortality counts lapses premiums claims : List ℕ}
+module _ (w : GeneratorState) {costs curves tables : GeneratorState} {cost mortality counts lapses premiums claims : List ℕ}
     {curve : List ℤ}
-    (cost-is : cost ≡ each (λ (j : ℕ). drawnNumber mostRate (drawAt w j)) 5) (costs-are : costs ≡ after w 5)
-    (curve-is : curve ≡ each (λ (j : ℕ). drawnRate (drawAt costs j)) 49) (curves-are : curves ≡ after costs 49)
+    (cost-is : cost ≡ each (λ (j : ℕ). drawnNumber mostRate (drawAt w j)) 5) (costs-are : costs ≡ stateAfter w 5)
+    (curve-is : curve ≡ each (λ (j : ℕ). drawnRate (drawAt costs j)) 49) (curves-are : curves ≡ stateAfter costs 49)
     (mortality-is : mortality ≡ each (λ (j : ℕ). drawnNumber mostRate (drawAt curves j)) 242)
-    (tables-are : tables ≡ after curves 242)
+    (tables-are : tables ≡ stateAfter curves 242)
     (counts-are : counts ≡ each (λ (i : ℕ). drawnNumber mostCount (drawAt tables (4 * i))) mostRecords)
     (lapses-are : lapses ≡ each (λ (i : ℕ). drawnNumber mostRate (drawAt tables (4 * i + 1))) mostRecords)
     (premiums-are : premiums ≡ each (λ (i : ℕ). drawnNumber mostAmount (drawAt tables (4 * i + 2))) mostRecords)
     (claims-are : claims ≡ each (λ (i : ℕ). drawnNumber mostAmount (drawAt tables (4 * i + 3))) mostRecords) where
-  curves-on : curves ≡ after w 54
-  curves-on = curves-are ∙ ap (λ (v : Words). after v 49) costs-are ∙ after-after w 5 49
+  curves-on : curves ≡ stateAfter w 54
+  curves-on = curves-are ∙ ap (λ (v : GeneratorState). stateAfter v 49) costs-are ∙ after-after w 5 49
 
-  tables-on : tables ≡ after w 296
-  tables-on = tables-are ∙ ap (λ (v : Words). after v 242) curves-on ∙ after-after w 54 242
+  tables-on : tables ≡ stateAfter w 296
+  tables-on = tables-are ∙ ap (λ (v : GeneratorState). stateAfter v 242) curves-on ∙ after-after w 54 242
 
   values-drawn : (record {
     edition = 1;
@@ -176,6 +176,6 @@ module _ (w : Words) {costs curves tables : Words} {cost mortality counts lapses
         claims-are ∙ list-drawn mostAmount 3 (λ (i : ℕ). 4 * i + 3) (λ i. refl),
       )
 
-pub of-same : {u v : Contents} {entry exit : List ℕ} {r : WriteReply} → u ≡ v → WritePromised u entry exit r
-    → WritePromised v entry exit r
-of-same {u} {v} {entry} {exit} {r} e w = subst (λ (x : Contents). WritePromised x entry exit r) e w
+pub of-same : {u v : Contents} {entry exit : List ℕ} {r : WriteReply} → u ≡ v → WriteContract u entry exit r
+    → WriteContract v entry exit r
+of-same {u} {v} {entry} {exit} {r} e w = subst (λ (x : Contents). WriteContract x entry exit r) e w

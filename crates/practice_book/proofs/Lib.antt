@@ -1,3 +1,3 @@
-pub mod Laws
+pub mod DrawnLists
 pub mod Drawn
-pub mod Promised
+pub mod PracticeContract

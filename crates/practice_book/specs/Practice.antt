@@ -14,9 +14,9 @@ use Rattle.book_contents.specs.declared.WriteReply.{WriteReply}
 use Rattle.book_contents.specs.Contents.{Contents, given}
 use Rattle.book_contents.specs.Written.{bookOf}
 use Rattle.book_contents.specs.Reading.{each}
-use Rattle.book_contents.specs.Promises.{writeRefusal, writeLength, replyFor, leftFor, notZero}
-use Rattle.generator.specs.declared.Words.{Words}
-use Rattle.generator.specs.Draws.{drawAt, begun}
+use Rattle.book_contents.specs.Contracts.{writeRefusal, writeLength, writeReplyFor, leftFor, notZero}
+use Rattle.generator.specs.declared.GeneratorState.{GeneratorState}
+use Rattle.generator.specs.Draws.{drawAt, seeded}
 
 -- A field out of a draw is the remainder by one more than its span, plus its lowest value: 0, and of a curve rate
 -- curveLift below 0.
@@ -39,7 +39,7 @@ abbrev pub recordDraw : ℕ → ℕ
 recordDraw i = 296 + 4 * i
 
 -- edition 1, so no percentages; SST year 2021; the tables; every chain from class 0
-unfoldable pub drawnValues : Words → Values
+unfoldable pub drawnValues : GeneratorState → Values
 drawnValues w =
     record {
       edition = 1;
@@ -53,7 +53,7 @@ drawnValues w =
     }
 
 -- the values and the four lists, those of 14 chains of 121 records
-unfoldable pub drawnContents : Words → Contents
+unfoldable pub drawnContents : GeneratorState → Contents
 drawnContents w =
     given (drawnValues w)
     (each (λ (i : ℕ). drawnNumber mostCount (drawAt w (recordDraw i))) mostRecords)
@@ -63,7 +63,7 @@ drawnContents w =
 
 -- the practice book of a start number, and how long each is
 abbrev pub practiceContents : ℕ → Contents
-practiceContents start = drawnContents (begun start)
+practiceContents start = drawnContents (seeded start)
 
 abbrev pub practiceBook : ℕ → List ℕ
 practiceBook start = bookOf (practiceContents start)
@@ -73,15 +73,15 @@ practiceSize = 41876
 
 -- 16 a buffer of so many bytes that is shorter than the book, then 32 the start number 0
 unfoldable pub checkPractice : ℕ → ℕ → Verdict
-checkPractice start room = need (leb practiceSize room) 16 0 andThen need (ltb 0 start) 32 0
+checkPractice start capacity = need (leb practiceSize capacity) 16 0 andThen need (ltb 0 start) 32 0
 
 unfoldable pub practiceReply : ℕ → ℕ → WriteReply
-practiceReply start room = replyFor (checkPractice start room) practiceSize
+practiceReply start capacity = writeReplyFor (checkPractice start capacity) practiceSize
 
 -- The call: of a start number, with the lent bytes from entry to exit. The book is a function of the start number alone:
 -- two calls with the same start number write the same bytes, whatever the buffers held (`equal-bytes` of
 -- proofs/Promised).
-pub record PracticePromised (start : ℕ) (entry exit : List ℕ) (r : WriteReply) : Type 0 where
+pub record PracticeContract (start : ℕ) (entry exit : List ℕ) (r : WriteReply) : Type 0 where
   pub reply-is : r ≡ practiceReply start (length entry)
   pub bytes-are : exit ≡ leftFor (checkPractice start (length entry)) (practiceBook start) entry
   -- what was written is accepted by the check, with n the number of counts that are not 0

@@ -6,9 +6,9 @@ ghost use lib.IntN.{pos, _-ℤ_};
 ghost use lib.ListN.{length, set};
 ghost use Rattle.book.specs.Layout.{mostCount, mostRate, mostAmount};
 ghost use Rattle.book_contents.specs.Reading.{each};
-ghost use Rattle.book_contents.specs.Promises.{WritePromised};
-ghost use Rattle.generator.specs.Draws.{step, drawOf, after, drawAt};
-ghost use Rattle.practice_book.specs.Practice.{drawnNumber, drawnRate, practiceContents, PracticePromised};
+ghost use Rattle.book_contents.specs.Contracts.{WriteContract};
+ghost use Rattle.generator.specs.Draws.{step, drawOf, stateAfter, drawAt};
+ghost use Rattle.practice_book.specs.Practice.{drawnNumber, drawnRate, practiceContents, PracticeContract};
 use book::CURVE_LIFT;
 use book::CURVE_SPAN;
 use book::MOST_AMOUNT;
@@ -17,7 +17,7 @@ use book::MOST_RATE;
 use book::MOST_RECORDS;
 use book_contents::Values;
 use book_contents::WriteReply;
-use generator::Words;
+use generator::GeneratorState;
 use verdict::Verdict;
 use verdict::need;
 
@@ -47,7 +47,7 @@ fn drawn_rate(draw: u64) -> i64
 }
 
 // Puts the next draw's number into the list, and gives the words after it.
-fn put_number(list: &mut [u64], j: usize, words: Words, span: u64) -> Words
+fn put_number(list: &mut [u64], j: usize, words: GeneratorState, span: u64) -> GeneratorState
     requires { ⌜ (j < length (now list)) × (span < 4294967296) ⌝ }
     ensures { λ r. ⌜ (r ≡ step words)
         × (now (list .exit) ≡ set (now (list .entry)) j (drawnNumber span (drawOf (step words)))) ⌝ }
@@ -57,7 +57,7 @@ fn put_number(list: &mut [u64], j: usize, words: Words, span: u64) -> Words
     next
 }
 
-fn put_rate(curve: &mut [i64], j: usize, words: Words) -> Words
+fn put_rate(curve: &mut [i64], j: usize, words: GeneratorState) -> GeneratorState
     requires { ⌜ j < length (now curve) ⌝ }
     ensures { λ r. ⌜ (r ≡ step words)
         × (now (curve .exit) ≡ set (now (curve .entry)) j (drawnRate (drawOf (step words)))) ⌝ }
@@ -68,9 +68,9 @@ fn put_rate(curve: &mut [i64], j: usize, words: Words) -> Words
 }
 
 // Fills a table, a draw a number, and gives the words after it.
-fn fill_table(list: &mut [u64], from: Words, span: u64) -> Words
+fn fill_table(list: &mut [u64], from: GeneratorState, span: u64) -> GeneratorState
     requires { ⌜ span < 4294967296 ⌝ }
-    ensures { λ r. ⌜ (r ≡ after from (length (now (list .entry)))) × (now (list .exit)
+    ensures { λ r. ⌜ (r ≡ stateAfter from (length (now (list .entry)))) × (now (list .exit)
         ≡ each (λ (j : ℕ). drawnNumber span (drawAt from j)) (length (now (list .entry)))) ⌝ }
 {
     let mut words = from;
@@ -82,8 +82,8 @@ fn fill_table(list: &mut [u64], from: Words, span: u64) -> Words
     words
 }
 
-fn fill_curve(curve: &mut [i64], from: Words) -> Words
-    ensures { λ r. ⌜ (r ≡ after from (length (now (curve .entry)))) × (now (curve .exit)
+fn fill_curve(curve: &mut [i64], from: GeneratorState) -> GeneratorState
+    ensures { λ r. ⌜ (r ≡ stateAfter from (length (now (curve .entry)))) × (now (curve .exit)
         ≡ each (λ (j : ℕ). drawnRate (drawAt from j)) (length (now (curve .entry)))) ⌝ }
 {
     let mut words = from;
@@ -101,7 +101,7 @@ fn fill_lists(
     lapses: &mut [u64],
     premiums: &mut [u64],
     claims: &mut [u64],
-    from: Words,
+    from: GeneratorState,
 )
     requires { ⌜ (length (now counts) ≡ 1694) × (length (now lapses) ≡ 1694) × (length (now premiums) ≡ 1694)
         × (length (now claims) ≡ 1694) ⌝ }
@@ -122,14 +122,14 @@ fn fill_lists(
 
 // Write of what is drawn.
 fn write_drawn(start: u64, out: &mut [u8]) -> WriteReply
-    ensures { λ r. ⌜ WritePromised (practiceContents start) (now (out .entry)) (now (out .exit)) r ⌝ }
+    ensures { λ r. ⌜ WriteContract (practiceContents start) (now (out .entry)) (now (out .exit)) r ⌝ }
 {
-    let begun = Words {
+    let seeded = GeneratorState {
         word: start,
         counter: 0,
     };
     let mut cost = [0u64; 5];
-    let costs_drawn = fill_table(&mut cost, begun, MOST_RATE);
+    let costs_drawn = fill_table(&mut cost, seeded, MOST_RATE);
     let mut curve = [0i64; 49];
     let curve_drawn = fill_curve(&mut curve, costs_drawn);
     let mut mortality = [0u64; 242];
@@ -161,7 +161,7 @@ fn write_drawn(start: u64, out: &mut [u8]) -> WriteReply
 // Writes the practice book of a start number, and answers its length. Refused, with nothing written, where the buffer
 // is shorter than the book, and then where the start number is 0.
 pub fn practice(start: u64, out: &mut [u8]) -> WriteReply
-    ensures { λ r. ⌜ PracticePromised start (now (out .entry)) (now (out .exit)) r ⌝ }
+    ensures { λ r. ⌜ PracticeContract start (now (out .entry)) (now (out .exit)) r ⌝ }
 {
     let v = need(SIZE <= out.len(), 16, 0).require(0 < start, 32, 0);
     match v {

@@ -11,8 +11,8 @@ use Rattle.valuation.specs.Arithmetic.{rounded}
 use Rattle.valuation.specs.Steps.{discounted, sumYears}
 use Rattle.valuation.specs.Portfolio.{divisorOf}
 use Rattle.group_projection.proofs.Adding.{zero-most}
-use Rattle.cash_flow.specs.Settling.{Divisors, DiscountedIn}
-use Rattle.cash_flow.proofs.Settling.{sum-more}
+use Rattle.cash_flow.specs.CashFlow.{Divisors, DiscountedIn}
+use Rattle.cash_flow.proofs.CashFlow.{sum-more}
 use Rattle.present_value.specs.Outcome.{CurveOf, InYears, NoneFrom}
 
 -- what holds of each number before k, and of the one stored there, holds of each before k + 1

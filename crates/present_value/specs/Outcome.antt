@@ -10,11 +10,11 @@ use Rattle.valuation.specs.Arithmetic.{rounded}
 use Rattle.valuation.specs.Steps.{outgo, countedPremium, discountedOutgo, discountedPremium, sumYears}
 use Rattle.valuation.specs.Portfolio.{divisorOf, termsOf, groupCells}
 use Rattle.valuation.specs.Replies.{groupLiability, yearTable}
-use Rattle.cash_flow.specs.Settling.{Divisor}
+use Rattle.cash_flow.specs.CashFlow.{Divisor}
 use Rattle.present_value.specs.declared.Amounts.{Amounts}
 
 -- what settling a product group gives: its liability, and the lent table with the fifty years in front
-pub record Settled (b : List ℕ) (setting g : ℕ) (before after : List ℕ) (r : ℤ) : Type 0 where
+pub record GroupValued (b : List ℕ) (setting g : ℕ) (before after : List ℕ) (r : ℤ) : Type 0 where
   pub liability-is : r ≡ groupLiability b setting g
   pub table-is : after ≡ yearTable (termsOf b setting g) (groupCells b (decrementsOf b setting) g) 50 ++ drop 200 before
   -- so that five of them can be added
@@ -49,16 +49,16 @@ pub record NoneFrom (premium outgo : List ℕ) (from to end : ℕ) : Type 0 wher
   pub no-outgo : (k : ℕ) → end ≤ k → k < to → getD outgo k 0 ≡ 0
 
 -- discounted outgo and premium of product group g by year
-abbrev pub outgoIn : List ℕ → ℕ → ℕ → ℕ → ℕ
-outgoIn b setting g = discountedOutgo rounded (termsOf b setting g) (groupCells b (decrementsOf b setting) g)
+abbrev pub yearOutgo : List ℕ → ℕ → ℕ → ℕ → ℕ
+yearOutgo b setting g = discountedOutgo rounded (termsOf b setting g) (groupCells b (decrementsOf b setting) g)
 
-abbrev pub premiumIn : List ℕ → ℕ → ℕ → ℕ → ℕ
-premiumIn b setting g = discountedPremium rounded (termsOf b setting g) (groupCells b (decrementsOf b setting) g)
+abbrev pub yearPremium : List ℕ → ℕ → ℕ → ℕ → ℕ
+yearPremium b setting g = discountedPremium rounded (termsOf b setting g) (groupCells b (decrementsOf b setting) g)
 
 -- what the years from `from` to before `to` give: what those before `to` give, less those before `from`
-pub record SettledIn (b : List ℕ) (setting g from to : ℕ) (r : Amounts) : Type 0 where
-  pub outgo-is : sumYears rounded from (outgoIn b setting g) + r .outgo ≡ sumYears rounded to (outgoIn b setting g)
-  pub premium-is : sumYears rounded from (premiumIn b setting g) + r .premium ≡ sumYears rounded to (premiumIn b setting g)
+pub record AmountsIn (b : List ℕ) (setting g from to : ℕ) (r : Amounts) : Type 0 where
+  pub outgo-is : sumYears rounded from (yearOutgo b setting g) + r .outgo ≡ sumYears rounded to (yearOutgo b setting g)
+  pub premium-is : sumYears rounded from (yearPremium b setting g) + r .premium ≡ sumYears rounded to (yearPremium b setting g)
   -- so that two of them can be added
   pub outgo-most : r .outgo ≤ 9_000_000_000_000_000 * to
   pub premium-most : r .premium ≤ 9_000_000_000_000_000 * to

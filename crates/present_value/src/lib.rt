@@ -6,7 +6,7 @@ ghost use lib.ListN.{length};
 ghost use Rattle.book.specs.Reading.{ValidBook};
 ghost use Rattle.settings.specs.Settings.{projectionOf, SettingOf};
 ghost use Rattle.group_projection.specs.Added.{TableIn};
-ghost use Rattle.present_value.specs.Outcome.{CurveOf, Undiscounted, NoneFrom, Settled, SettledIn};
+ghost use Rattle.present_value.specs.Outcome.{CurveOf, Undiscounted, NoneFrom, GroupValued, AmountsIn};
 use cash_flow::Year;
 use settings::Setting;
 
@@ -69,9 +69,15 @@ pub fn undiscounted(
 }
 
 // The liability of a product group from its year sums; the first 200 numbers of the table become the fifty years'.
-pub fn settle(book: &[u8], s: Setting, group: usize, numbers: &[u64; 500], table: &mut [u64]) -> i64
+pub fn value_group(
+    book: &[u8],
+    s: Setting,
+    group: usize,
+    numbers: &[u64; 500],
+    table: &mut [u64],
+) -> i64
     requires { ⌜ SettingOf s × (1 ≤ group) × (group ≤ 5) × (200 ≤ length (now table)) × ValidBook 1 (now book) × TableIn (now book) (projectionOf (s .number)) group (now numbers) ⌝ }
-    ensures { λ r. ⌜ Settled (now (book .entry)) (s .number) group (now (table .entry)) (now (table .exit)) r ⌝ }
+    ensures { λ r. ⌜ GroupValued (now (book .entry)) (s .number) group (now (table .entry)) (now (table .exit)) r ⌝ }
 {
     let curve = curve_of(book);
     let divisors = curve.divisors;
@@ -89,8 +95,8 @@ pub fn settle(book: &[u8], s: Setting, group: usize, numbers: &[u64; 500], table
         let y = Year {
             premium: due[k],
             outgo: spent[k],
-            dpremium: premium[k],
-            doutgo: outgo[k],
+            discounted_premium: premium[k],
+            discounted_outgo: outgo[k],
         };
         cash_flow::put_year(table, k, y);
         paid = paid + outgo[k];
@@ -118,7 +124,7 @@ fn end_of(premium: &[u64; 50], outgo: &[u64; 50], from: usize, to: usize) -> usi
 }
 
 // What the years from `from` to before `to` give.
-pub fn settle_in(
+pub fn amounts_in(
     book: &[u8],
     divisors: &[u64; 50],
     fractions: &[u64; 50],
@@ -130,7 +136,7 @@ pub fn settle_in(
 ) -> Amounts
     requires { ⌜ SettingOf s × (1 ≤ group) × (group ≤ 5) × (from ≤ to) × (to ≤ 50) × ValidBook 1 (now book) × TableIn (now book) (projectionOf (s .number)) group (now numbers) ⌝ }
     requires { ⌜ CurveOf (now book) (now divisors) (now fractions) ⌝ }
-    ensures { λ r. ⌜ SettledIn (now (book .entry)) (s .number) group from to r ⌝ }
+    ensures { λ r. ⌜ AmountsIn (now (book .entry)) (s .number) group from to r ⌝ }
 {
     let setting = s.number;
     let years = undiscounted(book, s, group, numbers, from, to);

@@ -7,18 +7,18 @@ use borrow.Author.Count.{below-more}
 use lib.Dec.{eqb}
 use lib.ListN.{length, getD, set, length-set}
 use lib.Seq.{getD-set-same, getD-set-other}
-use Rattle.arith.specs.Fractions.{Fraction}
+use Rattle.arith.specs.Fractions.{IsFraction}
 use Rattle.book.specs.Rules.{RecordRules}
 use Rattle.book.specs.Layout.{classOf, fieldOf, lapseOffset}
 use Rattle.settings.specs.Settings.{ofSex, WeightsOf}
 use Rattle.settings.specs.declared.DecrementWeights.{DecrementWeights}
-use Rattle.settings.proofs.Laws.{pick-le}
+use Rattle.settings.proofs.Weights.{pick-le}
 use Rattle.valuation.specs.Portfolio.{mortalityOf, oneLess}
-use Rattle.rate_table.specs.Rows.{rate, fraction, livingAt, stayingAt, rateOf, RowOf}
+use Rattle.rate_table.specs.Rows.{rate, fraction, survivalAt, persistencyAt, rateOf, RowOf}
 use Rattle.rate_table.specs.Puts.{Put, Holds, Filled, RowPut}
 
 -- two stores
-pub put-both : (t : List ℕ) (at f v : ℕ) → at + 8 < length t → Fraction v 1_000_000_000 f → Put t (set (set t at f) (at + 8) v) at v
+pub put-both : (t : List ℕ) (at f v : ℕ) → at + 8 < length t → IsFraction v 1_000_000_000 f → Put t (set (set t at f) (at + 8) v) at v
 put-both t at f v h e =
     record {
       fraction-is = rw (getD-set-other (set t at f) (at + 8) at v 0 (λ q. omega arith), getD-set-same t at f 0 (omega arith)) e;
@@ -47,13 +47,13 @@ pub filled-none : (rates : ℕ → ℕ) (t : List ℕ) (r : ℕ) → Filled rate
 filled-none rates t r = record { holds = λ c l. absurd (omega arith); kept = λ j l. refl }
 
 -- what lives on and what stays of record i, from the weights as they were read
-pub living-is : (b : List ℕ) (sex i class m setting q : ℕ) (w : DecrementWeights) → class ≡ classOf b i → m ≡ mortalityOf b sex class
-    → WeightsOf b setting w → q ≡ ofSex sex w → oneLess m q ≡ livingAt b sex i setting
-living-is b sex i class m setting q w e f o g = rw (f, e, g, o .are)
+pub survival-is : (b : List ℕ) (sex i class m setting q : ℕ) (w : DecrementWeights) → class ≡ classOf b i → m ≡ mortalityOf b sex class
+    → WeightsOf b setting w → q ≡ ofSex sex w → oneLess m q ≡ survivalAt b sex i setting
+survival-is b sex i class m setting q w e f o g = rw (f, e, g, o .are)
 
-pub staying-is : (b : List ℕ) (i l setting : ℕ) (w : DecrementWeights) → l ≡ fieldOf b i lapseOffset → WeightsOf b setting w
-    → oneLess l (w .lapse) ≡ stayingAt b i setting
-staying-is b i l setting w e o = rw (e, o .are)
+pub persistency-is : (b : List ℕ) (i l setting : ℕ) (w : DecrementWeights) → l ≡ fieldOf b i lapseOffset → WeightsOf b setting w
+    → oneLess l (w .lapse) ≡ persistencyAt b i setting
+persistency-is b i l setting w e o = rw (e, o .are)
 
 -- no weight of a sex is above 1,300
 pub sex-most : (b : List ℕ) (setting sex q : ℕ) (w : DecrementWeights) → WeightsOf b setting w → q ≡ ofSex sex w → q ≤ 1300

@@ -35,9 +35,9 @@ repeated-more before t from j some late inside p =
 
 module _ (b : List ℕ) (chain i : ℕ) (s : Standing b 120 chain i) where
   -- at the last class
-  stays : (r : ℕ) → 120 ≤ classOf b i + r → rowAt b i (suc r) ≡ rowAt b i r
+  persists : (r : ℕ) → 120 ≤ classOf b i + r → rowAt b i (suc r) ≡ rowAt b i r
   unfolding rowAt
-  stays r h = rw (le-ltb (classOf b (rowAt b i r)) 120 (omega (arith, class-reached b chain i s r)))
+  persists r h = rw (le-ltb (classOf b (rowAt b i r)) 120 (omega (arith, class-reached b chain i s r)))
 
   -- the linked records' rows, and the last one from there on
   pub rows-repeated : (t u : List ℕ) → RowsBelow b chain i t (121 - classOf b i)
@@ -58,7 +58,7 @@ module _ (b : List ℕ) (chain i : ℕ) (s : Standing b 120 chain i) where
       onward r l o true e = read (suc r) (ltb-true _ _ e)
       onward r l o false e =
           let g : 121 - classOf b i ≤ suc r = ltb-false _ _ e in
-          rw (stays r (omega arith))
+          rw (persists r (omega arith))
           (row-same b (chainSex chain) (rowAt b i r) u u r (suc r) (λ c k. again _ _ (omega arith) (omega arith) (omega arith))
           (λ c k. again _ _ (omega arith) (omega arith) (omega arith)) o)
 

@@ -4,20 +4,20 @@ use mathlib.Core.List.{List}
 use mathlib.Core.Path.{_≡_}
 use Prim.Native.Nat.{ℕ, _+_, _-_, _*_, _≤_, _<_}
 use lib.ListN.{getD}
-use Rattle.arith.specs.Fractions.{Fraction}
+use Rattle.arith.specs.Fractions.{IsFraction}
 use Rattle.book.specs.Layout.{chainSex}
 use Rattle.valuation.specs.Portfolio.{oneLess, rowAt}
 use Rattle.rate_table.specs.Rows.{rate, fraction, RowOf}
 
 -- the fraction of a rate at a place and the rate eight places on
 pub record Put (before after : List ℕ) (at rate : ℕ) : Type 0 where
-  pub fraction-is : Fraction rate 1_000_000_000 (getD after at 0)
+  pub fraction-is : IsFraction rate 1_000_000_000 (getD after at 0)
   pub rate-is : getD after (at + 8) 0 ≡ rate
   pub kept : (j : ℕ) → (j ≡ at → ⊥) → (j ≡ at + 8 → ⊥) → getD after j 0 ≡ getD before j 0
 
 -- column c of row r holds a rate and its fraction
 pub record Holds (t : List ℕ) (r c v : ℕ) : Type 0 where
-  pub part : Fraction v 1_000_000_000 (fraction t r c)
+  pub part : IsFraction v 1_000_000_000 (fraction t r c)
   pub whole : rate t r c ≡ v
   pub most : v ≤ 1_000_000_000
 

@@ -8,7 +8,7 @@ use mathlib.Core.Path.{_≡_}
 use Prim.Native.Nat.{ℕ, _+_, _-_, _*_, _<_, _≤_}
 use lib.Dec.{eqb}
 use lib.ListN.{getD}
-use Rattle.arith.specs.Fractions.{Fraction}
+use Rattle.arith.specs.Fractions.{IsFraction}
 use Rattle.book.specs.Layout.{chainSex, classOf, fieldOf, lapseOffset, premiumOffset, claimsOffset}
 use Rattle.settings.specs.Settings.{decrementsAt, ofSex}
 use Rattle.valuation.specs.Portfolio.{mortalityOf, oneLess, rowAt}
@@ -22,34 +22,34 @@ fraction t r c = getD t (16 * r + c) 0
 
 -- a row by which shares can be taken: each fraction is its rate's, and the rates keep their ranges
 pub record RowReady (t : List ℕ) (r : ℕ) : Type 0 where
-  pub fractions : (c : ℕ) → c < 8 → Fraction (rate t r c) 1_000_000_000 (fraction t r c)
+  pub fractions : (c : ℕ) → c < 8 → IsFraction (rate t r c) 1_000_000_000 (fraction t r c)
   pub shares : (c : ℕ) → c < 6 → rate t r c ≤ 1_000_000_000
   pub premium : rate t r 6 ≤ 10_000_000
   pub claims : rate t r 7 ≤ 10_000_000
 
 -- of what lives on and of what stays, more deaths and more lapses leave the least, fewer the most
 pub record RowOrdered (t : List ℕ) (r : ℕ) : Type 0 where
-  pub more-deaths : rate t r 1 ≤ rate t r 0
-  pub fewer-deaths : rate t r 0 ≤ rate t r 2
-  pub more-lapses : rate t r 4 ≤ rate t r 3
-  pub fewer-lapses : rate t r 3 ≤ rate t r 5
+  pub mortality-up : rate t r 1 ≤ rate t r 0
+  pub mortality-down : rate t r 0 ≤ rate t r 2
+  pub lapse-up : rate t r 4 ≤ rate t r 3
+  pub lapse-down : rate t r 3 ≤ rate t r 5
 
 -- of record i of a chain of a sex, what lives on and what stays at the weights that a setting has in year 0
-abbrev pub livingAt : List ℕ → ℕ → ℕ → ℕ → ℕ
-livingAt b sex i setting = oneLess (mortalityOf b sex (classOf b i)) (ofSex sex (decrementsAt b setting 0))
+abbrev pub survivalAt : List ℕ → ℕ → ℕ → ℕ → ℕ
+survivalAt b sex i setting = oneLess (mortalityOf b sex (classOf b i)) (ofSex sex (decrementsAt b setting 0))
 
-abbrev pub stayingAt : List ℕ → ℕ → ℕ → ℕ
-stayingAt b i setting = oneLess (fieldOf b i lapseOffset) (decrementsAt b setting 0 .lapse)
+abbrev pub persistencyAt : List ℕ → ℕ → ℕ → ℕ
+persistencyAt b i setting = oneLess (fieldOf b i lapseOffset) (decrementsAt b setting 0 .lapse)
 
 -- the eight rates of record i of a chain of a sex
 unfoldable pub rateOf : List ℕ → ℕ → ℕ → ℕ → ℕ
 rateOf b sex i c =
-    cond (eqb c 0) (livingAt b sex i 0)
-    (cond (eqb c 1) (livingAt b sex i 1)
-    (cond (eqb c 2) (livingAt b sex i 2)
-    (cond (eqb c 3) (stayingAt b i 0)
-    (cond (eqb c 4) (stayingAt b i 3)
-    (cond (eqb c 5) (stayingAt b i 4)
+    cond (eqb c 0) (survivalAt b sex i 0)
+    (cond (eqb c 1) (survivalAt b sex i 1)
+    (cond (eqb c 2) (survivalAt b sex i 2)
+    (cond (eqb c 3) (persistencyAt b i 0)
+    (cond (eqb c 4) (persistencyAt b i 3)
+    (cond (eqb c 5) (persistencyAt b i 4)
     (cond (eqb c 6) (fieldOf b i premiumOffset) (fieldOf b i claimsOffset)))))))
 
 -- row r holds record i of a chain of a sex

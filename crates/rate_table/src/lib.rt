@@ -4,7 +4,7 @@
 ghost use mathlib.Core.Path.{_≡_};
 ghost use Prim.Native.Nat.{_+_, _-_, _*_, _<_, _≤_};
 ghost use lib.ListN.{length};
-ghost use Rattle.arith.specs.Fractions.{Fraction};
+ghost use Rattle.arith.specs.Fractions.{IsFraction};
 ghost use Rattle.book.specs.Layout.{chainSex, classOf};
 ghost use Rattle.book.specs.Reading.{Standing, ValidBook};
 ghost use Rattle.book.specs.Rules.{RecordRules};
@@ -41,7 +41,7 @@ fn one_less(rate: u64, weight: u64) -> u64
 // A rate in billionths as a fraction of 2^64, rounded down.
 fn fraction_of(rate: u64) -> u64
     requires { ⌜ rate ≤ 1000000000 ⌝ }
-    ensures { λ r. ⌜ Fraction rate 1000000000 r ⌝ }
+    ensures { λ r. ⌜ IsFraction rate 1000000000 r ⌝ }
 {
     if rate == 1_000_000_000 {
         return u64::MAX;
@@ -85,8 +85,8 @@ fn put_row(
     let sex = chain % 2;
     let mortality = mortality_of(book, sex, class);
     let deaths = w.base.of_sex(sex);
-    let more = w.moredeaths.of_sex(sex);
-    let fewer = w.fewerdeaths.of_sex(sex);
+    let more = w.mortality_up.of_sex(sex);
+    let fewer = w.mortality_down.of_sex(sex);
     put_three(rows, r, 0, mortality, deaths, more, fewer);
     let lapse = book::field_of(book, i, book::LAPSE_OFFSET);
     put_three(
@@ -95,8 +95,8 @@ fn put_row(
         3,
         lapse,
         w.base.lapse,
-        w.morelapses.lapse,
-        w.fewerlapses.lapse,
+        w.lapse_up.lapse,
+        w.lapse_down.lapse,
     );
     put(
         rows,

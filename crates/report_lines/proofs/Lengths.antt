@@ -6,7 +6,7 @@ use native.Mathlib.Numerals.{add-one}
 use native.Mathlib.Omega.{arith}
 use lib.ListN.{length, length-append}
 use Rattle.buffer.specs.Text.{decimal, ended, joined}
-use Rattle.buffer.proofs.Laws.{decimal-one, decimal-more, digits-most}
+use Rattle.buffer.proofs.Digits.{decimal-one, decimal-more, digits-most}
 use Rattle.report_lines.specs.Sheet.{sheetLine}
 
 -- a number has one digit, or one more than its tenth

@@ -9,35 +9,35 @@ use Rattle.verdict.specs.Verdicts.{need, _andThen_, refusalOf}
 use Rattle.verdict.specs.declared.Verdict.the-variants.{Accepted, Refused}
 use Rattle.signed.specs.Signs.{isNegative}
 use Rattle.risk_model.specs.declared.RiskModel.{RiskModel}
-use Rattle.risk_model.specs.Model.{modelRight}
+use Rattle.risk_model.specs.Model.{modelValid}
 use Rattle.risk_model.proofs.Rules.{model-correlation, correlation-most}
-use Rattle.risk_form.specs.Root.{WholeRoot}
+use Rattle.risk_form.specs.Root.{IntegerSquareRoot}
 use Rattle.risk_form.proofs.Bounds.{form-most, root-most}
 use Rattle.risk_form.proofs.Squares.{root-whole}
 use Rattle.risk_factors.specs.Factors.{factorsOf}
-use Rattle.risk_factors.specs.Form.{formFor, inThousands}
+use Rattle.risk_factors.specs.Form.{formFor, formOverThousand}
 use Rattle.risk_factors.specs.Refusals.{factorsSmall, checkFactors}
-use Rattle.risk_factors.specs.Replies.{deviationFor, replyFor, factorsReply}
+use Rattle.risk_factors.specs.Replies.{deviationFor, deviationReplyFor, factorsReply}
 use Rattle.risk_factors.proofs.Sizes.{factors-most}
 
 -- no test refuses
 pub record Passed (differences : List ℤ) (m : RiskModel) : Type 0 where
-  pub model : modelRight m ≡ true
+  pub model : modelValid m ≡ true
   pub small : factorsSmall (factorsOf differences (m .coefficients)) ≡ true
   pub form : isNegative (formFor differences m) ≡ false
 
 module _ (differences : List ℤ) (m : RiskModel) where
-  pub replied-29 : modelRight m ≡ false → factorsReply differences m ≡ replyFor (Refused 29 0) 0
+  pub replied-29 : modelValid m ≡ false → factorsReply differences m ≡ deviationReplyFor (Refused 29 0) 0
   unfolding factorsReply checkFactors need _andThen_
   replied-29 model = rw model
 
-  pub replied-30 : modelRight m ≡ true → factorsSmall (factorsOf differences (m .coefficients)) ≡ false
-      → factorsReply differences m ≡ replyFor (Refused 30 0) 0
+  pub replied-30 : modelValid m ≡ true → factorsSmall (factorsOf differences (m .coefficients)) ≡ false
+      → factorsReply differences m ≡ deviationReplyFor (Refused 30 0) 0
   unfolding factorsReply checkFactors need _andThen_
   replied-30 model small = rw (model, small)
 
-  pub replied-31 : modelRight m ≡ true → factorsSmall (factorsOf differences (m .coefficients)) ≡ true
-      → isNegative (formFor differences m) ≡ true → factorsReply differences m ≡ replyFor (Refused 31 0) 0
+  pub replied-31 : modelValid m ≡ true → factorsSmall (factorsOf differences (m .coefficients)) ≡ true
+      → isNegative (formFor differences m) ≡ true → factorsReply differences m ≡ deviationReplyFor (Refused 31 0) 0
   unfolding factorsReply checkFactors need _andThen_
   replied-31 model small form = rw (model, small, form)
 
@@ -46,7 +46,7 @@ module _ (differences : List ℤ) (m : RiskModel) where
   passed-accepted p = rw (p .model, p .small, p .form)
 
   pub replied-root : Passed differences m
-      → factorsReply differences m ≡ replyFor (Accepted 0) (deviationFor differences m)
+      → factorsReply differences m ≡ deviationReplyFor (Accepted 0) (deviationFor differences m)
   unfolding factorsReply
   replied-root p = rw (passed-accepted p)
 
@@ -55,7 +55,7 @@ module _ (differences : List ℤ) (m : RiskModel) where
   unfolding checkFactors need _andThen_
   passed z = by _ _ _ refl refl refl z
     where
-      by : (t s n : Bool) → modelRight m ≡ t → factorsSmall (factorsOf differences (m .coefficients)) ≡ s
+      by : (t s n : Bool) → modelValid m ≡ t → factorsSmall (factorsOf differences (m .coefficients)) ≡ s
           → isNegative (formFor differences m) ≡ n
           → refusalOf (need t 29 0 andThen need s 30 0 andThen need (not n) 31 0) ≡ 0 → Passed differences m
       by true true false et es en z = record { model = et; small = es; form = en }
@@ -63,9 +63,9 @@ module _ (differences : List ℤ) (m : RiskModel) where
       by true false n et es en z = absurd (omega (arith, z))
       by false s n et es en z = absurd (omega (arith, z))
 
-  pub root-known : WholeRoot (inThousands (formFor differences m)) (deviationFor differences m)
+  pub root-known : IntegerSquareRoot (formOverThousand (formFor differences m)) (deviationFor differences m)
   unfolding deviationFor
-  root-known = root-whole (inThousands (formFor differences m))
+  root-known = root-whole (formOverThousand (formFor differences m))
 
   -- four factors of 1,000,000 and correlations of 1,000: a form of 16 x 10^15, and a root of 4,000,000
   pub deviation-most : Passed differences m → deviationFor differences m ≤ 4_000_000
@@ -73,5 +73,5 @@ module _ (differences : List ℤ) (m : RiskModel) where
   deviation-most p =
       let most : natAbs (formFor differences m) ≤ 16_000_000_000_000_000 =
       form-most _ _ (correlation-most _ (model-correlation m (p .model))) (factors-most _ (p .small)) in
-      root-most (inThousands (formFor differences m)) (deviationFor differences m) 4_000_000 root-known
+      root-most (formOverThousand (formFor differences m)) (deviationFor differences m) 4_000_000 root-known
       (omega (arith, most))

@@ -34,8 +34,8 @@ scaled-sign (negsuc n) c span =
 
 -- whatever 64 bits hold of a difference, no step of its factor passes 64 bits: its hundred-thousandth m is this at most
 module _ (m c span : ℕ) (few : m ≤ 92233720368548) (small : c ≤ 1000000) (low : 50 ≤ span) (high : span ≤ 600) where
-  pub scaled-room : m / (1000 * span) * c + 1000 * span * c < 18446744073709551616
-  scaled-room =
+  pub scaled-capacity : m / (1000 * span) * c + 1000 * span * c < 18446744073709551616
+  scaled-capacity =
       let q : m / (1000 * span) ≤ 1844674408 = div-le-of-le-mul (1000 * span) (omega arith) in
       omega (
         arith,

@@ -11,5 +11,5 @@ unfoldable pub formFor : List ℤ → RiskModel → ℤ
 formFor differences m = formOf (m .correlation) (factorsOf differences (m .coefficients))
 
 -- a form that is not negative divided by 1,000, rounded down: the correlations are in thousandths
-abbrev pub inThousands : ℤ → ℕ
-inThousands form = natAbs form / 1000
+abbrev pub formOverThousand : ℤ → ℕ
+formOverThousand form = natAbs form / 1000

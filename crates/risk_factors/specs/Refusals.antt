@@ -8,7 +8,7 @@ use Rattle.verdict.specs.Verdicts.{need, _andThen_}
 use Rattle.verdict.specs.declared.Verdict.{Verdict}
 use Rattle.conditions.specs.Every.{every}
 use Rattle.signed.specs.Signs.{numberAt, isNegative}
-use Rattle.risk_model.specs.Model.{modelRight}
+use Rattle.risk_model.specs.Model.{modelValid}
 use Rattle.risk_model.specs.declared.RiskModel.{RiskModel}
 use Rattle.risk_factors.specs.Factors.{factorsOf}
 use Rattle.risk_factors.specs.Form.{formFor}
@@ -20,6 +20,6 @@ factorsSmall f = every (λ i. leb (natAbs (numberAt f i)) 1_000_000) 4
 -- the verdict on four differences and a model: 31 where the form is negative
 unfoldable pub checkFactors : List ℤ → RiskModel → Verdict
 checkFactors differences m =
-    need (modelRight m) 29 0 andThen
+    need (modelValid m) 29 0 andThen
     need (factorsSmall (factorsOf differences (m .coefficients))) 30 0 andThen
     need (not (isNegative (formFor differences m))) 31 0

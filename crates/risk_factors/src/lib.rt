@@ -6,7 +6,7 @@ ghost use Rattle.verdict.specs.declared.Verdict.the-variants.{Refused};
 ghost use Rattle.risk_model.specs.Model.{coefficientsRight};
 ghost use Rattle.risk_factors.specs.Factors.{scaledOf, factorsOf};
 ghost use Rattle.risk_factors.specs.Refusals.{factorsSmall};
-ghost use Rattle.risk_factors.specs.Replies.{replyFor, factorsReply};
+ghost use Rattle.risk_factors.specs.Replies.{deviationReplyFor, factorsReply};
 use risk_model::RiskModel;
 use signed::Signed;
 use signed::of_four;
@@ -52,7 +52,7 @@ fn factors_small(f: &[i64; 4]) -> bool
 }
 
 fn refused(number: u64) -> DeviationReply
-    ensures { λ r. ⌜ r ≡ replyFor (Refused number 0) 0 ⌝ }
+    ensures { λ r. ⌜ r ≡ deviationReplyFor (Refused number 0) 0 ⌝ }
 {
     DeviationReply {
         refusal: number,
@@ -66,7 +66,7 @@ fn refused(number: u64) -> DeviationReply
 pub fn of_differences(differences: &[i64; 4], model: RiskModel) -> DeviationReply
     ensures { λ r. ⌜ r ≡ factorsReply (now (differences .entry)) model ⌝ }
 {
-    if !risk_model::model_right(model) {
+    if !risk_model::model_valid(model) {
         return refused(29);
     }
     let coefficients = model.coefficients;

@@ -13,7 +13,7 @@ use Rattle.signed.specs.Signs.{numberAt, SizesTo}
 use Rattle.signed.proofs.Sizes.{abs-plus, abs-times}
 use Rattle.risk_model.specs.Model.{correlationAt}
 use Rattle.risk_form.specs.Form.{termOf, sumBelow, formOf}
-use Rattle.risk_form.specs.Root.{WholeRoot}
+use Rattle.risk_form.specs.Root.{IntegerSquareRoot}
 
 -- a sum of numbers of which none passes m either way
 pub sum-most : (f : ℕ → ℤ) (m n : ℕ) → ((i : ℕ) → i < n → natAbs (f i) ≤ m) → natAbs (sumBelow f n) ≤ m * n
@@ -51,7 +51,7 @@ module _ (r f : List ℤ) (known : SizesTo 16 1000 r) (small : SizesTo 4 1_000_0
   form-most = omega (arith, rows-most 4 (omega arith))
 
 -- a root is at most the root of the bound
-pub root-most : (q r m : ℕ) → WholeRoot q r → q < (m + 1) * (m + 1) → r ≤ m
+pub root-most : (q r m : ℕ) → IntegerSquareRoot q r → q < (m + 1) * (m + 1) → r ≤ m
 root-most q r m h low = by (leb r m) (leb-true r m) (leb-false r m)
   where
     by : (t : Bool) → (t ≡ true → r ≤ m) → (t ≡ false → m < r) → r ≤ m

@@ -13,6 +13,6 @@ unfoldable pub rootOf : ℕ → ℕ
 rootOf q = rootUpTo q q
 
 -- what makes r the whole root of q: its square is at most q, and the next whole number's square is above
-pub record WholeRoot (q r : ℕ) : Type 0 where
+pub record IntegerSquareRoot (q r : ℕ) : Type 0 where
   pub at-most : r * r ≤ q
   pub next-above : q < (r + 1) * (r + 1)

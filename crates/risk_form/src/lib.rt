@@ -3,7 +3,7 @@ ghost use mathlib.Core.Path.{_≡_};
 ghost use Prim.Native.Nat.{_<_};
 ghost use Rattle.signed.specs.Signs.{SizesTo};
 ghost use Rattle.risk_form.specs.Form.{termOf, sumBelow, formOf};
-ghost use Rattle.risk_form.specs.Root.{WholeRoot};
+ghost use Rattle.risk_form.specs.Root.{IntegerSquareRoot};
 use signed::Signed;
 use signed::of_four;
 use signed::of_sixteen;
@@ -47,7 +47,7 @@ pub fn form(correlation: &[i64; 16], f: &[i64; 4]) -> Signed
 
 // The whole root, by halving.
 pub fn root(q: u64) -> u64
-    ensures { λ r. ⌜ WholeRoot q r ⌝ }
+    ensures { λ r. ⌜ IntegerSquareRoot q r ⌝ }
 {
     let mut low: u64 = 0;
     let mut high: u64 = 4_294_967_296;

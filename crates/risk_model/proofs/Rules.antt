@@ -14,16 +14,16 @@ use Rattle.conditions.proofs.Every.{every-holds, every-good}
 use Rattle.signed.specs.Signs.{same, SizesTo}
 use Rattle.signed.proofs.Same.{same-means, same-good}
 use Rattle.risk_model.specs.declared.RiskModel.{RiskModel}
-use Rattle.risk_model.specs.Model.{coefficientsRight, correlationAt, rightAt, correlationRight, modelRight}
+use Rattle.risk_model.specs.Model.{coefficientsRight, correlationAt, rightAt, correlationRight, modelValid}
 use Rattle.risk_model.specs.Model.{CorrelationRules}
 
 -- a model that passes 29
-pub model-coefficients : (m : RiskModel) → modelRight m ≡ true → coefficientsRight (m .coefficients) ≡ true
-unfolding modelRight
+pub model-coefficients : (m : RiskModel) → modelValid m ≡ true → coefficientsRight (m .coefficients) ≡ true
+unfolding modelValid
 model-coefficients m e = and-left _ (correlationRight (m .correlation)) e
 
-pub model-correlation : (m : RiskModel) → modelRight m ≡ true → correlationRight (m .correlation) ≡ true
-unfolding modelRight
+pub model-correlation : (m : RiskModel) → modelValid m ≡ true → correlationRight (m .correlation) ≡ true
+unfolding modelValid
 model-correlation m e = and-right (coefficientsRight (m .coefficients)) _ e
 
 pub coefficients-most : (cs : List ℕ) → coefficientsRight cs ≡ true → (i : ℕ) → i < 4 → getD cs i 0 ≤ 1000000

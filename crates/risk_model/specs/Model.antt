@@ -30,8 +30,8 @@ unfoldable pub correlationRight : List ℤ → Bool
 correlationRight r = every (λ k. rightAt r (k / 4) (k % 4)) 16
 
 -- 29 where not
-unfoldable pub modelRight : RiskModel → Bool
-modelRight m = coefficientsRight (m .coefficients) && correlationRight (m .correlation)
+unfoldable pub modelValid : RiskModel → Bool
+modelValid m = coefficientsRight (m .coefficients) && correlationRight (m .correlation)
 
 -- the rules of a correlation one by one: `correlation-rules` and `rules-right` (proofs/Rules) show that it is these
 pub record CorrelationRules (r : List ℤ) : Type 0 where

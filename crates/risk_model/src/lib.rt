@@ -2,7 +2,7 @@
 // rules that they keep.
 ghost use mathlib.Core.Path.{_≡_};
 ghost use Prim.Native.Nat.{_<_};
-ghost use Rattle.risk_model.specs.Model.{coefficientsRight, rightAt, correlationRight, modelRight};
+ghost use Rattle.risk_model.specs.Model.{coefficientsRight, rightAt, correlationRight, modelValid};
 use signed::Signed;
 use signed::of_sixteen;
 
@@ -18,7 +18,7 @@ const MOST_COEFFICIENT: u64 = 1_000_000;
 
 const MOST_CORRELATION: u64 = 1000;
 
-fn coefficients_right(coefficients: &[u64; 4]) -> bool
+fn coefficients_valid(coefficients: &[u64; 4]) -> bool
     ensures { λ r. ⌜ r ≡ coefficientsRight (now (coefficients .entry)) ⌝ }
 {
     (coefficients[0] <= MOST_COEFFICIENT)
@@ -27,7 +27,7 @@ fn coefficients_right(coefficients: &[u64; 4]) -> bool
         & (coefficients[3] <= MOST_COEFFICIENT)
 }
 
-fn right_at(correlation: &[i64; 16], i: usize, j: usize) -> bool
+fn valid_at(correlation: &[i64; 16], i: usize, j: usize) -> bool
     requires { ⌜ (i < 4) × (j < 4) ⌝ }
     ensures { λ r. ⌜ r ≡ rightAt (now (correlation .entry)) i j ⌝ }
 {
@@ -37,21 +37,21 @@ fn right_at(correlation: &[i64; 16], i: usize, j: usize) -> bool
     (x.size() <= MOST_CORRELATION) & x.same(mirrored) & (!(i == j) | x.same(one))
 }
 
-fn correlation_right(correlation: &[i64; 16]) -> bool
+fn correlation_valid(correlation: &[i64; 16]) -> bool
     ensures { λ r. ⌜ r ≡ correlationRight (now (correlation .entry)) ⌝ }
 {
     let mut right = true;
     for k in 0usize..16 {
-        right = right & right_at(correlation, k / 4, k % 4);
+        right = right & valid_at(correlation, k / 4, k % 4);
     }
     right
 }
 
 // 29 looks at the whole model.
-pub fn model_right(model: RiskModel) -> bool
-    ensures { λ r. ⌜ r ≡ modelRight model ⌝ }
+pub fn model_valid(model: RiskModel) -> bool
+    ensures { λ r. ⌜ r ≡ modelValid model ⌝ }
 {
     let coefficients = model.coefficients;
     let correlation = model.correlation;
-    coefficients_right(&coefficients) & correlation_right(&correlation)
+    coefficients_valid(&coefficients) & correlation_valid(&correlation)
 }

@@ -5,20 +5,20 @@ use Prim.Native.Nat.{ℕ, _≤_}
 use native.Mathlib.Omega.{arith}
 use lib.Dec.{ltb, eqb}
 use Rattle.settings.specs.Settings.{weightIn, weightOf, sameMortality, livingColumn, stayingColumn, columnsOf, livesIn, staysIn}
-use Rattle.settings.proofs.Laws.{pick-le}
+use Rattle.settings.proofs.Weights.{pick-le}
 
 module _ (setting k : ℕ) where
-  pub living-low : livingColumn setting k ≤ 2
+  pub survival-low : livingColumn setting k ≤ 2
   unfolding livingColumn
-  living-low = pick-le (sameMortality setting k 0) 2 (omega arith) (pick-le (sameMortality setting k 1) 2 (omega arith) (omega arith))
+  survival-low = pick-le (sameMortality setting k 0) 2 (omega arith) (pick-le (sameMortality setting k 1) 2 (omega arith) (omega arith))
 
-  pub staying-low : stayingColumn setting k ≤ 5
+  pub persistency-low : stayingColumn setting k ≤ 5
   unfolding stayingColumn
-  staying-low = pick-le (eqb (weightOf setting 2 k) (weightOf 0 2 0)) 5 (omega arith) (pick-le (eqb (weightOf setting 2 k) (weightOf 3 2 0)) 5 (omega arith) (omega arith))
+  persistency-low = pick-le (eqb (weightOf setting 2 k) (weightOf 0 2 0)) 5 (omega arith) (pick-le (eqb (weightOf setting 2 k) (weightOf 3 2 0)) 5 (omega arith) (omega arith))
 
-  pub lives-is : livesIn (columnsOf setting) k ≡ livingColumn setting k
+  pub survives-is : livesIn (columnsOf setting) k ≡ livingColumn setting k
   unfolding columnsOf livingColumn sameMortality weightOf
-  lives-is = by (ltb k 5)
+  survives-is = by (ltb k 5)
     where
       same : Bool → ℕ → Bool
       same t weight = eqb (weightIn t setting 0) weight && eqb (weightIn t setting 1) weight
@@ -30,9 +30,9 @@ module _ (setting k : ℕ) where
       by true = refl
       by false = refl
 
-  pub stays-is : staysIn (columnsOf setting) k ≡ stayingColumn setting k
+  pub persists-is : staysIn (columnsOf setting) k ≡ stayingColumn setting k
   unfolding columnsOf stayingColumn weightOf
-  stays-is = by (ltb k 5)
+  persists-is = by (ltb k 5)
     where
       of : Bool → ℕ
       of t = cond (eqb (weightIn t setting 2) 1000) 3 (cond (eqb (weightIn t setting 2) 1300) 4 5)

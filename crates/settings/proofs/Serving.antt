@@ -9,7 +9,7 @@ use borrow.Author.Tests.{eqb-true}
 use Rattle.settings.specs.Settings.{weightOf, mortalityWeight, sameMortality, livingColumn, stayingColumn, columnsOf, sameColumns}
 use Rattle.settings.specs.Settings.{decrementsOf, outgoingsOf, projectionOf, SettingOf, laterAs}
 use Rattle.settings.specs.declared.Setting.{Setting}
-use Rattle.settings.proofs.Laws.{pick-le, each-setting}
+use Rattle.settings.proofs.Weights.{pick-le, each-setting}
 
 -- a setting has the weights of mortality and lapse of the projection that serves it
 pub served : (b : List ℕ) (setting : ℕ) → setting < 8 → decrementsOf b (projectionOf setting) ≡ decrementsOf b setting

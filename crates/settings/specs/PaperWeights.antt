@@ -3,7 +3,7 @@ use mathlib.Core.Path.{_≡_}
 use mathlib.Core.List.{List}
 use Prim.Native.Nat.{ℕ, _*_, _<_, _≤_}
 use Rattle.book.specs.Layout.{edition, percentAt}
-use Rattle.settings.specs.Settings.{decrementsOf, outgoingsOf, mortalityIn, lapseIn, costsIn, claimsIn}
+use Rattle.settings.specs.Settings.{decrementsOf, outgoingsOf, mortalityIn, lapseIn, costsIn, claimsWeightIn}
 
 -- the weights of one year, in thousandths
 pub record YearWeights : Type 0 where
@@ -20,7 +20,7 @@ weightsAt b setting k = record {
   women = mortalityIn (decrementsOf b setting) 1 k;
   lapse = lapseIn (decrementsOf b setting) k;
   costs = costsIn (outgoingsOf setting) k;
-  claims = claimsIn (outgoingsOf setting) k;
+  claims = claimsWeightIn (outgoingsOf setting) k;
 }
 
 -- the weights of mortality: in the base, and where setting 1 or 2 shifts them

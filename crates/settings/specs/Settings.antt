@@ -83,8 +83,8 @@ abbrev pub costsIn : Outgoings → ℕ → ℕ
 costsIn w k = cond (ltb k 5) (w .first .costs) (w .later .costs)
 
 -- the weight of the claims in the year k
-abbrev pub claimsIn : Outgoings → ℕ → ℕ
-claimsIn w k = cond (ltb k 5) (w .first .claims) (w .later .claims)
+abbrev pub claimsWeightIn : Outgoings → ℕ → ℕ
+claimsWeightIn w k = cond (ltb k 5) (w .first .claims) (w .later .claims)
 
 -- w are the weights of mortality and lapse of a setting in year 0, none of them above 1,300 thousandths
 pub record WeightsOf (b : List ℕ) (setting : ℕ) (w : DecrementWeights) : Type 0 where
@@ -96,10 +96,10 @@ pub record WeightsOf (b : List ℕ) (setting : ℕ) (w : DecrementWeights) : Typ
 -- those of the base and of the four settings that shift mortality or lapse
 pub record ShiftsOf (b : List ℕ) (w : Shifts) : Type 0 where
   pub base : WeightsOf b 0 (w .base)
-  pub more-deaths : WeightsOf b 1 (w .moredeaths)
-  pub fewer-deaths : WeightsOf b 2 (w .fewerdeaths)
-  pub more-lapses : WeightsOf b 3 (w .morelapses)
-  pub fewer-lapses : WeightsOf b 4 (w .fewerlapses)
+  pub mortality-up : WeightsOf b 1 (w .«mortality_up»)
+  pub mortality-down : WeightsOf b 2 (w .«mortality_down»)
+  pub lapse-up : WeightsOf b 3 (w .«lapse_up»)
+  pub lapse-down : WeightsOf b 4 (w .«lapse_down»)
 
 -- no weight of costs is above 1,200 thousandths, none of claims above 1,050
 pub record OutgoWeighed (w : Outgoings) : Type 0 where
@@ -140,10 +140,10 @@ staysIn c k = cond (ltb k 5) (c .firststays) (c .laterstays)
 unfoldable pub fiveColumns : FiveColumns
 fiveColumns = record {
   base = columnsOf 0;
-  moredeaths = columnsOf 1;
-  fewerdeaths = columnsOf 2;
-  morelapses = columnsOf 3;
-  fewerlapses = columnsOf 4;
+  «mortality_up» = columnsOf 1;
+  «mortality_down» = columnsOf 2;
+  «lapse_up» = columnsOf 3;
+  «lapse_down» = columnsOf 4;
 }
 
 -- the columns of a setting, in first and later years, are those of another

@@ -5,7 +5,7 @@ ghost use Prim.Native.Nat.{_<_, _≤_};
 ghost use Rattle.book.specs.Reading.{ValidBook};
 ghost use Rattle.settings.specs.Settings.{weightOf, percentOf, mortalityWeight, decrementsAt, outgoAt, outgoingsOf};
 ghost use Rattle.settings.specs.Settings.{livingColumn, stayingColumn, columnsOf, livesIn, staysIn, fiveColumns};
-ghost use Rattle.settings.specs.Settings.{ofSex, costsIn, claimsIn, ShiftsOf, OutgoWeighed};
+ghost use Rattle.settings.specs.Settings.{ofSex, costsIn, claimsWeightIn, ShiftsOf, OutgoWeighed};
 ghost use Rattle.settings.specs.Settings.{sameMortality, sameColumns, projectionOf, SettingOf, laterAs};
 
 // The kinds of weight. Mortality has the number of its sex, and its weight is so much for each percent.
@@ -187,10 +187,10 @@ pub struct Decrements {
 // setting.
 pub struct Shifts {
     pub base: DecrementWeights,
-    pub moredeaths: DecrementWeights,
-    pub fewerdeaths: DecrementWeights,
-    pub morelapses: DecrementWeights,
-    pub fewerlapses: DecrementWeights,
+    pub mortality_up: DecrementWeights,
+    pub mortality_down: DecrementWeights,
+    pub lapse_up: DecrementWeights,
+    pub lapse_down: DecrementWeights,
 }
 
 impl Shifts {
@@ -199,16 +199,16 @@ impl Shifts {
         ensures { λ r. ⌜ ShiftsOf (now (book .entry)) r ⌝ }
     {
         let base = DecrementWeights::new(book, 0, 0);
-        let moredeaths = DecrementWeights::new(book, 1, 0);
-        let fewerdeaths = DecrementWeights::new(book, 2, 0);
-        let morelapses = DecrementWeights::new(book, 3, 0);
-        let fewerlapses = DecrementWeights::new(book, 4, 0);
+        let mortality_up = DecrementWeights::new(book, 1, 0);
+        let mortality_down = DecrementWeights::new(book, 2, 0);
+        let lapse_up = DecrementWeights::new(book, 3, 0);
+        let lapse_down = DecrementWeights::new(book, 4, 0);
         Shifts {
             base,
-            moredeaths,
-            fewerdeaths,
-            morelapses,
-            fewerlapses,
+            mortality_up,
+            mortality_down,
+            lapse_up,
+            lapse_down,
         }
     }
 }
@@ -262,7 +262,7 @@ impl Outgoings {
     // The weight of the claims in the year k.
     pub fn claims_weight(self, k: usize) -> u64
         requires { ⌜ OutgoWeighed self ⌝ }
-        ensures { λ r. ⌜ (r ≡ claimsIn self k) × (r ≤ 1050) ⌝ }
+        ensures { λ r. ⌜ (r ≡ claimsWeightIn self k) × (r ≤ 1050) ⌝ }
     {
         if k < 5 {
             self.first.claims
@@ -283,7 +283,7 @@ fn same_mortality(setting: usize, k: usize, other: usize) -> bool
 
 // Of the columns of a chain's rows, the one of what lives on in year k of a setting: that of the weights which hold, 0 the
 // base's, 1 of more deaths, 2 of fewer.
-fn living_column(setting: usize, k: usize) -> usize
+fn survival_column(setting: usize, k: usize) -> usize
     requires { ⌜ setting < 8 ⌝ }
     ensures { λ r. ⌜ r ≡ livingColumn setting k ⌝ }
 {
@@ -294,7 +294,7 @@ fn living_column(setting: usize, k: usize) -> usize
 }
 
 // The one of what stays: 3 the base's, 4 of more lapses, 5 of fewer.
-fn staying_column(setting: usize, k: usize) -> usize
+fn persistency_column(setting: usize, k: usize) -> usize
     requires { ⌜ setting < 8 ⌝ }
     ensures { λ r. ⌜ r ≡ stayingColumn setting k ⌝ }
 {
@@ -321,15 +321,15 @@ impl Columns {
         ensures { λ r. ⌜ r ≡ columnsOf setting ⌝ }
     {
         Columns {
-            firstlives: living_column(setting, 0),
-            firststays: staying_column(setting, 0),
-            laterlives: living_column(setting, 5),
-            laterstays: staying_column(setting, 5),
+            firstlives: survival_column(setting, 0),
+            firststays: persistency_column(setting, 0),
+            laterlives: survival_column(setting, 5),
+            laterstays: persistency_column(setting, 5),
         }
     }
 
     // The column of what lives on in the year k.
-    pub fn lives(self, k: usize) -> usize
+    pub fn survives(self, k: usize) -> usize
         ensures { λ r. ⌜ r ≡ livesIn self k ⌝ }
     {
         if k < 5 {
@@ -340,7 +340,7 @@ impl Columns {
     }
 
     // The column of what stays in the year k.
-    pub fn stays(self, k: usize) -> usize
+    pub fn persists(self, k: usize) -> usize
         ensures { λ r. ⌜ r ≡ staysIn self k ⌝ }
     {
         if k < 5 {
@@ -366,10 +366,10 @@ impl Columns {
 // Those of the five settings whose projections serve all.
 pub struct FiveColumns {
     pub base: Columns,
-    pub moredeaths: Columns,
-    pub fewerdeaths: Columns,
-    pub morelapses: Columns,
-    pub fewerlapses: Columns,
+    pub mortality_up: Columns,
+    pub mortality_down: Columns,
+    pub lapse_up: Columns,
+    pub lapse_down: Columns,
 }
 
 impl FiveColumns {
@@ -377,16 +377,16 @@ impl FiveColumns {
         ensures { λ r. ⌜ r ≡ fiveColumns ⌝ }
     {
         let base = Columns::new(0);
-        let moredeaths = Columns::new(1);
-        let fewerdeaths = Columns::new(2);
-        let morelapses = Columns::new(3);
-        let fewerlapses = Columns::new(4);
+        let mortality_up = Columns::new(1);
+        let mortality_down = Columns::new(2);
+        let lapse_up = Columns::new(3);
+        let lapse_down = Columns::new(4);
         FiveColumns {
             base,
-            moredeaths,
-            fewerdeaths,
-            morelapses,
-            fewerlapses,
+            mortality_up,
+            mortality_down,
+            lapse_up,
+            lapse_down,
         }
     }
 }

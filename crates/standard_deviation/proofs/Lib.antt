@@ -1,2 +1,2 @@
-pub mod Promised
+pub mod DeviationContract
 pub mod Unlinked

@@ -14,7 +14,7 @@ use Rattle.valuation.specs.declared.TotalsReply.{TotalsReply}
 use Rattle.valuation.proofs.Unlinked.{totals-same}
 use Rattle.risk_model.specs.declared.RiskModel.{RiskModel}
 use Rattle.risk_factors.specs.Refusals.{checkFactors}
-use Rattle.risk_factors.specs.Replies.{deviationFor, replyFor, factorsReply}
+use Rattle.risk_factors.specs.Replies.{deviationFor, deviationReplyFor, factorsReply}
 use Rattle.standard_deviation.specs.Deviation.{checkDeviation, deviationReply}
 
 -- the differences of an accepted book are those of its Totals
@@ -27,8 +27,8 @@ unfolding deviationReply checkDeviation factorsReply _andThen_
 deviation-same b b′ s m = rw (← (unlinked-same b b′ s 1)) (by (checkBook 1 b) refl)
   where
     by : (v : Verdict) → checkBook 1 b ≡ v
-        → replyFor (v andThen checkFactors (differencesOf b) m) (deviationFor (differencesOf b) m)
-        ≡ replyFor (v andThen checkFactors (differencesOf b′) m) (deviationFor (differencesOf b′) m)
+        → deviationReplyFor (v andThen checkFactors (differencesOf b) m) (deviationFor (differencesOf b) m)
+        ≡ deviationReplyFor (v andThen checkFactors (differencesOf b′) m) (deviationFor (differencesOf b′) m)
     by (Accepted n) e =
         ap (λ (differences : List ℤ). factorsReply differences m)
         (sym (reply-differences b n e)

@@ -9,7 +9,7 @@ use settings::Shifts;
 use verdict::Verdict;
 
 pub enum Years {
-    Reckoned(usize),
+    Computed(usize),
     NoCell,
 }
 
@@ -19,22 +19,22 @@ fn years_of(counts: Counts, setting: usize) -> usize
 {
     let projection = settings::projection_of(setting);
     if projection == 1 {
-        return counts.moredeaths;
+        return counts.mortality_up;
     }
     if projection == 2 {
-        return counts.fewerdeaths;
+        return counts.mortality_down;
     }
     if projection == 3 {
-        return counts.morelapses;
+        return counts.lapse_up;
     }
     if projection == 4 {
-        return counts.fewerlapses;
+        return counts.lapse_down;
     }
     counts.base
 }
 
 // The walk of the first cell of a chain of an accepted book.
-fn first_walk(book: &[u8], setting: usize, chain: usize) -> Years {
+fn first_projection(book: &[u8], setting: usize, chain: usize) -> Years {
     if 7 < setting {
         return Years::NoCell;
     }
@@ -53,13 +53,13 @@ fn first_walk(book: &[u8], setting: usize, chain: usize) -> Years {
     let mut sums = [0u64; 500];
     rate_table::read_rows(book, Shifts::new(book), chain, head, &mut rows);
     let count = book::field_of(book, head, book::COUNT_OFFSET);
-    let counts = cell_projection::walk(&rows, 0, count, FiveColumns::new(), &mut sums);
-    Years::Reckoned(years_of(counts, setting))
+    let counts = cell_projection::project(&rows, 0, count, FiveColumns::new(), &mut sums);
+    Years::Computed(years_of(counts, setting))
 }
 
 fn write_years(years: Years) {
     match years {
-        Years::Reckoned(n) => {
+        Years::Computed(n) => {
             io::print_decimal(STDOUT_FILENO, n as u64);
         }
         Years::NoCell => {
@@ -70,7 +70,7 @@ fn write_years(years: Years) {
 }
 
 // One entry; false where the stream has ended.
-fn next_walk() -> bool {
+fn next_cell() -> bool {
     let mut head = [0u8; 20];
     if io::read_full(STDIN_FILENO, &mut head) < 20 {
         return false;
@@ -83,14 +83,14 @@ fn next_walk() -> bool {
     if (got as u64) < size {
         return false;
     }
-    write_years(first_walk(&space[..got], setting as usize, chain as usize));
+    write_years(first_projection(&space[..got], setting as usize, chain as usize));
     true
 }
 
 fn main() {
     // No stream has more entries than this, and every loop ends.
     for _ in 0usize..1_000_000 {
-        if !next_walk() {
+        if !next_cell() {
             return;
         }
     }

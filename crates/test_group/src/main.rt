@@ -71,7 +71,7 @@ fn write_reply(book: &[u8], setting: usize, group: usize, numbers: &mut [u64])
     mark(numbers);
     let reply = group_liability::group(book, setting, group, numbers);
     match reply {
-        GroupReply::Reckoned(liability, n) => {
+        GroupReply::Valued(liability, n) => {
             io::write_all(STDOUT_FILENO, b"0 0 ");
             write_signed(liability);
             write_number(n);

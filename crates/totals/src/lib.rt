@@ -7,9 +7,9 @@ ghost use lib.Signed.{mag};
 ghost use Rattle.verdict.specs.declared.Verdict.the-variants.{Accepted, Refused};
 ghost use Rattle.book.specs.Reading.{ValidBook};
 ghost use Rattle.settings.specs.Settings.{SettingOf};
-ghost use Rattle.valuation.specs.Totals.{totalOf, totalsOf, differencesOf, totalsFor, TotalsPromised};
+ghost use Rattle.valuation.specs.Totals.{totalOf, totalsOf, differencesOf, totalsFor, TotalsContract};
 ghost use Rattle.valuation.specs.Replies.{groupLiability};
-ghost use Rattle.present_value.specs.Outcome.{CurveOf, SettledIn};
+ghost use Rattle.present_value.specs.Outcome.{CurveOf, AmountsIn};
 ghost use Rattle.totals.specs.Sums.{EightSettings, GroupTable, Sums, Sizes};
 use present_value::Amounts;
 use settings::Setting;
@@ -60,13 +60,13 @@ fn later_years(
     shared: Amounts,
 ) -> Amounts
     requires { ⌜ SettingOf s × SettingOf base × GroupTable (now book) group (now numbers) × CurveOf (now book) (now divisors) (now fractions)
-        × SettledIn (now book) (base .number) group 5 50 shared ⌝ }
-    ensures { λ r. ⌜ SettledIn (now (book .entry)) (s .number) group 5 50 r ⌝ }
+        × AmountsIn (now book) (base .number) group 5 50 shared ⌝ }
+    ensures { λ r. ⌜ AmountsIn (now (book .entry)) (s .number) group 5 50 r ⌝ }
 {
     if s.later_as(base) {
         return shared;
     }
-    present_value::settle_in(book, divisors, fractions, s, group, numbers, 5, 50)
+    present_value::amounts_in(book, divisors, fractions, s, group, numbers, 5, 50)
 }
 
 // The liability of a product group in a setting: its first five years, and its later ones.
@@ -81,10 +81,10 @@ fn liability_of(
     shared: Amounts,
 ) -> i64
     requires { ⌜ SettingOf s × SettingOf base × GroupTable (now book) group (now numbers) × CurveOf (now book) (now divisors) (now fractions)
-        × SettledIn (now book) (base .number) group 5 50 shared ⌝ }
+        × AmountsIn (now book) (base .number) group 5 50 shared ⌝ }
     ensures { λ r. ⌜ (r ≡ groupLiability (now (book .entry)) (s .number) group) × (mag r ≤ 495000000000000000) ⌝ }
 {
-    let first = present_value::settle_in(book, divisors, fractions, s, group, numbers, 0, 5);
+    let first = present_value::amounts_in(book, divisors, fractions, s, group, numbers, 0, 5);
     let later = later_years(book, divisors, fractions, s, group, numbers, base, shared);
     cash_flow::less(first.outgo + later.outgo, first.premium + later.premium)
 }
@@ -104,7 +104,7 @@ fn add_group(
     ensures { λ _. ⌜ Sums (now (book .entry)) group (now (totals .exit)) ⌝ }
 {
     let base = settings[0];
-    let shared = present_value::settle_in(book, divisors, fractions, base, group, numbers, 5, 50);
+    let shared = present_value::amounts_in(book, divisors, fractions, base, group, numbers, 5, 50);
     for j in 0usize..8 {
         let s = settings[j];
         let liability = liability_of(book, divisors, fractions, s, group, numbers, base, shared);
@@ -149,7 +149,7 @@ fn all_totals(book: &[u8]) -> [i64; 8]
 }
 
 // The reply of an accepted book.
-fn reckoned(book: &[u8], n: u64) -> TotalsReply
+fn computed(book: &[u8], n: u64) -> TotalsReply
     requires { ⌜ ValidBook 1 (now book) ⌝ }
     ensures { λ r. ⌜ r ≡ totalsFor (Accepted n) n (totalsOf (now (book .entry))) (differencesOf (now (book .entry))) ⌝ }
 {
@@ -183,11 +183,11 @@ fn refused(number: u64, place: usize) -> TotalsReply
 
 // The call Totals: the book is checked once, and then reckoned in all eight settings.
 pub fn totals(book: &[u8]) -> TotalsReply
-    ensures { λ r. ⌜ TotalsPromised (now (book .entry)) r ⌝ }
+    ensures { λ r. ⌜ TotalsContract (now (book .entry)) r ⌝ }
 {
     let v = book_check::check(book);
     match v {
-        Verdict::Accepted(n) => reckoned(book, n),
+        Verdict::Accepted(n) => computed(book, n),
         Verdict::Refused(number, place) => refused(number, place),
     }
 }

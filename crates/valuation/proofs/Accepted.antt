@@ -15,7 +15,7 @@ use Rattle.book.specs.Cells.{firstChain, chainsOf}
 use Rattle.book.specs.Reading.{ChainFrom, Standing, ValidBook}
 use Rattle.book.proofs.Valid.{valid, chain-next}
 use Rattle.settings.specs.declared.Decrements.{Decrements}
-use Rattle.settings.proofs.Laws.{costs-most, claims-most}
+use Rattle.settings.proofs.Weights.{costs-most, claims-most}
 use Rattle.valuation.specs.Steps.{Cell}
 use Rattle.valuation.specs.Bounds.{GoodCell, GoodCells, GoodTerms}
 use Rattle.valuation.specs.Portfolio.{mortalityOf, costRateOf, divisorOf, NoRateBelowZero, oneLess, cellOf, linksFrom, chainLinks, linksOf, cellsOf, groupCells, termsOf}
@@ -117,8 +117,8 @@ module _ (b : List ℕ) (w : Decrements) where
   pub good-cell : (k i : ℕ) → Standing b (lastClass 1) k i → GoodCell (cellOf b w i)
   unfolding cellOf
   good-cell k i s = record {
-    living-most = λ j year. oneLess-most _ _;
-    staying-most = λ j year. oneLess-most _ _;
+    survival-most = λ j year. oneLess-most _ _;
+    persistency-most = λ j year. oneLess-most _ _;
     premium-most = λ j year. row-standing b k i s _ .0 .premium;
     claims-most = λ j year. row-standing b k i s _ .0 .claims;
   }

@@ -9,7 +9,7 @@ use lib.Dec.{T, leb, eqb, eqb→eq, lit≤}
 use lib.IntN.{ℤ, pos, _-ℤ_, _*ℤ_}
 use Rattle.valuation.specs.Arithmetic.{rounded, exact, Fraction, partFraction}
 use Rattle.valuation.specs.Steps.{Cell, Terms, held, oneUnless, inForce, cellPremium, cellClaims, sumCells, premiumSum, claimsSum, outgo, cappedIf, capped, countedPremium, discounted, discountedOutgo, discountedPremium, sumYears, totalOutgo, totalPremium, liability, exactLiability, less}
-use Rattle.valuation.specs.Promises.{GroupDistance, GroupHalfDistance}
+use Rattle.valuation.specs.Contracts.{GroupDistance, GroupHalfDistance}
 use Rattle.valuation.specs.Bounds.{GoodCell, GoodCells, GoodTerms, Within}
 use Rattle.valuation.proofs.Approximation.{Near, near-whole, near-part, near-plus, near-more}
 use Rattle.valuation.proofs.Differences.{diff-less, diff-minus, diff-times, diff-abs}
@@ -22,8 +22,8 @@ unfolding inForce
 near-inForce c g zero h = near-more (omega arith) (near-whole (c .count * 1_000_000_000))
 near-inForce c g (suc k) h =
     near-more (omega arith)
-    (near-part (c .staying k) 1_000_000_000 (2_000_000 * k + 1_000_000) (omega arith) (mul-le-mul-left (2_000_000 * k + 1_000_000) (g .staying-most k (omega arith)))
-    (near-part (c .living k) 1_000_000_000 (2_000_000 * k) (omega arith) (mul-le-mul-left (2_000_000 * k) (g .living-most k (omega arith)))
+    (near-part (c .persistency k) 1_000_000_000 (2_000_000 * k + 1_000_000) (omega arith) (mul-le-mul-left (2_000_000 * k + 1_000_000) (g .persistency-most k (omega arith)))
+    (near-part (c .survival k) 1_000_000_000 (2_000_000 * k) (omega arith) (mul-le-mul-left (2_000_000 * k) (g .survival-most k (omega arith)))
     (near-inForce c g k (omega arith))))
 
 -- the error of a cell's premium or claims in year k
@@ -58,7 +58,7 @@ nothing-near {r} {x} n = record {
 nothing-inForce : (c : Cell) → c .count ≡ 0 → (k : ℕ) → Nothing (inForce rounded c k) (inForce exact c k)
 unfolding inForce
 nothing-inForce c e zero = record { none = omega arith; under-positive = omega arith; over-none = omega arith }
-nothing-inForce c e (suc k) = nothing-part (c .staying k) 1_000_000_000 (omega arith) (nothing-part (c .living k) 1_000_000_000 (omega arith) (nothing-inForce c e k))
+nothing-inForce c e (suc k) = nothing-part (c .persistency k) 1_000_000_000 (omega arith) (nothing-part (c .survival k) 1_000_000_000 (omega arith) (nothing-inForce c e k))
 
 -- ---- both
 

@@ -7,9 +7,9 @@ pub mod Rows
 pub mod Oldest
 pub mod Members
 pub mod Accepted
-pub mod Promised
+pub mod GroupContract
 pub mod Total
 pub mod PaperDifferences
-pub mod Trials
-pub mod TrialBook
+pub mod TestVectors
+pub mod TestVectorBook
 pub mod Unlinked

@@ -39,10 +39,10 @@ module _ (b : List ℕ) (chain : ℕ) where
       omega (arith, onward-class (rowAt b i k) (row-standing b chain i s k), class-reached i s k)
 
   -- so its deaths are those of that class
-  pub living-reached : (w : Decrements) (i : ℕ) → Standing b (lastClass 1) chain i → (k : ℕ) → (cellOf b w i) .living k
+  pub survival-reached : (w : Decrements) (i : ℕ) → Standing b (lastClass 1) chain i → (k : ℕ) → (cellOf b w i) .survival k
       ≡ oneLess (mortalityOf b (sexOf b i) (classAfter (classOf b i) k)) (mortalityIn w (sexOf b i) k)
   unfolding cellOf
-  living-reached w i s k = rw (class-reached i s k)
+  survival-reached w i s k = rw (class-reached i s k)
 
 -- the cell of record i is at the last class in year k: j years later it goes by the same record
 module _ (b : List ℕ) (i k : ℕ) (old : classOf b (rowAt b i k) ≡ lastClass 1) where
@@ -52,15 +52,15 @@ module _ (b : List ℕ) (i k : ℕ) (old : classOf b (rowAt b i k) ≡ lastClass
   row-stays (suc j) = rw (add-suc k j, row-stays j, le-ltb (classOf b (rowAt b i k)) (lastClass 1) (omega arith))
 
   module _ (w : Decrements) (j : ℕ) where
-    pub living-stays : (cellOf b w i) .living (k + j)
+    pub survival-stays : (cellOf b w i) .survival (k + j)
         ≡ oneLess (mortalityOf b (sexOf b i) (lastClass 1)) (mortalityIn w (sexOf b i) (k + j))
     unfolding cellOf
-    living-stays = rw (row-stays j, old)
+    survival-stays = rw (row-stays j, old)
 
-    pub staying-stays : (cellOf b w i) .staying (k + j)
+    pub persistency-stays : (cellOf b w i) .persistency (k + j)
         ≡ oneLess (fieldOf b (rowAt b i k) lapseOffset) (lapseIn w (k + j))
     unfolding cellOf
-    staying-stays = rw (row-stays j)
+    persistency-stays = rw (row-stays j)
 
     pub premium-stays : (cellOf b w i) .premium (k + j) ≡ fieldOf b (rowAt b i k) premiumOffset
     unfolding cellOf

@@ -20,12 +20,12 @@ use Rattle.book.proofs.Valid.{valid}
 use Rattle.valuation.specs.Steps.{SignedFraction}
 use Rattle.valuation.specs.Portfolio.{NoRateBelowZero}
 use Rattle.valuation.specs.Bounds.{Within}
-use Rattle.valuation.specs.Promises.{eachCell, eachGroup, allGroups, totalDistanceOf, halfCell, halfGroup, halfAllGroups, halfTotalDistanceOf}
+use Rattle.valuation.specs.Contracts.{eachCell, eachGroup, allGroups, totalDistanceOf, halfCell, halfGroup, halfAllGroups, halfTotalDistanceOf}
 use Rattle.valuation.specs.Replies.{groupLiability, exactGroupLiability}
-use Rattle.valuation.specs.Totals.{sumGroups, totalOf, plusSigned, exactSumGroups, exactTotalOf, totalsOf, totalsFor, totalsReply, TotalsPromised}
+use Rattle.valuation.specs.Totals.{sumGroups, totalOf, plusSigned, exactSumGroups, exactTotalOf, totalsOf, totalsFor, totalsReply, TotalsContract}
 use Rattle.valuation.specs.declared.TotalsReply.{TotalsReply}
 use Rattle.valuation.proofs.Differences.{above, below, diff-self, diff-plus, diff-minus, diff-times, diff-abs, abs-diff}
-use Rattle.valuation.proofs.Promised.{group-distance, group-half-distance}
+use Rattle.valuation.proofs.GroupContract.{group-distance, group-half-distance}
 
 within-more : {b c : ℕ} {z : ℤ} {x : SignedFraction} → b ≤ c → Within b z x → Within c z x
 within-more {b} {c} {z} {x} h p = record { under-positive = p .under-positive; distance = omega (arith, mul-le-mul-right (x .under) h, p .distance) }
@@ -111,7 +111,7 @@ module _ (b : List ℕ) where
   unfolding totalsReply
   accepted reply reply-is e = zero-accepted 1 b (sym (refusal-told (checkBook 1 b) _ _ _) ∙ sym (ap (λ (r : TotalsReply). r .refusal) reply-is) ∙ e)
 
-  pub totals-promised : (reply : TotalsReply) → reply ≡ totalsReply b → TotalsPromised b reply
+  pub totals-promised : (reply : TotalsReply) → reply ≡ totalsReply b → TotalsContract b reply
   unfolding totalsReply
   totals-promised reply reply-is = record {
     reply-is = reply-is;

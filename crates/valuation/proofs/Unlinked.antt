@@ -152,8 +152,8 @@ module _ (b b′ : List ℕ) (s : SameButUnlinked b b′) where
     unfolding cellOf
     cell-same k i h = λ d. record {
       count = field-of-same b b′ i here countOffset (omega arith) d;
-      living = λ y. living y d;
-      staying = λ y. ap (λ (rate : ℕ). oneLess rate (lapseIn w y)) (row-field-same b b′ k i h y lapseOffset (omega arith)) d;
+      survival = λ y. survival y d;
+      persistency = λ y. ap (λ (rate : ℕ). oneLess rate (lapseIn w y)) (row-field-same b b′ k i h y lapseOffset (omega arith)) d;
       premium = λ y. row-field-same b b′ k i h y premiumOffset (omega arith) d;
       claims = λ y. row-field-same b b′ k i h y claimsOffset (omega arith) d;
     }
@@ -161,8 +161,8 @@ module _ (b b′ : List ℕ) (s : SameButUnlinked b b′) where
         here : SameRecord b b′ i
         here = kept-here b b′ k i h
 
-        living : (y : ℕ) → (cellOf b w i) .living y ≡ (cellOf b′ w i) .living y
-        living y =
+        survival : (y : ℕ) → (cellOf b w i) .survival y ≡ (cellOf b′ w i) .survival y
+        survival y =
             rw (
               mortality-same (sexOf b i) (classOf b (rowAt b i y)) (omega (arith, h .0 .0 .sex)) (kept-row b b′ k i h y .0 .0 .class-high),
               row-class-same b b′ k i h y,

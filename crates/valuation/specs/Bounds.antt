@@ -6,8 +6,8 @@ use Rattle.valuation.specs.Steps.{Cell, Terms, SignedFraction}
 
 -- in the years 0 to 49
 pub record GoodCell (c : Cell) : Type 0 where
-  pub living-most : (k : ℕ) → k < 50 → c .living k ≤ 1_000_000_000
-  pub staying-most : (k : ℕ) → k < 50 → c .staying k ≤ 1_000_000_000
+  pub survival-most : (k : ℕ) → k < 50 → c .survival k ≤ 1_000_000_000
+  pub persistency-most : (k : ℕ) → k < 50 → c .persistency k ≤ 1_000_000_000
   pub premium-most : (k : ℕ) → k < 50 → c .premium k ≤ 10_000_000
   pub claims-most : (k : ℕ) → k < 50 → c .claims k ≤ 10_000_000
 

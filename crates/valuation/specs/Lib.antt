@@ -1,10 +1,10 @@
 pub mod Arithmetic
 pub mod Steps
 pub mod Bounds
-pub mod Promises
+pub mod Contracts
 pub mod Portfolio
 pub mod Replies
 pub mod Totals
 pub mod PaperDifferences
-pub mod Trials
+pub mod TestVectors
 pub mod Traps

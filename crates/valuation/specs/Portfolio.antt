@@ -6,7 +6,7 @@ use lib.Dec.{ltb, eqb}
 use Rattle.le_bytes.specs.Bytes.{readU32}
 use Rattle.book.specs.Layout.{lastClass, headOf, sexOf, classOf, nextOf, fieldOf, countOffset, lapseOffset, premiumOffset, claimsOffset, costPlace, curvePlace, mortalityPlace, mortalitySize}
 use Rattle.book.specs.Cells.{firstChain, chainsOf}
-use Rattle.settings.specs.Settings.{outgoingsOf, mortalityIn, lapseIn, costsIn, claimsIn}
+use Rattle.settings.specs.Settings.{outgoingsOf, mortalityIn, lapseIn, costsIn, claimsWeightIn}
 use Rattle.settings.specs.declared.Decrements.{Decrements}
 use Rattle.valuation.specs.Steps.{Cell, Terms}
 
@@ -43,8 +43,8 @@ rowAt b i (suc k) = onward b (rowAt b i k)
 unfoldable pub cellOf : List ℕ → Decrements → ℕ → Cell
 cellOf b w i = record {
   count = fieldOf b i countOffset;
-  living = λ k. oneLess (mortalityOf b (sexOf b i) (classOf b (rowAt b i k))) (mortalityIn w (sexOf b i) k);
-  staying = λ k. oneLess (fieldOf b (rowAt b i k) lapseOffset) (lapseIn w k);
+  survival = λ k. oneLess (mortalityOf b (sexOf b i) (classOf b (rowAt b i k))) (mortalityIn w (sexOf b i) k);
+  persistency = λ k. oneLess (fieldOf b (rowAt b i k) lapseOffset) (lapseIn w k);
   premium = λ k. fieldOf b (rowAt b i k) premiumOffset;
   claims = λ k. fieldOf b (rowAt b i k) claimsOffset;
 }
@@ -77,7 +77,7 @@ groupCells b w g = cellsOf b w (groupLinks b g)
 -- what holds for all cells of product group g in a setting
 unfoldable pub termsOf : List ℕ → ℕ → ℕ → Terms
 termsOf b setting g = record {
-  claimsWeight = λ k. claimsIn (outgoingsOf setting) k;
+  claimsWeight = λ k. claimsWeightIn (outgoingsOf setting) k;
   costWeight = λ k. costsIn (outgoingsOf setting) k;
   costRate = costRateOf b g;
   divisor = λ k. divisorOf b k;

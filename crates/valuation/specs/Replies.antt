@@ -17,9 +17,9 @@ use Rattle.valuation.specs.Arithmetic.{rounded}
 use Rattle.valuation.specs.Steps.{Cell, Terms, SignedFraction, outgo, countedPremium, discountedOutgo, discountedPremium, liability, exactLiability}
 use Rattle.valuation.specs.Portfolio.{NoRateBelowZero, groupCells, termsOf}
 use Rattle.valuation.specs.Bounds.{Within}
-use Rattle.valuation.specs.Promises.{distanceOf, halfDistanceOf}
+use Rattle.valuation.specs.Contracts.{distanceOf, halfDistanceOf}
 use Rattle.valuation.specs.declared.GroupReply.{GroupReply}
-use Rattle.valuation.specs.declared.GroupReply.the-variants.{Reckoned, Refused as GroupRefused}
+use Rattle.valuation.specs.declared.GroupReply.the-variants.{Valued, Refused as GroupRefused}
 
 -- 14 setting, 15 product group, 16 a table of under 200 numbers; then the book's own refusals
 unfoldable pub groupCheck : List ℕ → ℕ → ℕ → ℕ → Verdict
@@ -38,24 +38,24 @@ exactGroupLiability b setting g = exactLiability (termsOf b setting g) (groupCel
 
 -- The paper's values of a reply: the refusal's number and its place, 0 and 0 where there is none; liability and n, 0 and 0 where refused.
 abbrev pub refusalIn : GroupReply → ℕ
-refusalIn (Reckoned l n) = 0
+refusalIn (Valued l n) = 0
 refusalIn (GroupRefused number place) = number
 
 abbrev pub placeIn : GroupReply → ℕ
-placeIn (Reckoned l n) = 0
+placeIn (Valued l n) = 0
 placeIn (GroupRefused number place) = place
 
 abbrev pub liabilityIn : GroupReply → ℤ
-liabilityIn (Reckoned l n) = l
+liabilityIn (Valued l n) = l
 liabilityIn (GroupRefused number place) = pos 0
 
 abbrev pub countIn : GroupReply → ℕ
-countIn (Reckoned l n) = n
+countIn (Valued l n) = n
 countIn (GroupRefused number place) = 0
 
 -- the reply: liability and n, or the first refusal
 abbrev pub replyOf : Verdict → ℤ → ℕ → GroupReply
-replyOf (Accepted m) l n = Reckoned l n
+replyOf (Accepted m) l n = Valued l n
 replyOf (Refused number place) l n = GroupRefused number place
 
 unfoldable pub groupReply : List ℕ → ℕ → ℕ → ℕ → GroupReply
@@ -84,7 +84,7 @@ unfoldable pub groupTable : List ℕ → ℕ → ℕ → List ℕ → List ℕ
 groupTable b setting g before = tableOf (groupCheck b setting g (length before)) (groupYears b setting g) before
 
 -- What Group's call promises: its reply and its table equal their definitions; and, where it reckons, demand 3.
-pub record GroupPromised (b : List ℕ) (setting g : ℕ) (before after : List ℕ) (reply : GroupReply) : Type 0 where
+pub record GroupContract (b : List ℕ) (setting g : ℕ) (before after : List ℕ) (reply : GroupReply) : Type 0 where
   pub reply-is : reply ≡ groupReply b setting g (length before)
   pub table-is : after ≡ groupTable b setting g before
   -- within 500 n + 2,850 centimes of the exact value, n and the liability being those of the reply

@@ -10,8 +10,8 @@ use Rattle.valuation.specs.Arithmetic.{Arithmetic, rounded, exact, Fract
 pub record Cell : Type 0 where
   pub count : ℕ
   -- one less mortality, and one less lapse, in billionths
-  pub living : ℕ → ℕ
-  pub staying : ℕ → ℕ
+  pub survival : ℕ → ℕ
+  pub persistency : ℕ → ℕ
   -- per contract and year
   pub premium : ℕ → ℕ
   pub claims : ℕ → ℕ
@@ -39,7 +39,7 @@ module _ (A : Arithmetic) where
   -- step 1: in force, document 01's term for the policies still in force, in billionths of a contract
   unfoldable pub inForce : Cell → ℕ → A .Number
   inForce c zero = A .whole (c .count * 1_000_000_000)
-  inForce c (suc k) = A .part (A .part (inForce c k) (c .living k) 1_000_000_000) (c .staying k) 1_000_000_000
+  inForce c (suc k) = A .part (A .part (inForce c k) (c .survival k) 1_000_000_000) (c .persistency k) 1_000_000_000
 
   -- step 2: premium and claims of a cell, and their sums over the cells
   unfoldable pub cellPremium : ℕ → Cell → A .Number

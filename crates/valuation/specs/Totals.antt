@@ -12,7 +12,7 @@ use Rattle.book.specs.Check.{checkBook}
 use Rattle.valuation.specs.Steps.{SignedFraction}
 use Rattle.valuation.specs.Portfolio.{NoRateBelowZero}
 use Rattle.valuation.specs.Bounds.{Within}
-use Rattle.valuation.specs.Promises.{totalDistanceOf, halfTotalDistanceOf}
+use Rattle.valuation.specs.Contracts.{totalDistanceOf, halfTotalDistanceOf}
 use Rattle.valuation.specs.Replies.{groupLiability, exactGroupLiability}
 use Rattle.valuation.specs.declared.TotalsReply.{TotalsReply}
 
@@ -60,7 +60,7 @@ unfoldable pub totalsReply : List ℕ → TotalsReply
 totalsReply b = totalsFor (checkBook 1 b) (heldInAll b (lastClass 1)) (totalsOf b) (differencesOf b)
 
 -- What Totals' call promises: its reply equals its definition; and, where it reckons, demand 3 for each total.
-pub record TotalsPromised (b : List ℕ) (reply : TotalsReply) : Type 0 where
+pub record TotalsContract (b : List ℕ) (reply : TotalsReply) : Type 0 where
   pub reply-is : reply ≡ totalsReply b
   -- within 500 n + 14,250 centimes of the exact value, n and the total being those of the reply
   pub distance : (setting : ℕ) → setting < 8 → reply .refusal ≡ 0

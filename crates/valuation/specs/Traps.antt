@@ -18,8 +18,8 @@ use Rattle.valuation.specs.Replies.{yearNumbers, yearTable, groupLiabili
 abbrev pub lasting : ℕ → ℕ → Cell
 lasting premium claims = record {
   count = 1;
-  living = λ k. 1_000_000_000;
-  staying = λ k. 1_000_000_000;
+  survival = λ k. 1_000_000_000;
+  persistency = λ k. 1_000_000_000;
   premium = λ k. premium;
   claims = λ k. claims;
 }
@@ -43,11 +43,11 @@ trapTerms = record {
 }
 
 -- what the year table has in year k: premium after cap, outgo, discounted outgo
-abbrev pub premiumIn : List Cell → ℕ → ℕ
-premiumIn cs k = getD (yearNumbers trapTerms cs k) 0 0
+abbrev pub cellsPremiumIn : List Cell → ℕ → ℕ
+cellsPremiumIn cs k = getD (yearNumbers trapTerms cs k) 0 0
 
-abbrev pub outgoIn : List Cell → ℕ → ℕ
-outgoIn cs k = getD (yearNumbers trapTerms cs k) 1 0
+abbrev pub cellsOutgoIn : List Cell → ℕ → ℕ
+cellsOutgoIn cs k = getD (yearNumbers trapTerms cs k) 1 0
 
 abbrev pub discountedIn : List Cell → ℕ → ℕ
 discountedIn cs k = getD (yearNumbers trapTerms cs k) 3 0
@@ -87,7 +87,7 @@ cappedFromSix cs k = cappedIf rounded (leb 6 k) (premiumSum rounded cs k) (outgo
 -- One less the sum of death and lapse goes on.
 abbrev pub nextBySum : Cell → ℕ → ℕ
 nextBySum c k =
-    inForce rounded c k * (1_000_000_000 - ((1_000_000_000 - c .living k) + (1_000_000_000 - c .staying k)))
+    inForce rounded c k * (1_000_000_000 - ((1_000_000_000 - c .survival k) + (1_000_000_000 - c .persistency k)))
     / 1_000_000_000
 
 -- The cost, a tenth, is of the premium after the cap.
@@ -117,18 +117,18 @@ pub record Together (b : List ℕ) (setting : ℕ) : Type 0 where
 
 pub record Traps : Type 0 where
   -- PG1a, PG1b and PG1c capped one by one: 1,500 would be cut to 277, and 100 stay
-  pub subgroups-capped-one-by-one : Apart (premiumIn both 5) 1_400 (premiumIn rich 5 + premiumIn poor 5) 377
+  pub subgroups-capped-one-by-one : Apart (cellsPremiumIn both 5) 1_400 (cellsPremiumIn rich 5 + cellsPremiumIn poor 5) 377
   pub subgroups-added : Apart (liability trapTerms both) (pos 0 -ℤ pos 7_987)
       (liability trapTerms rich +ℤ liability trapTerms poor) (pos 38_048)
   pub groups-together : (b : List ℕ) (setting : ℕ) → Together b setting
   -- the cap from k = 6: the premium of 1,600 would stay in the sixth year, which is k = 5
-  pub cap-from-k-6 : Apart (premiumIn both 5) 1_400 (cappedFromSix both 5) 1_600
+  pub cap-from-k-6 : Apart (cellsPremiumIn both 5) 1_400 (cappedFromSix both 5) 1_600
   -- death plus lapse: of one contract 0.565 times 0.9 goes on, not 1 less 0.435 less 0.1
   pub death-plus-lapse : Apart (inForce rounded (manIn 0) 1) 508_500_000 (nextBySum (manIn 0) 0) 465_000_000
   -- costs of the capped premium: to claims of 1,100 comes a tenth of 1,600, not of 1,400
-  pub costs-of-the-capped-premium : Apart (outgoIn both 5) 1_260 (outgoOfCapped both 5) 1_240
+  pub costs-of-the-capped-premium : Apart (cellsOutgoIn both 5) 1_260 (outgoOfCapped both 5) 1_240
   -- a lapse shift ended after five years: in setting 3 there stay 0.87 at k = 5 too, where in the base 0.9 do
-  pub lapse-shift-ended : Apart (manIn 3 .staying 5) 870_000_000 (manIn 0 .staying 5) 900_000_000
+  pub lapse-shift-ended : Apart (manIn 3 .persistency 5) 870_000_000 (manIn 0 .persistency 5) 900_000_000
   -- discounting in one step: 1,260 goes back to 1,235, and that to 1,210
   pub discounting-in-one-step :
-      Apart (discountedIn both 2) 1_210 (twoYearsInOneStep (trapTerms .divisor 2) (outgoIn both 2)) 1_211
+      Apart (discountedIn both 2) 1_210 (twoYearsInOneStep (trapTerms .divisor 2) (cellsOutgoIn both 2)) 1_211

@@ -1,7 +1,7 @@
 // What the calls Group and Totals answer.
 
 pub enum GroupReply {
-    Reckoned(i64, u64),
+    Valued(i64, u64),
     Refused(u64, usize),
 }
 

@@ -50,18 +50,18 @@ accepted v n e = rw e
 
 -- A verdict that tells by its number alone whether it refuses: 0 is acceptance. A test with a number above 0 does, and so
 -- do two such verdicts one after the other.
-unfoldable pub Told : Verdict → Type 0
-Told v = refusalOf v ≡ 0 → v ≡ Accepted (countOf v)
+unfoldable pub ZeroAccepts : Verdict → Type 0
+ZeroAccepts v = refusalOf v ≡ 0 → v ≡ Accepted (countOf v)
 
-pub told-need : (ok : Bool) (q p : ℕ) → Told (need ok (suc q) p)
-unfolding Told need
-told-need true q p e = refl
-told-need false q p e = absurd (omega arith)
+pub zero-accepts-need : (ok : Bool) (q p : ℕ) → ZeroAccepts (need ok (suc q) p)
+unfolding ZeroAccepts need
+zero-accepts-need true q p e = refl
+zero-accepts-need false q p e = absurd (omega arith)
 
-pub told-then : (v w : Verdict) → Told v → Told w → Told (v andThen w)
-unfolding Told _andThen_
-told-then (Accepted n) w hv hw = hw
-told-then (Refused q p) w hv hw = hv
+pub zero-accepts-then : (v w : Verdict) → ZeroAccepts v → ZeroAccepts w → ZeroAccepts (v andThen w)
+unfolding ZeroAccepts _andThen_
+zero-accepts-then (Accepted n) w hv hw = hw
+zero-accepts-then (Refused q p) w hv hw = hv
 
 -- a count added
 pub plus-none : (v : Verdict) → plus 0 v ≡ v

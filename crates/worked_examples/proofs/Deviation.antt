@@ -8,14 +8,14 @@ use Rattle.verdict.specs.declared.Verdict.the-variants.{Accepted}
 use Rattle.conditions.specs.Every.{every}
 use Rattle.signed.specs.Signs.{numberAt}
 use Rattle.risk_model.specs.declared.RiskModel.{RiskModel}
-use Rattle.risk_model.specs.Model.{coefficientsRight, rightAt, correlationRight, modelRight}
+use Rattle.risk_model.specs.Model.{coefficientsRight, rightAt, correlationRight, modelValid}
 use Rattle.risk_form.specs.Form.{sumBelow, formOf}
 use Rattle.risk_form.specs.Root.{rootOf}
 use Rattle.risk_form.proofs.Squares.{root-is}
 use Rattle.risk_factors.specs.Factors.{scaledOf, factorsOf}
-use Rattle.risk_factors.specs.Form.{formFor, inThousands}
+use Rattle.risk_factors.specs.Form.{formFor, formOverThousand}
 use Rattle.risk_factors.specs.Refusals.{factorsSmall}
-use Rattle.risk_factors.specs.Replies.{deviationFor, replyFor, factorsReply}
+use Rattle.risk_factors.specs.Replies.{deviationFor, deviationReplyFor, factorsReply}
 use Rattle.risk_factors.proofs.Replied.{Passed, replied-root}
 
 pub worked : RiskModel
@@ -44,13 +44,13 @@ unfolding worked differences formFor formOf sumBelow factorsOf scaledOf numberAt
 worked-form = refl
 
 passed : Passed differences worked
-unfolding worked differences modelRight coefficientsRight correlationRight rightAt factorsSmall every formFor formOf sumBelow factorsOf scaledOf numberAt
+unfolding worked differences modelValid coefficientsRight correlationRight rightAt factorsSmall every formFor formOf sumBelow factorsOf scaledOf numberAt
 passed = record { model = refl; small = refl; form = refl }
 
 pub worked-example : factorsReply differences worked ≡ record { refusal = 0; place = 0; deviation = 86_482 }
 unfolding deviationFor
 worked-example =
     replied-root differences worked passed
-    ∙ ap (replyFor (Accepted 0))
-    (ap (λ (form : ℤ). rootOf (inThousands form)) worked-form
+    ∙ ap (deviationReplyFor (Accepted 0))
+    (ap (λ (form : ℤ). rootOf (formOverThousand form)) worked-form
     ∙ sym (root-is 7_479_308_595 86_482 (record { at-most = omega arith; next-above = omega arith })))

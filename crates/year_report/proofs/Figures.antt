@@ -6,7 +6,7 @@ use Prim.Native.Nat.{ℕ, _+_, _*_, _<_}
 use native.Mathlib.Omega.{arith}
 use lib.ListN.{length, getD, set, length-set}
 use lib.Seq.{getD-set-same, getD-set-other}
-use Rattle.buffer.proofs.Laws.{le-or-lt, joined-same}
+use Rattle.buffer.proofs.Digits.{le-or-lt, joined-same}
 use Rattle.report_lines.specs.Sheet.{tableLine, tableLines}
 use Rattle.year_report.specs.Report.{heading, yearLine, groupLines, reportText}
 use Rattle.year_report.specs.Tables.{Placed, Years, none, numbersAt, FirstYears, linesAt, reportFrom}

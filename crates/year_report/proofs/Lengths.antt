@@ -5,7 +5,7 @@ use native.Mathlib.Omega.{arith}
 use lib.ListN.{length, length-append}
 use Rattle.book.specs.Reading.{ValidBook}
 use Rattle.buffer.specs.Text.{joined}
-use Rattle.buffer.proofs.Laws.{joined-most}
+use Rattle.buffer.proofs.Digits.{joined-most}
 use Rattle.report_lines.proofs.Lengths.{line-most}
 use Rattle.year_report.specs.Report.{heading, yearLine, groupLines, reportText}
 use Rattle.year_report.proofs.Ranges.{premium-digits, outgo-digits}

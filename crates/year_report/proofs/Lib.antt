@@ -2,5 +2,5 @@ pub mod Figures
 pub mod Ranges
 pub mod Lengths
 pub mod Refusals
-pub mod Promised
+pub mod ReportLengthContract
 pub mod Unlinked

@@ -11,7 +11,7 @@ use Rattle.book.specs.Cells.{firstChain, chainsOf}
 use Rattle.book.specs.Reading.{ValidBook}
 use Rattle.settings.specs.Settings.{decrementsOf}
 use Rattle.settings.specs.declared.Decrements.{Decrements}
-use Rattle.settings.proofs.Laws.{pick-le}
+use Rattle.settings.proofs.Weights.{pick-le}
 use Rattle.valuation.specs.Arithmetic.{rounded}
 use Rattle.valuation.specs.Steps.{Cell, Terms, premiumSum, claimsSum, outgo, cappedIf, capped, countedPremium}
 use Rattle.valuation.specs.Bounds.{GoodTerms}

@@ -20,12 +20,12 @@ use Rattle.valuation.specs.Arithmetic.{rounded}
 use Rattle.valuation.specs.Steps.{outgo, countedPremium}
 use Rattle.valuation.specs.Portfolio.{groupCells, termsOf}
 use Rattle.valuation.specs.Replies.{groupCheck, groupTable, tableOf, yearTable}
-use Rattle.valuation.proofs.Promised.{premium-at, outgo-at}
+use Rattle.valuation.proofs.GroupContract.{premium-at, outgo-at}
 use Rattle.valuation.proofs.Unlinked.{table-same}
-use Rattle.buffer.specs.Replies.{lengthFor, bufferFor, withRoom, textReply, textBuffer}
-use Rattle.buffer.proofs.Laws.{joined-same}
-use Rattle.year_report.specs.Report.{heading, yearLine, groupLines, reportText, reportCheck, roomOf}
-use Rattle.year_report.specs.Report.{writeReply, reportBuffer, roomReply}
+use Rattle.buffer.specs.Replies.{lengthFor, bufferFor, withCapacity, textReply, textBuffer}
+use Rattle.buffer.proofs.Digits.{joined-same}
+use Rattle.year_report.specs.Report.{heading, yearLine, groupLines, reportText, reportCheck, reportLength}
+use Rattle.year_report.specs.Report.{reportReply, reportBuffer, reportLengthReply}
 use Rattle.year_report.proofs.Refusals.{report-setting}
 
 -- a table for Group to fill
@@ -99,17 +99,17 @@ module _ (b b′ : List ℕ) (s : SameButUnlinked b b′) (setting : ℕ) where
       cases (Accepted n) e = ap (f (Accepted n)) (text-same n e)
       cases (Refused q p) e = refused q p _ _
 
-  pub reply-same : (room : ℕ) → writeReply b setting room ≡ writeReply b′ setting room
-  unfolding textReply withRoom _andThen_
-  reply-same room =
-      by-verdict (λ v text. lengthFor (v andThen need (leb (length text) room) 20 0) (length text)) (λ q p x y. refl)
+  pub reply-same : (capacity : ℕ) → reportReply b setting capacity ≡ reportReply b′ setting capacity
+  unfolding textReply withCapacity _andThen_
+  reply-same capacity =
+      by-verdict (λ v text. lengthFor (v andThen need (leb (length text) capacity) 20 0) (length text)) (λ q p x y. refl)
 
   pub buffer-same : (before : List ℕ) → reportBuffer b setting before ≡ reportBuffer b′ setting before
-  unfolding textBuffer withRoom _andThen_
+  unfolding textBuffer withCapacity _andThen_
   buffer-same before =
       by-verdict (λ v text. bufferFor (v andThen need (leb (length text) (length before)) 20 0) text before)
       (λ q p x y. refl)
 
-  pub room-same : roomReply b setting ≡ roomReply b′ setting
-  unfolding roomReply roomOf
-  room-same = by-verdict (λ v text. lengthFor v (length text)) (λ q p x y. refl)
+  pub capacity-same : reportLengthReply b setting ≡ reportLengthReply b′ setting
+  unfolding reportLengthReply reportLength
+  capacity-same = by-verdict (λ v text. lengthFor v (length text)) (λ q p x y. refl)

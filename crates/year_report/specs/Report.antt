@@ -12,7 +12,7 @@ use Rattle.valuation.specs.Arithmetic.{rounded}
 use Rattle.valuation.specs.Steps.{outgo, countedPremium}
 use Rattle.valuation.specs.Portfolio.{groupCells, termsOf}
 use Rattle.buffer.specs.Text.{joined}
-use Rattle.buffer.specs.Replies.{textRefusal, textLength, lengthFor, textReply, textBuffer, TextPromised}
+use Rattle.buffer.specs.Replies.{textRefusal, textLength, lengthFor, textReply, textBuffer, TextContract}
 use Rattle.buffer.specs.declared.TextReply.{TextReply}
 use Rattle.report_lines.specs.Sheet.{sheetLine}
 
@@ -44,28 +44,28 @@ unfoldable pub reportCheck : List ℕ → ℕ → Verdict
 reportCheck b setting = need (ltb setting 8) 14 0 andThen checkBook 1 b
 
 -- the buffer wanted, as told: the report's length, to the byte
-unfoldable pub roomOf : List ℕ → ℕ → ℕ
-roomOf b setting = length (reportText b setting)
+unfoldable pub reportLength : List ℕ → ℕ → ℕ
+reportLength b setting = length (reportText b setting)
 
--- What the writing call replies, given a buffer of `room` bytes: the report's length, or the first refusal: those of
+-- What the writing call replies, given a buffer of `capacity` bytes: the report's length, or the first refusal: those of
 -- both, and then 20 where the buffer is shorter than told.
-abbrev pub writeReply : List ℕ → ℕ → ℕ → TextReply
-writeReply b setting room = textReply (reportCheck b setting) (reportText b setting) room
+abbrev pub reportReply : List ℕ → ℕ → ℕ → TextReply
+reportReply b setting capacity = textReply (reportCheck b setting) (reportText b setting) capacity
 
 -- what the passed buffer then holds: the report and then what stood there, or, where refused, what stood there
 abbrev pub reportBuffer : List ℕ → ℕ → List ℕ → List ℕ
 reportBuffer b setting before = textBuffer (reportCheck b setting) (reportText b setting) before
 
 -- what the telling call replies: the buffer wanted
-unfoldable pub roomReply : List ℕ → ℕ → TextReply
-roomReply b setting = lengthFor (reportCheck b setting) (roomOf b setting)
+unfoldable pub reportLengthReply : List ℕ → ℕ → TextReply
+reportLengthReply b setting = lengthFor (reportCheck b setting) (reportLength b setting)
 
 -- What the writing call promises: its reply and the buffer equal their definitions, and the bytes written stand in it.
-abbrev pub ReportPromised : List ℕ → ℕ → List ℕ → List ℕ → TextReply → Type 0
-ReportPromised b setting before after reply = TextPromised (reportCheck b setting) (reportText b setting) before after reply
+abbrev pub ReportContract : List ℕ → ℕ → List ℕ → List ℕ → TextReply → Type 0
+ReportContract b setting before after reply = TextContract (reportCheck b setting) (reportText b setting) before after reply
 
 -- What the telling call promises: the same refusals but 20; the figure told is the report's length, and at most 9,525.
-pub record RoomPromised (b : List ℕ) (setting : ℕ) (reply : TextReply) : Type 0 where
-  pub reply-is : reply ≡ roomReply b setting
+pub record ReportLengthContract (b : List ℕ) (setting : ℕ) (reply : TextReply) : Type 0 where
+  pub reply-is : reply ≡ reportLengthReply b setting
   pub exact : textRefusal reply ≡ 0 → textLength reply ≡ length (reportText b setting)
   pub most : textLength reply ≤ 9_525

@@ -12,7 +12,7 @@ use Rattle.valuation.specs.Steps.{outgo, countedPremium}
 use Rattle.valuation.specs.Portfolio.{groupCells, termsOf}
 use Rattle.buffer.specs.Text.{joined}
 use Rattle.report_lines.specs.Sheet.{tableLines}
-use Rattle.year_report.specs.Report.{heading, roomOf}
+use Rattle.year_report.specs.Report.{heading, reportLength}
 use Rattle.year_report.specs.declared.YearTable.{YearTable}
 use Rattle.year_report.specs.declared.Measured.{Measured}
 
@@ -51,7 +51,7 @@ FirstYears b setting n tables = (j : ℕ) → j < n → Years b setting (j + 1) 
 -- the five tables, and the length of the report from them
 pub record Measures (b : List ℕ) (setting : ℕ) (r : Measured) : Type 0 where
   pub years-are : FirstYears b setting 5 (r .tables)
-  pub bytes-are : r .bytes ≡ roomOf b setting
+  pub bytes-are : r .bytes ≡ reportLength b setting
 
 -- the lines of product group j + 1, and the report, from the tables
 unfoldable pub linesAt : List YearTable → ℕ → List ℕ

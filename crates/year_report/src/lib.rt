@@ -4,7 +4,7 @@ ghost use mathlib.Core.Path.{_≡_};
 ghost use Prim.Native.Nat.{_<_};
 ghost use Rattle.book.specs.Reading.{ValidBook};
 ghost use Rattle.buffer.specs.Text.{Wrote};
-ghost use Rattle.year_report.specs.Report.{reportCheck, ReportPromised, RoomPromised};
+ghost use Rattle.year_report.specs.Report.{reportCheck, ReportContract, ReportLengthContract};
 ghost use Rattle.year_report.specs.Tables.{Asked, Placed, Years, Measures, reportFrom};
 use buffer::TextReply;
 use settings::Setting;
@@ -89,10 +89,10 @@ fn put_report(years: Measured, out: &mut [u8]) -> usize
     at
 }
 
-// Writes the report where the lent buffer has the room that `report_room` tells; else, and where the book is refused,
+// Writes the report where the lent buffer has the room that `report_length` tells; else, and where the book is refused,
 // nothing. The book is checked and reckoned once: length and text are those of the same tables.
 pub fn write_report(book: &[u8], setting: usize, out: &mut [u8]) -> TextReply
-    ensures { λ r. ⌜ ReportPromised (now (book .entry)) setting (now (out .entry)) (now (out .exit)) r ⌝ }
+    ensures { λ r. ⌜ ReportContract (now (book .entry)) setting (now (out .entry)) (now (out .exit)) r ⌝ }
 {
     let v = check_report(book, setting);
     if let Verdict::Refused(number, place) = v {
@@ -106,8 +106,8 @@ pub fn write_report(book: &[u8], setting: usize, out: &mut [u8]) -> TextReply
 }
 
 // Replies with the buffer that `write_report` wants: the report's length, to the byte.
-pub fn report_room(book: &[u8], setting: usize) -> TextReply
-    ensures { λ r. ⌜ RoomPromised (now (book .entry)) setting r ⌝ }
+pub fn report_length(book: &[u8], setting: usize) -> TextReply
+    ensures { λ r. ⌜ ReportLengthContract (now (book .entry)) setting r ⌝ }
 {
     let v = check_report(book, setting);
     match v {

@@ -35,7 +35,7 @@ fn main() {
     let mut word = [0u8; 8];
     let spelled = os::arg(1, &mut word);
     let setting = setting_named(os::arg_count(), &word[..spelled]);
-    let mut space = book::room();
+    let mut space = book::input_buffer();
     let got = io::read_full(STDIN_FILENO, &mut space);
     // No report wants more: so `most` of the telling call's contract says.
     let mut text = [0u8; 9_525];

@@ -3,7 +3,7 @@
 use mathlib.Core.Path.{sym, _∙_}
 use borrow.Author.Needs.{needs}
 use Rattle.book.proofs.Exact.{accepted-rules}
-use Rattle.age_basis.proofs.Promised.{convert-fits, convert-accepted, refused, delivered}
+use Rattle.age_basis.proofs.ConvertContract.{convert-fits, convert-accepted, refused, delivered}
 use Rattle.age_basis.proofs.convert.Statement.{statement}
 use Rattle.age_basis.proofs.convert.Tie as tie
 

@@ -8,7 +8,7 @@ use lib.ListN.{length}
 use mir.Syntax.{w64}
 use mir.ValLaws.{toZ-ofZ}
 use Rattle.buffer.specs.Text.{Wrote, joined}
-use Rattle.buffer.proofs.Laws.{nothing, kept, joined-more}
+use Rattle.buffer.proofs.Digits.{nothing, kept, joined-more}
 use Rattle.book_contents.specs.Written.{signedFields}
 use Rattle.book_encoding.proofs.put_curve.Statement.{statement}
 use Rattle.book_encoding.proofs.put_curve.Tie as tie

@@ -6,7 +6,7 @@ use Prim.Native.Nat.{_+_, _-_, _*_, _≤_}
 use native.Mathlib.Omega.{arith}
 use lib.ListN.{length}
 use Rattle.buffer.specs.Text.{Wrote, joined}
-use Rattle.buffer.proofs.Laws.{nothing, kept, joined-more}
+use Rattle.buffer.proofs.Digits.{nothing, kept, joined-more}
 use Rattle.book_contents.specs.Written.{fields}
 use Rattle.book_encoding.proofs.put_fields.Statement.{statement}
 use Rattle.book_encoding.proofs.put_fields.Tie as tie

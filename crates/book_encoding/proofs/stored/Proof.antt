@@ -1,13 +1,13 @@
--- `book_encoding::stored` meets its contract: 2 ^ 32 is added below zero. Assumes nothing.
+-- `book_encoding::twosComplement` meets its contract: 2 ^ 32 is added below zero. Assumes nothing.
 use mathlib.Core.Path.{_≡_, _∙_}
 use native.Mathlib.Omega.{arith}
 use lib.IntN.{pos}
 use mir.Syntax.{w64}
 use mir.Val.{toZ, ofZ}
 use mir.ValLaws.{toZ-ofZ}
-use Rattle.book_contents.specs.Written.{stored}
+use Rattle.book_contents.specs.Written.{twosComplement}
 use Rattle.book_contents.proofs.Numbers.{curve-small}
-use Rattle.book_encoding.proofs.Laws.{raised-fits, raised-casts, raised-value, below-stored, other-stored}
+use Rattle.book_encoding.proofs.CurveRates.{raised-fits, raised-casts, raised-value, below-stored, other-stored}
 use Rattle.book_encoding.proofs.stored.Statement.{statement}
 use Rattle.book_encoding.proofs.stored.Tie as tie
 
@@ -16,7 +16,7 @@ given-is : (a : tie.Start) → toZ w64 (ofZ w64 (a .args .x)) ≡ a .args .x
 given-is a = toZ-ofZ w64 (a .args .x) (a .fits .x)
 
 -- the number itself, from zero on
-is-is : (c : tie.Else1) → toZ w64 (ofZ w64 (c .before .args .x)) ≡ pos (stored (c .before .args .x))
+is-is : (c : tie.Else1) → toZ w64 (ofZ w64 (c .before .args .x)) ≡ pos (twosComplement (c .before .args .x))
 is-is c = let a = c .before in given-is a ∙ other-stored (a .args .x) (rw (given-is a) at (c .if1 .left))
 
 add-result : tie.Need-add-result

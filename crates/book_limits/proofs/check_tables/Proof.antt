@@ -1,11 +1,11 @@
 -- `book_limits::check_tables` meets its contract: three tables, one after the other. Assumes nothing.
 use borrow.Author.Needs.{needs}
-use Rattle.book_contents.specs.Limits.{checkTables}
+use Rattle.book_contents.specs.Limits.{checkGivenTables}
 use Rattle.book_limits.proofs.check_tables.Statement.{statement}
 use Rattle.book_limits.proofs.check_tables.Tie as tie
 
 returns : tie.Need-returns
-unfolding checkTables
+unfolding checkGivenTables
 returns c =
     let m = c .before .before in
     rw (

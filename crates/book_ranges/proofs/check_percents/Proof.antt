@@ -2,12 +2,12 @@
 -- Assumes nothing.
 use borrow.Author.Tests.{eq-eqb, ne-eqb}
 use borrow.Author.Needs.{needs}
-use Rattle.book_contents.specs.Limits.{checkPercents}
+use Rattle.book_contents.specs.Limits.{checkGivenPercents}
 use Rattle.book_ranges.proofs.check_percents.Statement.{statement}
 use Rattle.book_ranges.proofs.check_percents.Tie as tie
 
 returns : tie.Need-returns
-unfolding checkPercents
+unfolding checkGivenPercents
 returns c =
     rw (
       c .require .ensures,
@@ -18,7 +18,7 @@ returns c =
     )
 
 returns-2 : tie.Need-returns-2
-unfolding checkPercents
+unfolding checkGivenPercents
 returns-2 c = rw (c .require2 .ensures, c .before .need2 .ensures, ne-eqb _ _ (c .before .before .if1 .left))
 
 pub check-percents-spec : {M : Type 1} → statement M

@@ -3,7 +3,7 @@ use mathlib.Core.Path.{sym, _∙_}
 use borrow.Author.Needs.{needs}
 use Rattle.verdict.proofs.Verdicts.{accepted}
 use Rattle.book_contents.specs.Reading.{checkRead}
-use Rattle.book_contents.proofs.Walk.{book-refused}
+use Rattle.book_contents.proofs.Projection.{book-refused}
 use Rattle.book_read.proofs.check_read.Statement.{statement}
 use Rattle.book_read.proofs.check_read.Tie as tie
 

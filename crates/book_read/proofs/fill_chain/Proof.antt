@@ -6,10 +6,10 @@ use Prim.Native.Nat.{ℕ, _+_, _-_, _≤_}
 use native.Mathlib.Omega.{arith}
 use Rattle.book.specs.Layout.{fieldOf, nextOf, linkFrom, linkAt}
 use Rattle.buffer.specs.Text.{Wrote}
-use Rattle.buffer.proofs.Laws.{nothing, kept}
+use Rattle.buffer.proofs.Digits.{nothing, kept}
 use Rattle.book_contents.specs.Contents.{noClass}
 use Rattle.book_contents.specs.Reading.{each, firstIn, listIn}
-use Rattle.book_contents.proofs.Walk.{sound-long, sound-inside, sound-next, each-wrote}
+use Rattle.book_contents.proofs.Projection.{sound-long, sound-inside, sound-next, each-wrote}
 use Rattle.book_read.proofs.fill_chain.Statement.{statement}
 use Rattle.book_read.proofs.fill_chain.Tie as tie
 

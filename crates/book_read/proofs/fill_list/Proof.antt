@@ -6,8 +6,8 @@ use mathlib.Core.List.{[]}
 use Prim.Native.Nat.{_-_, _*_, _≤_}
 use native.Mathlib.Omega.{arith}
 use Rattle.buffer.specs.Text.{Wrote, joined}
-use Rattle.buffer.proofs.Laws.{nothing, kept, joined-more}
-use Rattle.book_contents.specs.Reading.{listIn, listOf}
+use Rattle.buffer.proofs.Digits.{nothing, kept, joined-more}
+use Rattle.book_contents.specs.Reading.{listIn, fieldList}
 use Rattle.book_read.proofs.fill_list.Statement.{statement}
 use Rattle.book_read.proofs.fill_list.Tie as tie
 
@@ -40,7 +40,7 @@ same-length : tie.Need-same-length Inv-loop μ-loop
 same-length c = kept (c .before .loop .inv .1)
 
 returns : tie.Need-returns Inv-loop μ-loop
-unfolding listOf
+unfolding fieldList
 returns c =
     let l = c .before .loop in
     let all : l .k ≡ 14 = omega arith in

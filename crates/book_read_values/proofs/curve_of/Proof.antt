@@ -8,7 +8,7 @@ use mir.Syntax.{w64}
 use mir.ValLaws.{toZ-ofZ}
 use Rattle.le_bytes.specs.Bytes.{readU32}
 use Rattle.book_contents.specs.Reading.{each, signedOf}
-use Rattle.book_contents.proofs.Walk.{each-set, each-done}
+use Rattle.book_contents.proofs.Projection.{each-set, each-done}
 use Rattle.book_read_values.proofs.curve_of.Statement.{statement}
 use Rattle.book_read_values.proofs.curve_of.Tie as tie
 

@@ -6,7 +6,7 @@ use native.Mathlib.Omega.{arith}
 use lib.ListN.{length, take, length-set}
 use Rattle.le_bytes.specs.Bytes.{readU32}
 use Rattle.book_contents.specs.Reading.{each}
-use Rattle.book_contents.proofs.Walk.{each-set, each-done}
+use Rattle.book_contents.proofs.Projection.{each-set, each-done}
 use Rattle.book_read_values.proofs.fill_fields.Statement.{statement}
 use Rattle.book_read_values.proofs.fill_fields.Tie as tie
 

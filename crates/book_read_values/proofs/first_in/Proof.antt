@@ -5,7 +5,7 @@ use native.Mathlib.Omega.{arith}
 use borrow.Author.Needs.{needs}
 use borrow.Author.Tests.{eq-eqb, ne-eqb}
 use Rattle.book_contents.specs.Reading.{firstIn}
-use Rattle.book_contents.proofs.Walk.{sound-long, sound-head, sound-first}
+use Rattle.book_contents.proofs.Projection.{sound-long, sound-head, sound-first}
 use Rattle.book_read_values.proofs.first_in.Statement.{statement}
 use Rattle.book_read_values.proofs.first_in.Tie as tie
 

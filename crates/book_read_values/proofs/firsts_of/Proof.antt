@@ -6,7 +6,7 @@ use Prim.Native.Nat.{_-_, _≤_, _<_}
 use native.Mathlib.Omega.{arith}
 use lib.ListN.{length, take, length-set}
 use Rattle.book_contents.specs.Reading.{each, firstIn, firstsOf}
-use Rattle.book_contents.proofs.Walk.{each-set, each-done}
+use Rattle.book_contents.proofs.Projection.{each-set, each-done}
 use Rattle.book_read_values.proofs.firsts_of.Statement.{statement}
 use Rattle.book_read_values.proofs.firsts_of.Tie as tie
 

@@ -7,7 +7,7 @@ use lib.IntN.{pos, negsuc, _-ℤ_}
 use mir.Syntax.{w64}
 use mir.Val.{toZ}
 use mir.ValLaws.{toZ-ofZ}
-use Rattle.buffer.proofs.Laws.{back}
+use Rattle.buffer.proofs.Digits.{back}
 use Rattle.book_contents.specs.Reading.{signedOf}
 use Rattle.book_read_values.proofs.signed_of.Statement.{statement}
 use Rattle.book_read_values.proofs.signed_of.Tie as tie

@@ -2,7 +2,7 @@
 use native.Mathlib.Omega.{arith}
 use borrow.Author.Needs.{needs}
 use Rattle.book_contents.specs.Reading.{valuesOf}
-use Rattle.book_contents.proofs.Walk.{sound-long}
+use Rattle.book_contents.proofs.Projection.{sound-long}
 use Rattle.book_read_values.proofs.values_of.Statement.{statement}
 use Rattle.book_read_values.proofs.values_of.Tie as tie
 

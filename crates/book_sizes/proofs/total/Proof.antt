@@ -4,22 +4,22 @@ use mathlib.Core.Path.{_≡_, refl}
 use Prim.Native.Nat.{_-_, _*_, _≤_}
 use native.Mathlib.Numerals.{add-one}
 use native.Mathlib.Omega.{arith}
-use Rattle.book_contents.specs.Contents.{before}
+use Rattle.book_contents.specs.Contents.{recordsBefore}
 use Rattle.book_sizes.proofs.total.Statement.{statement}
 use Rattle.book_sizes.proofs.total.Tie as tie
 
 abbrev Inv-loop : tie.InvT-loop
-Inv-loop first sum₀ k₀ sum k = (k ≤ 14) × (sum ≡ before first k) × (sum ≤ 121 * k)
+Inv-loop first sum₀ k₀ sum k = (k ≤ 14) × (sum ≡ recordsBefore first k) × (sum ≤ 121 * k)
 
 abbrev μ-loop : tie.MeasureT-loop
 μ-loop first sum₀ k₀ sum k = 14 - k
 
 loop-holds : tie.Need-loop-holds Inv-loop μ-loop
-unfolding before
+unfolding recordsBefore
 loop-holds c = (omega arith, refl, omega arith)
 
 loop-again : tie.Need-loop-again Inv-loop μ-loop
-unfolding before
+unfolding recordsBefore
 loop-again c =
     let l = c .before .before .loop in (
       omega arith,

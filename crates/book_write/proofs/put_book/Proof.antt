@@ -1,6 +1,6 @@
 -- `book_write::put_book` meets its contract: the header, and then the chains. Assumes nothing.
 use native.Mathlib.Omega.{arith}
-use Rattle.buffer.proofs.Laws.{_then_, kept}
+use Rattle.buffer.proofs.Digits.{_then_, kept}
 use Rattle.book_contents.specs.Written.{bookOf}
 use Rattle.book_contents.proofs.Fit.{percents-small}
 use Rattle.book_write.proofs.put_book.Statement.{statement}

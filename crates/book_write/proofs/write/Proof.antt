@@ -4,15 +4,15 @@ use Prim.Native.Nat.{_≤_}
 use native.Mathlib.Omega.{arith}
 use lib.ListN.{length}
 use borrow.Author.Needs.{needs}
-use Rattle.buffer.proofs.Laws.{kept, from-start}
+use Rattle.buffer.proofs.Digits.{kept, from-start}
 use Rattle.book_contents.specs.Contents.{given}
 use Rattle.book_contents.specs.Written.{bookOf}
 use Rattle.book_contents.specs.Limits.{Shaped}
-use Rattle.book_contents.specs.Promises.{writeReply}
+use Rattle.book_contents.specs.Contracts.{writeReply}
 use Rattle.book_contents.specs.declared.WriteReply.the-variants.{Written}
 use Rattle.book_contents.proofs.Laid.{book-length}
-use Rattle.book_contents.proofs.Fit.{fit, room-enough}
-use Rattle.book_contents.proofs.Promised.{write-promised}
+use Rattle.book_contents.proofs.Fit.{fit, capacity-enough}
+use Rattle.book_contents.proofs.WriteReadContracts.{write-promised}
 use Rattle.book_write.proofs.write.Statement.{statement}
 use Rattle.book_write.proofs.write.Tie as tie
 
@@ -36,7 +36,7 @@ returns c =
     let a = s .args in
     let v = given (a .values) (a .counts .now) (a .lapses .now) (a .premiums .now) (a .claims .now) in
     let e = sym (t .before .before .check-contents .ensures) ∙ t .enum-told .given .1 in
-    let size : length (bookOf v) ≤ length (a .out .now) = omega (arith, book-length v, room-enough v _ _ e) in
+    let size : length (bookOf v) ≤ length (a .out .now) = omega (arith, book-length v, capacity-enough v _ _ e) in
     write-promised v (a .out .now) _ _ (shaped s) (rw e (ap Written (omega (arith, w .place))))
     (rw e (from-start w size))
 

@@ -3,7 +3,7 @@ use mathlib.Core.Path.{_≡_, sym}
 use native.Mathlib.Omega.{arith}
 use lib.ListN.{length}
 use borrow.Author.Needs.{needs}
-use Rattle.buffer.proofs.Laws.{_then_, kept}
+use Rattle.buffer.proofs.Digits.{_then_, kept}
 use Rattle.book_contents.specs.Written.{frontBytes, headerBytes}
 use Rattle.book_write_header.proofs.put_header.Statement.{statement}
 use Rattle.book_write_header.proofs.put_header.Tie as tie

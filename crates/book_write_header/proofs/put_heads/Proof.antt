@@ -7,8 +7,8 @@ use Prim.Native.Nat.{ℕ, _+_, _-_, _*_, _≤_}
 use native.Mathlib.Numerals.{add-one}
 use native.Mathlib.Omega.{arith}
 use Rattle.buffer.specs.Text.{Wrote, joined}
-use Rattle.buffer.proofs.Laws.{nothing, kept, joined-more}
-use Rattle.book_contents.specs.Contents.{before}
+use Rattle.buffer.proofs.Digits.{nothing, kept, joined-more}
+use Rattle.book_contents.specs.Contents.{recordsBefore}
 use Rattle.book_contents.specs.Written.{twoBytes, headFor, headBytes}
 use Rattle.book_write_header.proofs.put_heads.Statement.{statement}
 use Rattle.book_write_header.proofs.put_heads.Tie as tie
@@ -16,20 +16,20 @@ use Rattle.book_write_header.proofs.put_heads.Tie as tie
 abbrev Inv-loop : tie.InvT-loop
 Inv-loop out₀ at first next₀ sum₀ k₀ out next sum k =
     (k ≤ 14) × Wrote out₀ at (joined (λ (i : ℕ). twoBytes (headFor first i)) k) out next × (next ≡ at + 2 * k)
-    × (sum ≡ before first k) × (sum ≤ 121 * k)
+    × (sum ≡ recordsBefore first k) × (sum ≤ 121 * k)
 
 abbrev μ-loop : tie.MeasureT-loop
 μ-loop out₀ at first next₀ sum₀ k₀ out next sum k = 14 - k
 
 loop-holds : tie.Need-loop-holds Inv-loop μ-loop
-unfolding joined before
+unfolding joined recordsBefore
 loop-holds c = (omega arith, nothing _ _, omega arith, refl, omega arith)
 
 head-for-requires : tie.Need-head-for-requires Inv-loop μ-loop
 head-for-requires c κs = let l = c .before .before .loop in (omega arith, l .inv .3, omega arith)
 
 loop-again : tie.Need-loop-again Inv-loop μ-loop
-unfolding before
+unfolding recordsBefore
 loop-again c =
     let p = c .before .before .before in
     let l = p .before .before .before .before .loop in

@@ -7,8 +7,8 @@ use Prim.Native.Nat.{_+_, _-_, _*_, _≤_}
 use native.Mathlib.Numerals.{add-one}
 use native.Mathlib.Omega.{arith}
 use Rattle.buffer.specs.Text.{Wrote, joined}
-use Rattle.buffer.proofs.Laws.{nothing, kept, joined-more}
-use Rattle.book_contents.specs.Contents.{given, before}
+use Rattle.buffer.proofs.Digits.{nothing, kept, joined-more}
+use Rattle.book_contents.specs.Contents.{given, recordsBefore}
 use Rattle.book_contents.specs.Written.{chainBytes}
 use Rattle.book_write_records.proofs.put_chains.Statement.{statement}
 use Rattle.book_write_records.proofs.put_chains.Tie as tie
@@ -16,13 +16,13 @@ use Rattle.book_write_records.proofs.put_chains.Tie as tie
 abbrev Inv-loop : tie.InvT-loop
 Inv-loop out₀ at values counts lapses premiums claims first next₀ sum₀ k₀ out next sum k =
     (k ≤ 14) × Wrote out₀ at (joined (chainBytes (given values counts lapses premiums claims)) k) out next
-    × (sum ≡ before (values .first) k) × (next ≡ at + 24 * sum) × (sum ≤ 121 * k)
+    × (sum ≡ recordsBefore (values .first) k) × (next ≡ at + 24 * sum) × (sum ≤ 121 * k)
 
 abbrev μ-loop : tie.MeasureT-loop
 μ-loop out₀ at values counts lapses premiums claims first next₀ sum₀ k₀ out next sum k = 14 - k
 
 loop-holds : tie.Need-loop-holds Inv-loop μ-loop
-unfolding joined before
+unfolding joined recordsBefore
 loop-holds c = (omega arith, nothing _ _, refl, omega arith, omega arith)
 
 put-chain-requires : tie.Need-put-chain-requires Inv-loop μ-loop
@@ -36,7 +36,7 @@ put-chain-requires c κs =
     )
 
 loop-again : tie.Need-loop-again Inv-loop μ-loop
-unfolding before
+unfolding recordsBefore
 loop-again c =
     let p = c .before .before .before .before in
     let l = p .before .before .before .loop in (

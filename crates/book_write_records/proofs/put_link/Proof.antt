@@ -1,6 +1,6 @@
 -- `book_write_records::put_link` meets its contract: six fields, one after the other. Assumes nothing.
 use borrow.Author.Needs.{needs}
-use Rattle.buffer.proofs.Laws.{_then_}
+use Rattle.buffer.proofs.Digits.{_then_}
 use Rattle.book_write_records.proofs.put_link.Statement.{statement}
 use Rattle.book_write_records.proofs.put_link.Tie as tie
 

@@ -1,12 +1,12 @@
 -- `book_write_records::put_record` meets its contract: the first eight bytes and four numbers. Assumes nothing.
 use borrow.Author.Needs.{needs}
-use Rattle.buffer.proofs.Laws.{_then_}
-use Rattle.book_contents.specs.Written.{recordBytes}
+use Rattle.buffer.proofs.Digits.{_then_}
+use Rattle.book_contents.specs.Written.{encodedRecord}
 use Rattle.book_write_records.proofs.put_record.Statement.{statement}
 use Rattle.book_write_records.proofs.put_record.Tie as tie
 
 returns : tie.Need-returns
-unfolding recordBytes
+unfolding encodedRecord
 returns c =
     let p5 = c .before .before in
     let p4 = p5 .before .before .before .before in

@@ -4,7 +4,7 @@ use native.Mathlib.Omega.{arith}
 use borrow.Author.Needs.{needs}
 use borrow.Fn.Kinds.{In}
 use borrow.Fn.PlainCycle.{Measures, is, falls, and}
-use Rattle.buffer.proofs.Laws.{one-digit, more-digits, number-most}
+use Rattle.buffer.proofs.Digits.{one-digit, more-digits, number-most}
 use Rattle.buffer.proofs.put_number.Reads as put-number
 use Rattle.buffer.proofs.put_number.Kinds as put-number-kinds
 use Rattle.buffer.proofs.+put_number.Lts-put_number as put-number-lts

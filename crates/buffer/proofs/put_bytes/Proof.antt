@@ -4,7 +4,7 @@ use native.Mathlib.Omega.{arith}
 use lib.ListN.{length, take}
 use borrow.Author.Needs.{needs}
 use Rattle.buffer.specs.Text.{Wrote}
-use Rattle.buffer.proofs.Laws.{nothing, kept, bytes-more, bytes-place, bytes-all}
+use Rattle.buffer.proofs.Digits.{nothing, kept, bytes-more, bytes-place, bytes-all}
 use Rattle.buffer.proofs.put_bytes.Statement.{statement}
 use Rattle.buffer.proofs.put_bytes.Tie as tie
 

@@ -1,7 +1,7 @@
 -- `buffer::put_ended` meets its contract: a number, and the byte that ends it. Assumes nothing.
 use borrow.Author.Needs.{needs}
 use Rattle.buffer.specs.Text.{ended}
-use Rattle.buffer.proofs.Laws.{_then_}
+use Rattle.buffer.proofs.Digits.{_then_}
 use Rattle.buffer.proofs.put_ended.Statement.{statement}
 use Rattle.buffer.proofs.put_ended.Tie as tie
 

@@ -1,7 +1,7 @@
 -- `buffer::put_refusal` meets its contract: the word, and the two numbers after it. Assumes nothing.
 use native.Mathlib.Omega.{arith}
 use borrow.Author.Needs.{needs}
-use Rattle.buffer.proofs.Laws.{_then_}
+use Rattle.buffer.proofs.Digits.{_then_}
 use Rattle.buffer.specs.Text.{refusalText}
 use Rattle.buffer.proofs.put_refusal.Statement.{statement}
 use Rattle.buffer.proofs.put_refusal.Tie as tie

@@ -4,7 +4,7 @@ use lib.Signed.{yes-nonNeg}
 use mir.Syntax.{w64}
 use mir.ValLaws.{toZ-ofZ}
 use borrow.Author.Needs.{needs}
-use Rattle.buffer.proofs.Laws.{_then_, is-below, is-other, signed-below, signed-other, size-most}
+use Rattle.buffer.proofs.Digits.{_then_, is-below, is-other, signed-below, signed-other, size-most}
 use Rattle.buffer.proofs.put_signed.Statement.{statement}
 use Rattle.buffer.proofs.put_signed.Tie as tie
 

@@ -3,7 +3,7 @@ use mir.Syntax.{w64}
 use mir.ValLaws.{toZ-ofZ}
 use borrow.Author.Needs.{needs}
 use Rattle.buffer.specs.Text.{signedEnded}
-use Rattle.buffer.proofs.Laws.{_then_}
+use Rattle.buffer.proofs.Digits.{_then_}
 use Rattle.buffer.proofs.put_signed_ended.Statement.{statement}
 use Rattle.buffer.proofs.put_signed_ended.Tie as tie
 

@@ -3,7 +3,7 @@ use native.Mathlib.Omega.{arith}
 use lib.Signed.{mag}
 use mir.Syntax.{w64}
 use mir.ValLaws.{toZ-ofZ}
-use Rattle.buffer.proofs.Laws.{less-one, size-one, back}
+use Rattle.buffer.proofs.Digits.{less-one, size-one, back}
 use Rattle.buffer.proofs.size_below.Statement.{statement}
 use Rattle.buffer.proofs.size_below.Tie as tie
 

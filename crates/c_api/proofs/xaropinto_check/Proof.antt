@@ -2,7 +2,7 @@
 -- promises. Assumes nothing.
 use mathlib.Core.Path.{refl}
 use borrow.Author.Needs.{needs}
-use Rattle.book.proofs.Promised.{check-promised}
+use Rattle.book.proofs.CheckContract.{check-promised}
 use Rattle.c_api.proofs.xaropinto_check.Statement.{statement}
 use Rattle.c_api.proofs.xaropinto_check.Tie as tie
 

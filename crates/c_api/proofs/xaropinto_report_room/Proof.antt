@@ -7,7 +7,7 @@ use Rattle.c_api.proofs.xaropinto_report_room.Tie as tie
 
 returns : tie.Need-returns
 returns c =
-    let w = c .before .report-room .ensures in
+    let w = c .before .report-length .ensures in
     record { fields-are = c .report-fields .ensures ∙ ap reportFields (w .reply-is); promised = rw (w .reply-is) at w }
 
 pub xaropinto-report-room-spec : {M : Type 1} → statement M

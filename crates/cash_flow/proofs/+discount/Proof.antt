@@ -2,7 +2,7 @@
 -- Assumes nothing.
 use native.Mathlib.Omega.{arith}
 use lib.ListN.{getD}
-use Rattle.cash_flow.proofs.Discounting.{in-none, in-more, room}
+use Rattle.cash_flow.proofs.Discounting.{in-none, in-more, capacity}
 use Prim.Native.Nat.{ℕ, _≤_, _<_}
 use borrow.Fn.Kinds.{In}
 use borrow.Fn.PlainCycle.{Measures, is, falls, and}
@@ -61,7 +61,7 @@ discount-step-years-requires : (t : ℕ) → discount-lts.Need-step-years-requir
 discount-step-years-requires t c κs =
     let a = c .before .before .before .before .before .before .pre .1 in
     let e = c .before .before .discount .ensures in
-    (omega arith, a .1, a .2, room _ _ _ _ _ (omega arith) (e .0), room _ _ _ _ _ (omega arith) (e .1))
+    (omega arith, a .1, a .2, capacity _ _ _ _ _ (omega arith) (e .0), capacity _ _ _ _ _ (omega arith) (e .1))
 
 discount-returns-2 : (t : ℕ) → discount-lts.Need-returns-2 (
   discount-below t,

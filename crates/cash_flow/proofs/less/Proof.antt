@@ -7,7 +7,7 @@ use lib.IntN.{pos, _-ℤ_}
 use mir.Syntax.{w64}
 use mir.Val.{SFits, toZ}
 use mir.ValLaws.{toZ-pos, toZ-ofZ}
-use Rattle.cash_flow.proofs.Settling.{less-mag}
+use Rattle.cash_flow.proofs.CashFlow.{less-mag}
 use borrow.Author.Needs.{needs}
 use Rattle.cash_flow.proofs.less.Statement.{statement}
 use Rattle.cash_flow.proofs.less.Tie as tie

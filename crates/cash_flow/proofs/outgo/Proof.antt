@@ -2,7 +2,7 @@
 use Prim.Native.Nat.{_*_, _≤_}
 use native.Mathlib.Nat.{mul-le-mul, div-le-of-le-mul, le-trans}
 use native.Mathlib.Omega.{arith}
-use Rattle.cash_flow.specs.Settling.{outgoOf}
+use Rattle.cash_flow.specs.CashFlow.{outgoOf}
 use borrow.Author.Needs.{needs}
 use Rattle.cash_flow.proofs.outgo.Statement.{statement}
 use Rattle.cash_flow.proofs.outgo.Tie as tie

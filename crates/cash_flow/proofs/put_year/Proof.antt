@@ -2,7 +2,7 @@
 use Prim.Native.Nat.{_*_}
 use native.Mathlib.Omega.{arith}
 use lib.ListN.{length-set}
-use Rattle.cash_flow.proofs.Settling.{four-stores}
+use Rattle.cash_flow.proofs.CashFlow.{four-stores}
 use borrow.Author.Needs.{needs}
 use Rattle.cash_flow.proofs.put_year.Statement.{statement}
 use Rattle.cash_flow.proofs.put_year.Tie as tie
@@ -17,7 +17,7 @@ slice-write-table-4 : tie.Need-slice-write-table-4
 slice-write-table-4 c = simp length-set (omega arith)
 
 returns : tie.Need-returns
-returns c = let y = c .args .y in four-stores (c .args .table .now) (4 * c .args .k) (y .premium) (y .outgo) (y .dpremium) (y .doutgo) (omega arith)
+returns c = let y = c .args .y in four-stores (c .args .table .now) (4 * c .args .k) (y .premium) (y .outgo) (y .«discounted_premium») (y .«discounted_outgo») (omega arith)
 
 pub put-year-spec : {M : Type 1} → statement M
 put-year-spec =

@@ -4,7 +4,7 @@ use mathlib.Core.Path.{_≡_}
 use Prim.Native.Nat.{_+_, _-_, _≤_}
 use native.Mathlib.Omega.{arith}
 use borrow.Author.Needs.{needs}
-use Rattle.cash_flow.specs.Settling.{Stepped}
+use Rattle.cash_flow.specs.CashFlow.{Stepped}
 use Rattle.cash_flow.proofs.Discounting.{stepped-none, stepped-more, stepped-two}
 use Rattle.cash_flow.proofs.step_years.Statement.{statement}
 use Rattle.cash_flow.proofs.step_years.Tie as tie

@@ -2,7 +2,7 @@
 use mathlib.Core.Path.{refl}
 use native.Mathlib.Omega.{arith}
 use borrow.Author.Needs.{needs}
-use Rattle.cell_projection.proofs.Years.{room, both}
+use Rattle.cell_projection.proofs.Years.{capacity, both}
 use Rattle.cell_projection.proofs.add_two.Statement.{statement}
 use Rattle.cell_projection.proofs.add_two.Tie as tie
 
@@ -12,7 +12,7 @@ add-at-requires c κs = let a = c .before in (omega (arith, a .pre .0), omega (a
 add-at-requires-2 : tie.Need-add-at-requires-2
 add-at-requires-2 c κs =
     let a = c .before .before .before in
-    (omega (arith, a .pre .0), room (a .args .sums .now) _ (a .args .j) _ (a .args .x) _ (c .before .add-at .ensures) (λ q. omega (arith, q)) (a .pre .3) (a .pre .2))
+    (omega (arith, a .pre .0), capacity (a .args .sums .now) _ (a .args .j) _ (a .args .x) _ (c .before .add-at .ensures) (λ q. omega (arith, q)) (a .pre .3) (a .pre .2))
 
 returns : tie.Need-returns
 returns c = both _ _ _ _ _ _ _ _ (c .before .before .add-at .ensures) (c .add-at2 .ensures) refl refl

@@ -3,7 +3,7 @@ use mathlib.Core.Path.{_≡_, refl}
 use Prim.Native.Nat.{ℕ, _-_, _≤_, _<_}
 use native.Mathlib.Omega.{arith}
 use borrow.Author.Tests.{ltb-true, ltb-false}
-use Rattle.cell_projection.proofs.Single.{RunIn, within-start, within-room, run-ready, run-more, run-ended, run-out}
+use Rattle.cell_projection.proofs.Single.{RunIn, within-start, within-capacity, run-ready, run-more, run-ended, run-out}
 use Rattle.cell_projection.proofs.alone.Statement.{statement}
 use Rattle.cell_projection.proofs.alone.Tie as tie
 
@@ -22,7 +22,7 @@ one-year-requires c κs =
     let m = c .before .before .before .before in
     let a = m .before in
     let run = m .loop .inv in
-    (run-ready _ _ _ _ _ _ _ _ _ run (a .pre .0) year, a .pre .1, year, λ j. omega (arith, within-room _ _ _ _ _ _ _ _ (a .pre .0) (run .3) 3000000000000000 (a .pre .4) j), a .pre .5)
+    (run-ready _ _ _ _ _ _ _ _ _ run (a .pre .0) year, a .pre .1, year, λ j. omega (arith, within-capacity _ _ _ _ _ _ _ _ (a .pre .0) (run .3) 3000000000000000 (a .pre .4) j), a .pre .5)
 
 loop-again : tie.Need-loop-again Inv-loop μ-loop
 loop-again c =

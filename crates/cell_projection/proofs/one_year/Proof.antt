@@ -3,7 +3,7 @@ use Prim.Native.Nat.{_+_, _*_}
 use native.Mathlib.Omega.{arith}
 use borrow.Author.Needs.{needs}
 use Rattle.cell.proofs.Cells.{premium-in-le, claims-in-le, held-low, next-held}
-use Rattle.cell_projection.proofs.Years.{room, both}
+use Rattle.cell_projection.proofs.Years.{capacity, both}
 use Rattle.cell_projection.proofs.one_year.Statement.{statement}
 use Rattle.cell_projection.proofs.one_year.Tie as tie
 
@@ -15,7 +15,7 @@ add-at-requires c κs =
 add-at-requires-2 : tie.Need-add-at-requires-2
 add-at-requires-2 c κs =
     let a = c .before .before .before .before .before in
-    (omega (arith, a .pre .1, a .pre .2), room (a .args .sums .now) _ (10 * a .args .k + 2 * a .args .setting) _ (c .before .before .before .premium .result) _ (c .before .before .add-at .ensures) (λ q. omega (arith, q)) (a .pre .3) (omega (arith, c .claims .ensures, claims-in-le _ _ (a .pre .0))))
+    (omega (arith, a .pre .1, a .pre .2), capacity (a .args .sums .now) _ (10 * a .args .k + 2 * a .args .setting) _ (c .before .before .before .premium .result) _ (c .before .before .add-at .ensures) (λ q. omega (arith, q)) (a .pre .3) (omega (arith, c .claims .ensures, claims-in-le _ _ (a .pre .0))))
 
 next-year-requires : tie.Need-next-year-requires
 next-year-requires c κs =

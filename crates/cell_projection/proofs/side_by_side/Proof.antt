@@ -1,9 +1,9 @@
 -- `cell_projection::side_by_side` meets its contract: year 0, the first five years, and the later ones where all have something in force. Assumes nothing.
 use mathlib.Core.Path.{_≡_, refl}
 use native.Mathlib.Omega.{arith}
-use Rattle.cell_projection.specs.Walked.{WalkedTo}
+use Rattle.cell_projection.specs.Projected.{ProjectedTo}
 use Rattle.cell_projection.proofs.Years.{late-start}
-use Rattle.cell_projection.proofs.Fives.{Run, run-room, reached-start, first-run, run-then}
+use Rattle.cell_projection.proofs.Fives.{Run, run-capacity, reached-start, first-run, run-then}
 use Rattle.cell_projection.proofs.side_by_side.Statement.{statement}
 use Rattle.cell_projection.proofs.side_by_side.Tie as tie
 
@@ -27,13 +27,13 @@ together-requires c κs =
     let m = c .before in
     let a = m .before .before .before .before in
     let run = begun m in
-    (a .pre .0, omega arith, omega arith, run .2, λ j. omega (arith, run-room _ _ _ _ _ _ _ _ run (a .pre .0) 2000000000000000 (a .pre .1) j), a .pre .2)
+    (a .pre .0, omega arith, omega arith, run .2, λ j. omega (arith, run-capacity _ _ _ _ _ _ _ _ run (a .pre .0) 2000000000000000 (a .pre .1) j), a .pre .2)
 
 -- the first five years, as far as all have something in force
 abbrev Early : tie.After-together → Type 0
 Early m =
     let a = m .before .before .before .before .before .before .args in
-    WalkedTo (a .rows .now) (a .own) (a .count) 0 5 (m .together .result) (a .sums .now) (m .together .last .1 .1 .1 .1 .1 .1 .1 .0)
+    ProjectedTo (a .rows .now) (a .own) (a .count) 0 5 (m .together .result) (a .sums .now) (m .together .last .1 .1 .1 .1 .1 .1 .1 .0)
 
 early : (m : tie.After-together) → Early m
 early m = run-then _ _ _ 1 5 _ _ _ _ _ (begun (m .before .before)) (m .together .ensures)
@@ -48,7 +48,7 @@ together-requires-2 c κs =
       omega arith,
       omega arith,
       rw five at (w .reached),
-      λ j. omega (arith, run-room _ _ _ 0 _ _ _ _ (w .since, omega (arith, w .most), w .reached, w .sums) (a .pre .0) 2000000000000000 (a .pre .1) j),
+      λ j. omega (arith, run-capacity _ _ _ 0 _ _ _ _ (w .since, omega (arith, w .most), w .reached, w .sums) (a .pre .0) 2000000000000000 (a .pre .1) j),
       a .pre .2,
     )
 

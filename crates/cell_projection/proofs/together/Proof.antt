@@ -3,7 +3,7 @@ use mathlib.Core.Path.{_≡_, refl}
 use Prim.Native.Nat.{ℕ, _-_, _≤_, _<_}
 use native.Mathlib.Omega.{arith}
 use Rattle.cell_projection.proofs.Years.{late-start}
-use Rattle.cell_projection.proofs.Fives.{Run, run-ready, run-room, run-more}
+use Rattle.cell_projection.proofs.Fives.{Run, run-ready, run-capacity, run-more}
 use Rattle.cell_projection.proofs.Least.{all-in-force}
 use Rattle.cell_projection.proofs.together.Statement.{statement}
 use Rattle.cell_projection.proofs.together.Tie as tie
@@ -23,7 +23,7 @@ year-requires c κs =
     let a = m .before in
     let run = m .loop .inv .1 in
     let year : m .loop .k < 50 = omega (arith, c .before .before .before .loop-test .taken, a .pre .2) in
-    (run-ready _ _ _ _ _ _ _ _ run (a .pre .0) year, year, λ j. omega (arith, run-room _ _ _ _ _ _ _ _ run (a .pre .0) 2500000000000000 (a .pre .4) j), a .pre .5)
+    (run-ready _ _ _ _ _ _ _ _ run (a .pre .0) year, year, λ j. omega (arith, run-capacity _ _ _ _ _ _ _ _ run (a .pre .0) 2500000000000000 (a .pre .4) j), a .pre .5)
 
 loop-again : tie.Need-loop-again Inv-loop μ-loop
 loop-again c =

@@ -25,13 +25,13 @@ after : (m : tie.After-one-year) → AtMost 3001000000000000 (m .one-year .last 
 after m = let a = m .before .before in more _ 0 _ _ _ _ _ (a .pre .0 .base) (a .pre .2) (m .one-year .ensures .1)
 
 after-2 : (m : tie.After-one-year2) → AtMost 3002000000000000 (m .one-year2 .last .1 .1 .1 .1 .1 .0)
-after-2 m = let a = m .before .before .before .before in more _ 1 _ _ _ _ _ (a .pre .0 .more-deaths) (after (m .before .before)) (m .one-year2 .ensures .1)
+after-2 m = let a = m .before .before .before .before in more _ 1 _ _ _ _ _ (a .pre .0 .mortality-up) (after (m .before .before)) (m .one-year2 .ensures .1)
 
 after-3 : (m : tie.After-one-year3) → AtMost 3003000000000000 (m .one-year3 .last .1 .1 .1 .1 .1 .0)
-after-3 m = let a = m .before .before .before .before .before .before in more _ 2 _ _ _ _ _ (a .pre .0 .fewer-deaths) (after-2 (m .before .before)) (m .one-year3 .ensures .1)
+after-3 m = let a = m .before .before .before .before .before .before in more _ 2 _ _ _ _ _ (a .pre .0 .mortality-down) (after-2 (m .before .before)) (m .one-year3 .ensures .1)
 
 after-4 : (m : tie.After-one-year4) → AtMost 3004000000000000 (m .one-year4 .last .1 .1 .1 .1 .1 .0)
-after-4 m = let a = m .before .before .before .before .before .before .before .before in more _ 3 _ _ _ _ _ (a .pre .0 .more-lapses) (after-3 (m .before .before)) (m .one-year4 .ensures .1)
+after-4 m = let a = m .before .before .before .before .before .before .before .before in more _ 3 _ _ _ _ _ (a .pre .0 .lapse-up) (after-3 (m .before .before)) (m .one-year4 .ensures .1)
 
 one-year-requires : tie.Need-one-year-requires
 unfolding fiveColumns
@@ -39,23 +39,23 @@ one-year-requires c κs = let a = c .before in (a .pre .0 .base, omega arith, a 
 
 one-year-requires-2 : tie.Need-one-year-requires-2
 unfolding fiveColumns
-one-year-requires-2 c κs = let a = c .before .before .before in (a .pre .0 .more-deaths, omega arith, a .pre .1, λ j. omega (arith, after (c .before) j), ap (λ (x : FiveColumns). x .moredeaths) (a .pre .3))
+one-year-requires-2 c κs = let a = c .before .before .before in (a .pre .0 .mortality-up, omega arith, a .pre .1, λ j. omega (arith, after (c .before) j), ap (λ (x : FiveColumns). x .«mortality_up») (a .pre .3))
 
 one-year-requires-3 : tie.Need-one-year-requires-3
 unfolding fiveColumns
-one-year-requires-3 c κs = let a = c .before .before .before .before .before in (a .pre .0 .fewer-deaths, omega arith, a .pre .1, λ j. omega (arith, after-2 (c .before) j), ap (λ (x : FiveColumns). x .fewerdeaths) (a .pre .3))
+one-year-requires-3 c κs = let a = c .before .before .before .before .before in (a .pre .0 .mortality-down, omega arith, a .pre .1, λ j. omega (arith, after-2 (c .before) j), ap (λ (x : FiveColumns). x .«mortality_down») (a .pre .3))
 
 one-year-requires-4 : tie.Need-one-year-requires-4
 unfolding fiveColumns
-one-year-requires-4 c κs = let a = c .before .before .before .before .before .before .before in (a .pre .0 .more-lapses, omega arith, a .pre .1, λ j. omega (arith, after-3 (c .before) j), ap (λ (x : FiveColumns). x .morelapses) (a .pre .3))
+one-year-requires-4 c κs = let a = c .before .before .before .before .before .before .before in (a .pre .0 .lapse-up, omega arith, a .pre .1, λ j. omega (arith, after-3 (c .before) j), ap (λ (x : FiveColumns). x .«lapse_up») (a .pre .3))
 
 one-year-requires-5 : tie.Need-one-year-requires-5
 unfolding fiveColumns
-one-year-requires-5 c κs = let a = c .before .before .before .before .before .before .before .before .before in (a .pre .0 .fewer-lapses, omega arith, a .pre .1, λ j. omega (arith, after-4 (c .before) j), ap (λ (x : FiveColumns). x .fewerlapses) (a .pre .3))
+one-year-requires-5 c κs = let a = c .before .before .before .before .before .before .before .before .before in (a .pre .0 .lapse-down, omega arith, a .pre .1, λ j. omega (arith, after-4 (c .before) j), ap (λ (x : FiveColumns). x .«lapse_down») (a .pre .3))
 
 -- five tables, one after the other
-chained : (t : List ℕ) (k : ℕ) (c : Five) (u v w x y z : List ℕ) → v ≡ yearMore t 0 k (c .base) u → w ≡ yearMore t 1 k (c .moredeaths) v
-    → x ≡ yearMore t 2 k (c .fewerdeaths) w → y ≡ yearMore t 3 k (c .morelapses) x → z ≡ yearMore t 4 k (c .fewerlapses) y → z ≡ tenMore t k c u
+chained : (t : List ℕ) (k : ℕ) (c : Five) (u v w x y z : List ℕ) → v ≡ yearMore t 0 k (c .base) u → w ≡ yearMore t 1 k (c .«mortality_up») v
+    → x ≡ yearMore t 2 k (c .«mortality_down») w → y ≡ yearMore t 3 k (c .«lapse_up») x → z ≡ yearMore t 4 k (c .«lapse_down») y → z ≡ tenMore t k c u
 unfolding tenMore
 chained t k c u v w x y z ev ew ex ey ez = rw (ez, ey, ex, ew, ev)
 

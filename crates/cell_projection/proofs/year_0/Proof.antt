@@ -11,20 +11,20 @@ use Rattle.settings.specs.declared.Columns.{Columns}
 use Rattle.settings.specs.declared.FiveColumns.{FiveColumns}
 use Rattle.rate_table.specs.Rows.{rate, RowReady}
 use Rattle.cell.specs.declared.Cell.{Cell}
-use Rattle.cell.specs.States.{Walkable, Ready, nextBy, nextYear}
+use Rattle.cell.specs.States.{Projectable, Ready, nextBy, nextYear}
 use Rattle.cell.proofs.Cells.{state-ready, state-start, held-low, next-held}
 use Rattle.cell_projection.specs.Five.{startOf, nextFive, tenMore, fiveTimesMore}
 use Rattle.cell_projection.proofs.year_0.Statement.{statement}
 use Rattle.cell_projection.proofs.year_0.Tie as tie
 
 -- the cell's first row, and what its contracts bring in at most
-first-row : (t : List ℕ) (r n : ℕ) → Walkable t r n → RowReady t r
+first-row : (t : List ℕ) (r n : ℕ) → Projectable t r n → RowReady t r
 first-row t r n s = rw (add-zero r) at (s .rows 0 (omega arith))
 
-premium-le : (t : List ℕ) (r n : ℕ) → Walkable t r n → n * rate t r 6 ≤ 1000000000000
+premium-le : (t : List ℕ) (r n : ℕ) → Projectable t r n → n * rate t r 6 ≤ 1000000000000
 premium-le t r n s = le-trans (mul-le-mul (s .few) (first-row t r n s .premium)) (omega arith)
 
-claims-le : (t : List ℕ) (r n : ℕ) → Walkable t r n → n * rate t r 7 ≤ 1000000000000
+claims-le : (t : List ℕ) (r n : ℕ) → Projectable t r n → n * rate t r 7 ≤ 1000000000000
 claims-le t r n s = le-trans (mul-le-mul (s .few) (first-row t r n s .claims)) (omega arith)
 
 mul-premium-3 : tie.Need-mul-premium-3
@@ -39,7 +39,7 @@ add-year-0-requires c κs =
     (premium-le _ _ _ (a .pre .0), claims-le _ _ _ (a .pre .0), a .pre .1)
 
 -- the state that is stepped, by the columns of a projection
-steps : (t : List ℕ) (r n setting : ℕ) (c : Cell) (d : Columns) → Walkable t r n → c ≡ record { row = r; inforce = n * 1000000000 } → d ≡ columnsOf setting
+steps : (t : List ℕ) (r n setting : ℕ) (c : Cell) (d : Columns) → Projectable t r n → c ≡ record { row = r; inforce = n * 1000000000 } → d ≡ columnsOf setting
     → Ready t c × (livesIn d 0 ≤ 5) × (staysIn d 0 ≤ 5)
 steps t r n setting c d s e h =
     let low = held-low setting 0 d h in
@@ -55,25 +55,25 @@ next-year-requires-2 : tie.Need-next-year-requires-2
 unfolding fiveColumns
 next-year-requires-2 c κs =
     let a = c .before .before .before .before .before .before in
-    steps _ _ _ 1 _ _ (a .pre .0) (c .before .new .ensures) (ap (λ (x : FiveColumns). x .moredeaths) (a .pre .2))
+    steps _ _ _ 1 _ _ (a .pre .0) (c .before .new .ensures) (ap (λ (x : FiveColumns). x .«mortality_up») (a .pre .2))
 
 next-year-requires-3 : tie.Need-next-year-requires-3
 unfolding fiveColumns
 next-year-requires-3 c κs =
     let a = c .before .before .before .before .before .before .before in
-    steps _ _ _ 2 _ _ (a .pre .0) (c .before .before .new .ensures) (ap (λ (x : FiveColumns). x .fewerdeaths) (a .pre .2))
+    steps _ _ _ 2 _ _ (a .pre .0) (c .before .before .new .ensures) (ap (λ (x : FiveColumns). x .«mortality_down») (a .pre .2))
 
 next-year-requires-4 : tie.Need-next-year-requires-4
 unfolding fiveColumns
 next-year-requires-4 c κs =
     let a = c .before .before .before .before .before .before .before .before in
-    steps _ _ _ 3 _ _ (a .pre .0) (c .before .before .before .new .ensures) (ap (λ (x : FiveColumns). x .morelapses) (a .pre .2))
+    steps _ _ _ 3 _ _ (a .pre .0) (c .before .before .before .new .ensures) (ap (λ (x : FiveColumns). x .«lapse_up») (a .pre .2))
 
 next-year-requires-5 : tie.Need-next-year-requires-5
 unfolding fiveColumns
 next-year-requires-5 c κs =
     let a = c .before .before .before .before .before .before .before .before .before in
-    steps _ _ _ 4 _ _ (a .pre .0) (c .before .before .before .before .new .ensures) (ap (λ (x : FiveColumns). x .fewerlapses) (a .pre .2))
+    steps _ _ _ 4 _ _ (a .pre .0) (c .before .before .before .before .new .ensures) (ap (λ (x : FiveColumns). x .«lapse_down») (a .pre .2))
 
 stepped : (t : List ℕ) (r n setting : ℕ) (c x : Cell) (d : Columns) → c ≡ record { row = r; inforce = n * 1000000000 } → d ≡ columnsOf setting
     → x ≡ nextBy t (livesIn d 0) (staysIn d 0) c → x ≡ nextYear t setting 0 (record { row = r; inforce = n * 1000000000 })
@@ -102,10 +102,10 @@ returns c =
     let five = a .pre .2 in (
       rw (
         stepped t r n 0 _ _ _ new (ap (λ (x : FiveColumns). x .base) five) (first .next-year .ensures),
-        stepped t r n 1 _ _ _ new (ap (λ (x : FiveColumns). x .moredeaths) five) (second .next-year2 .ensures),
-        stepped t r n 2 _ _ _ new (ap (λ (x : FiveColumns). x .fewerdeaths) five) (third .next-year3 .ensures),
-        stepped t r n 3 _ _ _ new (ap (λ (x : FiveColumns). x .morelapses) five) (fourth .next-year4 .ensures),
-        stepped t r n 4 _ _ _ new (ap (λ (x : FiveColumns). x .fewerlapses) five) (c .next-year5 .ensures),
+        stepped t r n 1 _ _ _ new (ap (λ (x : FiveColumns). x .«mortality_up») five) (second .next-year2 .ensures),
+        stepped t r n 2 _ _ _ new (ap (λ (x : FiveColumns). x .«mortality_down») five) (third .next-year3 .ensures),
+        stepped t r n 3 _ _ _ new (ap (λ (x : FiveColumns). x .«lapse_up») five) (fourth .next-year4 .ensures),
+        stepped t r n 4 _ _ _ new (ap (λ (x : FiveColumns). x .«lapse_down») five) (c .next-year5 .ensures),
       ),
       first .before .before .add-year-0 .ensures ∙ five-whole t _ r n,
     )

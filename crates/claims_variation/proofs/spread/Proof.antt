@@ -4,7 +4,7 @@ use borrow.Author.Needs.{needs}
 use borrow.Author.Tests.{eq-eqb, ne-eqb}
 use Rattle.claims_variation.specs.Replies.{spreadReply}
 use Rattle.claims_variation.proofs.Passed.{accepted-ranked}
-use Rattle.claims_variation.proofs.Promised.{spread-promised}
+use Rattle.claims_variation.proofs.SpreadContract.{spread-promised}
 use Rattle.claims_variation.proofs.spread.Statement.{statement}
 use Rattle.claims_variation.proofs.spread.Tie as tie
 

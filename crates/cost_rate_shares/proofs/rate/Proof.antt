@@ -1,17 +1,17 @@
--- `cost_rate_shares::rate` meets its contract: a group that is not empty has premium in every year. Assumes nothing.
+-- `cost_rate_shares::accountsRate` meets its contract: a group that is not empty has premium in every year. Assumes nothing.
 use mathlib.Core.Path.{_≡_, sym, _∙_}
 use mathlib.Core.Bool.{false}
 use Prim.Native.Nat.{ℕ, _<_}
 use native.Mathlib.Omega.{arith}
 use borrow.Author.Needs.{needs}
 use Rattle.cost_rate_shares.specs.declared.Accounts.{Accounts}
-use Rattle.cost_rate_shares.specs.Rates.{figure, isEmpty, rate}
+use Rattle.cost_rate_shares.specs.Rates.{figure, isEmpty, accountsRate}
 use Rattle.cost_rate_shares.specs.Usable.{Usable}
 use Rattle.cost_rate_shares.proofs.rate.Statement.{statement}
 use Rattle.cost_rate_shares.proofs.rate.Tie as tie
 
 returns : tie.Need-returns
-unfolding rate
+unfolding accountsRate
 returns c = rw (sym (c .before .is-empty .ensures) ∙ c .if1 .taken)
 
 -- what a year's rate asks for
@@ -37,7 +37,7 @@ year-rate-requires-3 c κs =
     asked _ _ 2 (omega arith) (a .pre .0) (a .pre .1) (sym (m .before .is-empty .ensures) ∙ m .if1 .left)
 
 returns-2 : tie.Need-returns-2
-unfolding rate
+unfolding accountsRate
 returns-2 c =
     let m = c .before .before .before in
     let e = sym (m .before .is-empty .ensures) ∙ m .if1 .left in

@@ -4,7 +4,7 @@ use native.Mathlib.Omega.{arith}
 use lib.ListN.{length-drop}
 use lib.Seq.{length-take-le}
 use borrow.Author.Needs.{needs}
-use Rattle.buffer.proofs.Laws.{_then_}
+use Rattle.buffer.proofs.Digits.{_then_}
 use Rattle.funds.specs.Funds.{frontSize, joinedBook}
 use Rattle.funds.proofs.Joined.{rest-whole}
 use Rattle.funds.proofs.join.Statement.{statement}

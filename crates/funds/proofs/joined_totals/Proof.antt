@@ -13,7 +13,7 @@ use Rattle.funds.proofs.joined_totals.Tie as tie
 back : (c : tie.After-join) → (c .join .result ≤ length (c .join .last .0)) × (take (c .join .result) (c .join .last .0) ≡ joinedBook (c .before .before .before .before .before .args .table .now) (c .before .before .before .before .before .args .fund .now))
 back c =
     let a = c .before .before .before .before .before in
-    read-back (a .args .table .now) (a .args .fund .now) (a .pre .0) (c .join .ensures) (omega (arith, a .pre .1, c .before .before .room .ensures))
+    read-back (a .args .table .now) (a .args .fund .now) (a .pre .0) (c .join .ensures) (omega (arith, a .pre .1, c .before .before .input-buffer .ensures))
 
 array-share-prefix-book : tie.Need-array-share-prefix-book
 array-share-prefix-book c = back (c .before) .0

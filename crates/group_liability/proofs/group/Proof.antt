@@ -1,4 +1,4 @@
--- `group_liability::group` meets its contract: where a refusal applies it is given and nothing is touched; else reply and table are those of `settle`.
+-- `group_liability::group` meets its contract: where a refusal applies it is given and nothing is touched; else reply and table are those of `value_group`.
 -- What is promised of both follows from these two equations. Assumes nothing.
 use mathlib.Core.Logic.{inr}
 use mathlib.Core.Path.{refl, sym, ap, _∙_}
@@ -8,9 +8,9 @@ use mir.ValLaws.{toZ-ofZ}
 use native.Mathlib.Omega.{arith}
 use borrow.Author.Needs.{needs}
 use Rattle.valuation.specs.Replies.{groupLiability, groupReply, groupTable}
-use Rattle.valuation.specs.declared.GroupReply.the-variants.{Reckoned}
+use Rattle.valuation.specs.declared.GroupReply.the-variants.{Valued}
 use Rattle.valuation.proofs.Accepted.{group-setting, group-table, group-range, group-valid}
-use Rattle.valuation.proofs.Promised.{promised}
+use Rattle.valuation.proofs.GroupContract.{promised}
 use Rattle.settings.proofs.Serving.{projection-low}
 use Rattle.group_liability.proofs.group.Statement.{statement}
 use Rattle.group_liability.proofs.group.Tie as tie
@@ -38,8 +38,8 @@ group-sums-requires c κs =
     let s = c .before .before .before .new .ensures .1 in
     (c .before .before .new2 .ensures, group-valid _ _ _ _ _ e, group-range _ _ _ _ _ e .0, group-range _ _ _ _ _ e .1, omega (arith, s .projection-is, projection-low (c .before .before .before .new .result .number)), refl)
 
-settle-requires : tie.Need-settle-requires
-settle-requires c κs =
+value-group-requires : tie.Need-value-group-requires
+value-group-requires c κs =
     let m = c .before .before .before .before .before .before .before in
     let e = sym (m .before .before .check-group .ensures) ∙ m .enum-told .given .1 in
     let s = c .before .before .before .before .before .before .new .ensures .1 in
@@ -54,13 +54,13 @@ returns-2 c =
     let setting = a .setting in
     let g = a .group in
     let e = sym (m .before .before .check-group .ensures) ∙ m .enum-told .given .1 in
-    let s = c .before .before .settle in
+    let s = c .before .before .value-group in
     let own = c .before .before .before .before .before .before .before .before .before .new .ensures .0 in
     let l = toZ-ofZ w64 (s .result) (record { sfits = s .ok }) ∙ rw own at (s .ensures .liability-is) in
     let n = c .before .before .before .before .before .group-sums .ensures .n-is in
-    promised _ _ _ _ _ _ (rw (e, l) (ap (λ (m : ℕ). Reckoned (groupLiability b setting g) m) n)) (rw e (rw own at (s .ensures .table-is)))
+    promised _ _ _ _ _ _ (rw (e, l) (ap (λ (m : ℕ). Valued (groupLiability b setting g) m) n)) (rw e (rw own at (s .ensures .table-is)))
 
 pub group-spec : {M : Type 1} → statement M
 group-spec =
     tie.close
-    (tie.spec (search needs) (search needs) returns (search needs) new-requires new-requires-2 group-sums-requires settle-requires (search needs) returns-2)
+    (tie.spec (search needs) (search needs) returns (search needs) new-requires new-requires-2 group-sums-requires value-group-requires (search needs) returns-2)

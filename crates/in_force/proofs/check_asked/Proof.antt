@@ -1,5 +1,5 @@
 -- `in_force::check_asked` meets its contract: the caller's refusals in a row. Assumes nothing.
-use Rattle.in_force.specs.Screen.{askedCheck}
+use Rattle.in_force.specs.InForceRun.{askedCheck}
 use borrow.Author.Needs.{needs}
 use Rattle.in_force.proofs.check_asked.Statement.{statement}
 use Rattle.in_force.proofs.check_asked.Tie as tie

@@ -10,10 +10,10 @@ use Rattle.verdict.specs.declared.Verdict.the-variants.{Accepted}
 use Rattle.book.specs.Check.{checkBook}
 use Rattle.book.proofs.Valid.{valid}
 use Rattle.valuation.specs.Portfolio.{chainLinks}
-use Rattle.in_force.specs.Screen.{ofClass, recordOf, askedCheck, inForceRun}
+use Rattle.in_force.specs.InForceRun.{ofClass, recordAtClass, askedCheck, inForceRun}
 use Rattle.in_force.proofs.Records.{link-standing}
-use Rattle.in_force.proofs.Promised.{asked-setting, asked-code, asked-sex, asked-numbers, by-asked, by-book}
-use Rattle.in_force.proofs.Promised.{by-class, by-none, refused, shown}
+use Rattle.in_force.proofs.InForceContract.{asked-setting, asked-code, asked-sex, asked-numbers, by-asked, by-book}
+use Rattle.in_force.proofs.InForceContract.{by-class, by-none, refused, shown}
 use Rattle.in_force.proofs.in_force.Statement.{statement}
 use Rattle.in_force.proofs.in_force.Tie as tie
 
@@ -56,8 +56,8 @@ module _ (c : tie.After-record-of) where
   wanted = given (c .before .before .before .before .before)
 
   found : c .record-of .result
-      ≡ recordOf (wanted .args .book .now) (wanted .args .code) (wanted .args .sex) (wanted .args .class)
-  unfolding recordOf
+      ≡ recordAtClass (wanted .args .book .now) (wanted .args .code) (wanted .args .sex) (wanted .args .class)
+  unfolding recordAtClass
   found =
       let b = wanted .args .book .now in
       c .record-of .ensures

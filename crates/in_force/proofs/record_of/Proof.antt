@@ -9,7 +9,7 @@ use Rattle.book.specs.Reading.{ChainFrom}
 use Rattle.book.proofs.Valid.{chain-here, chain-next}
 use Rattle.valuation.specs.Portfolio.{chainLinks}
 use Rattle.valuation.proofs.Members.{counted}
-use Rattle.in_force.specs.Screen.{ofClass}
+use Rattle.in_force.specs.InForceRun.{ofClass}
 use Rattle.in_force.proofs.Records.{chain-empty, chain-list, counted-here, counted-on, counted-end}
 use Rattle.in_force.proofs.record_of.Statement.{statement}
 use Rattle.in_force.proofs.record_of.Tie as tie

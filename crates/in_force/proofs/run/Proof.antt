@@ -10,17 +10,17 @@ use Rattle.valuation.specs.Arithmetic.{rounded}
 use Rattle.valuation.specs.Steps.{inForce}
 use Rattle.valuation.specs.Portfolio.{rowAt, cellOf}
 use Rattle.cell.specs.declared.Cell.{Cell}
-use Rattle.cell.specs.States.{cellIn, stateIn, Walkable}
+use Rattle.cell.specs.States.{cellIn, stateIn, Projectable}
 use Rattle.cell.proofs.Cells.{state-ready, state-start, state-next, inforce-is, held-low, next-held}
-use Rattle.cell.proofs.Agreement.{walkable, inforce-same}
-use Rattle.in_force.specs.Screen.{firstYears}
+use Rattle.cell.proofs.Agreement.{projectable, inforce-same}
+use Rattle.in_force.specs.InForceRun.{firstYears}
 use Rattle.in_force.proofs.Fifty.{years-length, years-more, years-same}
 use Rattle.in_force.proofs.run.Statement.{statement}
 use Rattle.in_force.proofs.run.Tie as tie
 
 abbrev Inv-loop : tie.InvT-loop
 Inv-loop book setting chain i out₀ columns rows cell₀ k₀ out cell k =
-    (k ≤ 50) × Walkable rows 0 (fieldOf book i countOffset) × (cell ≡ stateIn rows 0 (fieldOf book i countOffset) setting k)
+    (k ≤ 50) × Projectable rows 0 (fieldOf book i countOffset) × (cell ≡ stateIn rows 0 (fieldOf book i countOffset) setting k)
     × (out ≡ firstYears (inForce rounded (cellIn rows 0 (fieldOf book i countOffset) setting)) k ++ drop k out₀)
 
 abbrev μ-loop : tie.MeasureT-loop
@@ -52,7 +52,7 @@ loop-holds c =
     let g = a .args in
     let e = c .before .field-of .ensures .0 in (
       omega arith,
-      walkable (g .book .now) (g .chain) (g .i) (a .pre .3) _ (c .before .before .read-rows .ensures) 0 (omega arith),
+      projectable (g .book .now) (g .chain) (g .i) (a .pre .3) _ (c .before .before .read-rows .ensures) 0 (omega arith),
       c .new3 .ensures ∙ rw e (sym (state-start _ 0 _ (g .setting))),
       refl,
     )

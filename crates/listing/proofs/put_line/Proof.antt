@@ -2,7 +2,7 @@
 use mir.Syntax.{w64}
 use mir.ValLaws.{toZ-ofZ}
 use borrow.Author.Needs.{needs}
-use Rattle.buffer.proofs.Laws.{_then_}
+use Rattle.buffer.proofs.Digits.{_then_}
 use Rattle.listing.specs.Listing.{listingLine}
 use Rattle.listing.proofs.put_line.Statement.{statement}
 use Rattle.listing.proofs.put_line.Tie as tie

@@ -2,10 +2,10 @@
 -- bytes tells the length, and the listing is written where it fits. Assumes nothing.
 use native.Mathlib.Omega.{arith}
 use borrow.Author.Needs.{needs}
-use Rattle.buffer.proofs.Laws.{trial, kept}
+use Rattle.buffer.proofs.Digits.{trial, kept}
 use Rattle.buffer.proofs.Replies.{text-refused, text-short, text-written}
 use Rattle.listing.proofs.Refusals.{totals-accepted, totals-refused}
-use Rattle.listing.proofs.Promised.{listing-promised, listing-written, refused-short}
+use Rattle.listing.proofs.ListingContract.{listing-promised, listing-written, refused-short}
 use Rattle.listing.proofs.write_listing.Statement.{statement}
 use Rattle.listing.proofs.write_listing.Tie as tie
 

@@ -4,21 +4,21 @@ use mathlib.Core.Path.{_≡_, refl, sym, ap, _∙_}
 use Prim.Native.Nat.{ℕ, _+_, _-_, _*_, _≤_, _<_}
 use native.Mathlib.Omega.{arith}
 use Rattle.book.specs.Layout.{mostCount, mostRate, mostAmount}
-use Rattle.generator.specs.declared.Words.{Words}
-use Rattle.generator.specs.Draws.{after, drawAt}
-use Rattle.generator.proofs.Laws.{after-none}
+use Rattle.generator.specs.declared.GeneratorState.{GeneratorState}
+use Rattle.generator.specs.Draws.{stateAfter, drawAt}
+use Rattle.generator.proofs.DrawSequence.{after-none}
 use Rattle.practice_book.specs.Practice.{drawnNumber}
-use Rattle.practice_book.proofs.Laws.{next-after, next-draw, Filled, filled-none, filled-more, filled-all}
+use Rattle.practice_book.proofs.DrawnLists.{next-after, next-draw, Filled, filled-none, filled-more, filled-all}
 use Rattle.practice_book.proofs.fill_lists.Statement.{statement}
 use Rattle.practice_book.proofs.fill_lists.Tie as tie
 
 -- the numbers of one kind: of record i the draw so many after its first
-abbrev kind : Words → ℕ → ℕ → ℕ → ℕ
+abbrev kind : GeneratorState → ℕ → ℕ → ℕ → ℕ
 kind w span offset i = drawnNumber span (drawAt w (4 * i + offset))
 
 abbrev Inv-loop : tie.InvT-loop
 Inv-loop counts₀ lapses₀ premiums₀ claims₀ words₀ i₀ counts lapses premiums claims words i =
-    (i ≤ 1694) × (words ≡ after words₀ (4 * i))
+    (i ≤ 1694) × (words ≡ stateAfter words₀ (4 * i))
     × Filled (λ (i : ℕ). drawnNumber mostCount (drawAt words₀ (4 * i))) 1694 counts i
     × Filled (kind words₀ mostRate 1) 1694 lapses i
     × Filled (kind words₀ mostAmount 2) 1694 premiums i

@@ -4,16 +4,16 @@ use mathlib.Core.Path.{_≡_, refl, sym, ap, _∙_}
 use Prim.Native.Nat.{ℕ, _-_, _≤_, _<_}
 use native.Mathlib.Omega.{arith}
 use lib.ListN.{length}
-use Rattle.generator.specs.Draws.{after, drawAt}
-use Rattle.generator.proofs.Laws.{after-none}
+use Rattle.generator.specs.Draws.{stateAfter, drawAt}
+use Rattle.generator.proofs.DrawSequence.{after-none}
 use Rattle.practice_book.specs.Practice.{drawnNumber}
-use Rattle.practice_book.proofs.Laws.{next-after, next-draw, Filled, filled-none, filled-more, filled-all}
+use Rattle.practice_book.proofs.DrawnLists.{next-after, next-draw, Filled, filled-none, filled-more, filled-all}
 use Rattle.practice_book.proofs.fill_table.Statement.{statement}
 use Rattle.practice_book.proofs.fill_table.Tie as tie
 
 abbrev Inv-loop : tie.InvT-loop
 Inv-loop list₀ span words₀ j₀ list words j =
-    (j ≤ length list₀) × (words ≡ after words₀ j)
+    (j ≤ length list₀) × (words ≡ stateAfter words₀ j)
     × Filled (λ (i : ℕ). drawnNumber span (drawAt words₀ i)) (length list₀) list j
 
 abbrev μ-loop : tie.MeasureT-loop

@@ -8,7 +8,7 @@ use lib.IntN.{pos, _-ℤ_}
 use mir.Syntax.{w64}
 use mir.Val.{SFits}
 use mir.ValLaws.{toZ-ofZ}
-use Rattle.buffer.proofs.Laws.{back, le-or-lt}
+use Rattle.buffer.proofs.Digits.{back, le-or-lt}
 use Rattle.practice_book.proofs.less.Statement.{statement}
 use Rattle.practice_book.proofs.less.Tie as tie
 

@@ -3,7 +3,7 @@ use mathlib.Core.Path.{_≡_, sym, _∙_}
 use borrow.Author.Needs.{needs}
 use lib.ListN.{length}
 use Rattle.practice_book.specs.Practice.{checkPractice, practiceReply}
-use Rattle.practice_book.proofs.Promised.{promised, write-promised}
+use Rattle.practice_book.proofs.PracticeContract.{promised, write-promised}
 use Rattle.practice_book.proofs.practice.Statement.{statement}
 use Rattle.practice_book.proofs.practice.Tie as tie
 

@@ -1,6 +1,6 @@
 -- `practice_book::write_drawn` meets its contract: what was drawn, part after part, is the drawn contents. Assumes nothing.
 use borrow.Author.Needs.{needs}
-use Rattle.generator.specs.Draws.{begun}
+use Rattle.generator.specs.Draws.{seeded}
 use Rattle.practice_book.proofs.Drawn.{contents-drawn, of-same}
 use Rattle.practice_book.proofs.write_drawn.Statement.{statement}
 use Rattle.practice_book.proofs.write_drawn.Tie as tie
@@ -15,7 +15,7 @@ returns c =
     let a = costs .before .before .before .args in
     let l = lists .fill-lists .ensures in
     of-same
-    (contents-drawn (begun (a .start)) (costs .fill-table .ensures .1) (costs .fill-table .ensures .0)
+    (contents-drawn (seeded (a .start)) (costs .fill-table .ensures .1) (costs .fill-table .ensures .0)
     (rates .fill-curve .ensures .1) (rates .fill-curve .ensures .0) (deaths .fill-table2 .ensures .1)
     (deaths .fill-table2 .ensures .0) (l .0) (l .1) (l .2) (l .3))
     (w .write .ensures)

@@ -6,7 +6,7 @@ use native.Mathlib.Omega.{arith}
 use borrow.Author.Needs.{needs}
 use lib.ListN.{length, getD, length-set}
 use Rattle.valuation.specs.Portfolio.{divisorOf}
-use Rattle.cash_flow.specs.Settling.{Divisor}
+use Rattle.cash_flow.specs.CashFlow.{Divisor}
 use Rattle.present_value.proofs.Tables.{stored}
 use Rattle.present_value.proofs.curve_of.Statement.{statement}
 use Rattle.present_value.proofs.curve_of.Tie as tie

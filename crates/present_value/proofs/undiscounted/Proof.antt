@@ -7,7 +7,7 @@ use borrow.Author.Needs.{needs}
 use lib.ListN.{length, getD, length-set}
 use Rattle.settings.proofs.Serving.{projection-low}
 use Rattle.group_projection.proofs.Serving.{premium-served, claims-served}
-use Rattle.cash_flow.proofs.Settling.{outgo-of, premium-of}
+use Rattle.cash_flow.proofs.CashFlow.{outgo-of, premium-of}
 use Rattle.present_value.specs.Outcome.{InYears, premiumBefore, outgoBefore}
 use Rattle.present_value.proofs.Tables.{in-none, in-more}
 use Rattle.present_value.proofs.undiscounted.Statement.{statement}

@@ -4,12 +4,12 @@ use Prim.Native.Nat.{ℕ, _+_, _*_, _/_, _≤_, _<_}
 use native.Mathlib.Nat.{mul-le-mul-left, div-le-of-le-mul}
 use native.Mathlib.Omega.{arith}
 use borrow.Author.Needs.{needs}
-use Rattle.arith.specs.Fractions.{Fraction}
+use Rattle.arith.specs.Fractions.{IsFraction}
 use Rattle.rate_table.proofs.fraction_of.Statement.{statement}
 use Rattle.rate_table.proofs.fraction_of.Tie as tie
 
 returns : tie.Need-returns
-unfolding Fraction
+unfolding IsFraction
 returns c = omega (arith, c .if1 .taken)
 
 -- the two parts of a rate below one
@@ -26,7 +26,7 @@ add-result : tie.Need-add-result
 add-result c = record { fits = fits _ _ (less (c .before .args .rate) _ (omega arith)) (below (c .before) (c .if1 .left)) }
 
 returns-2 : tie.Need-returns-2
-unfolding Fraction
+unfolding IsFraction
 returns-2 c = search needs
 
 pub fraction-of-spec : {M : Type 1} → statement M

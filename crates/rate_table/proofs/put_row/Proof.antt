@@ -8,7 +8,7 @@ use Rattle.book.specs.Layout.{chainSex}
 use Rattle.book.specs.Reading.{Inside}
 use Rattle.rate_table.specs.Rows.{rateOf}
 use Rattle.rate_table.specs.Puts.{Filled}
-use Rattle.rate_table.proofs.Puts.{living-is, staying-is, sex-most, filled-none, filled-more, row-filled}
+use Rattle.rate_table.proofs.Puts.{survival-is, persistency-is, sex-most, filled-none, filled-more, row-filled}
 use Rattle.rate_table.proofs.put_row.Statement.{statement}
 use Rattle.rate_table.proofs.put_row.Tie as tie
 
@@ -26,8 +26,8 @@ put-three-requires : tie.Need-put-three-requires
 put-three-requires c κs =
     let a = c .before .before .before .before .before .before in
     let w = a .pre .0 in
-    let more = sex-most _ 1 (chainSex (a .args .chain)) _ _ (w .more-deaths) (c .before .before .of-sex2 .ensures) in
-    let fewer = sex-most _ 2 (chainSex (a .args .chain)) _ _ (w .fewer-deaths) (c .before .of-sex3 .ensures) in (
+    let more = sex-most _ 1 (chainSex (a .args .chain)) _ _ (w .mortality-up) (c .before .before .of-sex2 .ensures) in
+    let fewer = sex-most _ 2 (chainSex (a .args .chain)) _ _ (w .mortality-down) (c .before .of-sex3 .ensures) in (
       row a,
       omega arith,
       c .before .before .before .before .mortality-of .ensures .1,
@@ -47,8 +47,8 @@ put-three-requires-2 c κs =
       omega arith,
       omega (arith, c .before .field-of .ensures .0, a .pre .2 .lapse),
       w .base .lapse,
-      omega (arith, w .more-lapses .lapse, w .fewer-lapses .lapse),
-      omega (arith, w .more-lapses .lapse, w .fewer-lapses .lapse),
+      omega (arith, w .lapse-up .lapse, w .lapse-down .lapse),
+      omega (arith, w .lapse-up .lapse, w .lapse-down .lapse),
     )
 
 field-of-requires-2 : tie.Need-field-of-requires-2
@@ -70,28 +70,28 @@ rates a = let x = a .args in rateOf (x .book .now) (chainSex (x .chain)) (x .i)
 abbrev Has : tie.Start → ℕ → List ℕ → Type 0
 Has a n t = Filled (rates a) (a .args .rows .now) t (a .args .r) n
 
-living : (m : tie.After-put-three) → Has (m .before .before .before .before .before .before .before) 3 (m .put-three .last .0)
+survival : (m : tie.After-put-three) → Has (m .before .before .before .before .before .before .before) 3 (m .put-three .last .0)
 unfolding rateOf
-living m =
+survival m =
     let a = m .before .before .before .before .before .before .before in
     let x = a .args in
     let w = a .pre .0 in
-    let lives = living-is (x .book .now) (chainSex (x .chain)) (x .i) (x .class) _ in
+    let survives = survival-is (x .book .now) (chainSex (x .chain)) (x .i) (x .class) _ in
     let deaths = m .before .before .before .before .before .mortality-of .ensures .0 in
-    m .put-three .ensures (rates a) (x .rows .now) (lives 0 _ _ (a .pre .3) deaths (w .base) (m .before .before .before .before .of-sex .ensures))
-    (lives 1 _ _ (a .pre .3) deaths (w .more-deaths) (m .before .before .before .of-sex2 .ensures))
-    (lives 2 _ _ (a .pre .3) deaths (w .fewer-deaths) (m .before .before .of-sex3 .ensures)) (filled-none (rates a) (x .rows .now) (x .r))
+    m .put-three .ensures (rates a) (x .rows .now) (survives 0 _ _ (a .pre .3) deaths (w .base) (m .before .before .before .before .of-sex .ensures))
+    (survives 1 _ _ (a .pre .3) deaths (w .mortality-up) (m .before .before .before .of-sex2 .ensures))
+    (survives 2 _ _ (a .pre .3) deaths (w .mortality-down) (m .before .before .of-sex3 .ensures)) (filled-none (rates a) (x .rows .now) (x .r))
 
-staying : (m : tie.After-put-three2) → Has (m .before .before .before .before .before .before .before .before .before .before) 6 (m .put-three2 .last .0)
+persistency : (m : tie.After-put-three2) → Has (m .before .before .before .before .before .before .before .before .before .before) 6 (m .put-three2 .last .0)
 unfolding rateOf
-staying m =
+persistency m =
     let a = m .before .before .before .before .before .before .before .before .before .before in
     let x = a .args in
     let w = a .pre .0 in
-    let stays = staying-is (x .book .now) (x .i) _ in
+    let persists = persistency-is (x .book .now) (x .i) _ in
     let lapse = m .before .before .field-of .ensures .0 in
-    m .put-three2 .ensures (rates a) (x .rows .now) (stays 0 _ lapse (w .base)) (stays 3 _ lapse (w .more-lapses)) (stays 4 _ lapse (w .fewer-lapses))
-    (living (m .before .before .before))
+    m .put-three2 .ensures (rates a) (x .rows .now) (persists 0 _ lapse (w .base)) (persists 3 _ lapse (w .lapse-up)) (persists 4 _ lapse (w .lapse-down))
+    (survival (m .before .before .before))
 
 returns : tie.Need-returns
 unfolding rateOf
@@ -103,7 +103,7 @@ returns c =
     let k = a .pre .2 in
     row-filled (x .book .now) (chainSex (x .chain)) (x .i) (x .chain) k _ _ (x .r)
     (filled-more (rates a) _ _ _ (x .r) 7 _ (omega arith)
-    (filled-more (rates a) _ _ _ (x .r) 6 _ (omega arith) (staying (c .before .before .before .before .before .before)) (c .before .before .before .put .ensures) p (omega (arith, p, k .premium)))
+    (filled-more (rates a) _ _ _ (x .r) 6 _ (omega arith) (persistency (c .before .before .before .before .before .before)) (c .before .before .before .put .ensures) p (omega (arith, p, k .premium)))
     (c .put2 .ensures) q (omega (arith, q, k .claims)))
 
 pub put-row-spec : {M : Type 1} → statement M

@@ -5,7 +5,7 @@ use native.Mathlib.Omega.{arith}
 use borrow.Author.Needs.{needs}
 use borrow.Fn.Kinds.{In}
 use borrow.Fn.PlainCycle.{Measures, is, falls, and}
-use Rattle.buffer.proofs.Laws.{number-most}
+use Rattle.buffer.proofs.Digits.{number-most}
 use Rattle.report_lines.proofs.Lengths.{length-one, length-more}
 use Rattle.report_lines.proofs.digits.Reads as digits
 use Rattle.report_lines.proofs.digits.Kinds as digits-kinds

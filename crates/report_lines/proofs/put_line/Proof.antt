@@ -1,7 +1,7 @@
 -- `report_lines::put_line` meets its contract: four numbers one after the other, as the definition joins their texts.
 -- Assumes nothing.
 use borrow.Author.Needs.{needs}
-use Rattle.buffer.proofs.Laws.{_then_}
+use Rattle.buffer.proofs.Digits.{_then_}
 use Rattle.report_lines.specs.Sheet.{sheetLine}
 use Rattle.report_lines.proofs.put_line.Statement.{statement}
 use Rattle.report_lines.proofs.put_line.Tie as tie

@@ -6,7 +6,7 @@ use Prim.Native.Nat.{_≤_, _+_, _*_, _-_}
 use native.Mathlib.Omega.{arith}
 use borrow.Author.Needs.{needs}
 use Rattle.buffer.specs.Text.{Wrote, joined}
-use Rattle.buffer.proofs.Laws.{nothing, kept, joined-more}
+use Rattle.buffer.proofs.Digits.{nothing, kept, joined-more}
 use Rattle.report_lines.specs.Sheet.{tableLine, tableLines}
 use Rattle.report_lines.proofs.put_lines.Statement.{statement}
 use Rattle.report_lines.proofs.put_lines.Tie as tie

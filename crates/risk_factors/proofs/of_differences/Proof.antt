@@ -7,14 +7,14 @@ use borrow.Author.Tests.{not-true, not-false}
 use lib.IntN.{natAbs}
 use Rattle.verdict.specs.declared.Verdict.the-variants.{Accepted}
 use Rattle.signed.specs.Signs.{isNegative}
-use Rattle.risk_model.specs.Model.{modelRight}
+use Rattle.risk_model.specs.Model.{modelValid}
 use Rattle.risk_model.proofs.Rules.{model-coefficients, model-correlation, correlation-most}
 use Rattle.risk_form.specs.Form.{formOf}
 use Rattle.risk_form.specs.Root.{rootOf}
 use Rattle.risk_form.proofs.Squares.{root-is}
 use Rattle.risk_factors.specs.Form.{formFor}
 use Rattle.risk_factors.specs.Refusals.{factorsSmall}
-use Rattle.risk_factors.specs.Replies.{deviationFor, replyFor}
+use Rattle.risk_factors.specs.Replies.{deviationFor, deviationReplyFor}
 use Rattle.risk_factors.proofs.Sizes.{factors-most}
 use Rattle.risk_factors.proofs.Replied.{Passed}
 use Rattle.risk_factors.proofs.Replied.{replied-29, replied-30, replied-31, replied-root}
@@ -24,11 +24,11 @@ use Rattle.risk_factors.proofs.of_differences.Tie as tie
 returns : tie.Need-returns
 returns c =
     let m = c .before in
-    c .refused .ensures ∙ sym (replied-29 _ _ (sym (m .before .model-right .ensures) ∙ not-true _ (m .if1 .taken)))
+    c .refused .ensures ∙ sym (replied-29 _ _ (sym (m .before .model-valid .ensures) ∙ not-true _ (m .if1 .taken)))
 
 -- each test that is passed
-right : (c : tie.Else1) → modelRight (c .before .before .args .model) ≡ true
-right c = sym (c .before .model-right .ensures) ∙ not-false _ (c .if1 .left)
+right : (c : tie.Else1) → modelValid (c .before .before .args .model) ≡ true
+right c = sym (c .before .model-valid .ensures) ∙ not-false _ (c .if1 .left)
 
 factors-requires : tie.Need-factors-requires
 factors-requires c κs = model-coefficients _ (right (c .before .before))
@@ -85,7 +85,7 @@ returns-4 c =
     } in
     let size = c .before .size .ensures .0 ∙ ap natAbs (form-is g) in
     let root = root-is _ _ (c .root .ensures) ∙ ap (λ (x : ℕ). rootOf (x / 1000)) size in
-    ap (replyFor (Accepted 0)) root ∙ sym (replied-root _ _ passed)
+    ap (deviationReplyFor (Accepted 0)) root ∙ sym (replied-root _ _ passed)
 
 pub of-differences-spec : {M : Type 1} → statement M
 of-differences-spec =

@@ -4,7 +4,7 @@ use Prim.Native.Nat.{ℕ, _*_, _/_}
 use native.Mathlib.Omega.{arith}
 use borrow.Author.Needs.{needs}
 use Rattle.signed.specs.Signs.{withSign}
-use Rattle.risk_factors.proofs.Sizes.{scaled-room, scaled-most, scaled-sign}
+use Rattle.risk_factors.proofs.Sizes.{scaled-capacity, scaled-most, scaled-sign}
 use Rattle.risk_factors.proofs.scaled.Statement.{statement}
 use Rattle.risk_factors.proofs.scaled.Tie as tie
 
@@ -12,8 +12,8 @@ mul-div-requires : tie.Need-mul-div-requires
 mul-div-requires c κs =
     let a = c .before .args in
     let m = c .size .result / 100000 in
-    let room = scaled-room m (a .coefficient) (a .span) (omega arith) (omega arith) (omega arith) (omega arith) in
-    (omega arith, omega (arith, room))
+    let capacity = scaled-capacity m (a .coefficient) (a .span) (omega arith) (omega arith) (omega arith) (omega arith) in
+    (omega arith, omega (arith, capacity))
 
 with-size-requires : tie.Need-with-size-requires
 with-size-requires c κs =

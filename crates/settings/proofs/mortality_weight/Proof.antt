@@ -3,7 +3,7 @@ use Prim.Native.Nat.{_*_, _≤_}
 use native.Mathlib.Nat.{mul-le-mul}
 use native.Mathlib.Omega.{arith}
 use Rattle.settings.specs.Settings.{mortalityWeight}
-use Rattle.settings.proofs.Laws.{multiple-most}
+use Rattle.settings.proofs.Weights.{multiple-most}
 use borrow.Author.Needs.{needs}
 use Rattle.settings.proofs.mortality_weight.Statement.{statement}
 use Rattle.settings.proofs.mortality_weight.Tie as tie

@@ -9,7 +9,7 @@ use lib.Dec.{eqb, ltb, eqb→eq}
 use lib.ListN.{getD}
 use borrow.Author.Tests.{lt-ltb, le-ltb}
 use Rattle.settings.specs.Settings.{weightIn, weightOf}
-use Rattle.settings.proofs.Laws.{weight-most}
+use Rattle.settings.proofs.Weights.{weight-most}
 use Rattle.settings.proofs.Table.{at}
 use borrow.Author.Needs.{needs}
 use Rattle.settings.proofs.weight.Statement.{statement}

@@ -7,7 +7,7 @@ use lib.IntN.{ℤ}
 use Rattle.verdict.specs.Verdicts.{_andThen_}
 use Rattle.risk_factors.specs.Replies.{factorsReply}
 use Rattle.standard_deviation.specs.Deviation.{checkDeviation, deviationReply}
-use Rattle.standard_deviation.proofs.Promised.{book-refused, book-accepted, book-differences, book-first, promised}
+use Rattle.standard_deviation.proofs.DeviationContract.{book-refused, book-accepted, book-differences, book-first, promised}
 use Rattle.standard_deviation.proofs.deviation.Statement.{statement}
 use Rattle.standard_deviation.proofs.deviation.Tie as tie
 

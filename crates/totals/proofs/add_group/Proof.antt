@@ -9,7 +9,7 @@ use mir.Syntax.{w64}
 use mir.Val.{toZ, ofZ}
 use Rattle.settings.proofs.Serving.{projection-low}
 use Rattle.totals.specs.Sums.{Sum}
-use Rattle.totals.proofs.Laws.{Growing, growing-start, growing-more, growing-end, Liability, liability-read, sum-read, sum-stored, sum-room}
+use Rattle.totals.proofs.SignedTotals.{Growing, growing-start, growing-more, growing-end, Liability, liability-read, sum-read, sum-stored, sum-capacity}
 use Rattle.totals.proofs.add_group.Statement.{statement}
 use Rattle.totals.proofs.add_group.Tie as tie
 
@@ -19,8 +19,8 @@ Inv-loop book divisors fractions group numbers totals₀ settings base shared j�
 abbrev μ-loop : tie.MeasureT-loop
 μ-loop book divisors fractions group numbers totals₀ settings base shared j₀ totals j = 8 - j
 
-settle-in-requires : tie.Need-settle-in-requires Inv-loop μ-loop
-settle-in-requires c κs =
+amounts-in-requires : tie.Need-amounts-in-requires Inv-loop μ-loop
+amounts-in-requires c κs =
     let a = c .before .before .pre in
     ((a .0 0 (omega arith) .setting-is, a .1 .low, a .1 .high, omega arith, omega arith, a .1 .valid, a .1 .table _ (projection-low _)), a .2)
 
@@ -31,7 +31,7 @@ liability-of-requires : tie.Need-liability-of-requires Inv-loop μ-loop
 liability-of-requires c κs =
     let l = c .before .before in
     let a = l .before .before .before .before .pre in
-    (a .0 (l .loop .j) (c .before .loop-test .taken) .setting-is, a .0 0 (omega arith) .setting-is, a .1, a .2, l .before .settle-in .ensures)
+    (a .0 (l .loop .j) (c .before .loop-test .taken) .setting-is, a .0 0 (omega arith) .setting-is, a .1, a .2, l .before .amounts-in .ensures)
 
 -- the group's liability in setting j, and the total that it is added to
 liability : (m : tie.After-liability-of Inv-loop μ-loop) →
@@ -54,7 +54,7 @@ due m =
 plus-requires : tie.Need-plus-requires Inv-loop μ-loop
 plus-requires c κs =
     let a = c .before .before .before .before .before .before .before .before .pre in
-    sum-room _ _ _ _ _ (a .1 .low) (a .1 .high) (due (c .before)) (liability (c .before))
+    sum-capacity _ _ _ _ _ (a .1 .low) (a .1 .high) (due (c .before)) (liability (c .before))
 
 loop-again : tie.Need-loop-again Inv-loop μ-loop
 loop-again c =
@@ -71,5 +71,5 @@ returns c =
 
 pub add-group-spec : {M : Type 1} → statement M
 add-group-spec = tie.close
-    (tie.spec Inv-loop μ-loop (λ c. omega arith) settle-in-requires loop-holds (λ c. omega arith) (λ c. omega arith) liability-of-requires (λ c. omega arith) (λ c. omega arith) plus-requires
+    (tie.spec Inv-loop μ-loop (λ c. omega arith) amounts-in-requires loop-holds (λ c. omega arith) (λ c. omega arith) liability-of-requires (λ c. omega arith) (λ c. omega arith) plus-requires
     (λ c. omega arith) (λ c. omega arith) (λ c. omega arith) (λ c. omega arith) loop-again returns)

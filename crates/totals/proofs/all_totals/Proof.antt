@@ -6,7 +6,7 @@ use Prim.Native.Nat.{_+_, _-_, _≤_, _<_}
 use native.Mathlib.Omega.{arith}
 use borrow.Author.Needs.{needs}
 use Rattle.totals.specs.Sums.{Sums}
-use Rattle.totals.proofs.Laws.{sums-none, eight}
+use Rattle.totals.proofs.SignedTotals.{sums-none, eight}
 use Rattle.totals.proofs.all_totals.Statement.{statement}
 use Rattle.totals.proofs.all_totals.Tie as tie
 

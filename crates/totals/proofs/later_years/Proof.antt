@@ -2,7 +2,7 @@
 use mathlib.Core.Path.{sym, _∙_}
 use native.Mathlib.Omega.{arith}
 use Rattle.settings.proofs.Serving.{projection-low, later-decrements, later-outgo}
-use Rattle.totals.proofs.Laws.{later-same}
+use Rattle.totals.proofs.SignedTotals.{later-same}
 use Rattle.totals.proofs.later_years.Statement.{statement}
 use Rattle.totals.proofs.later_years.Tie as tie
 
@@ -12,10 +12,10 @@ returns c =
     let same = sym (c .before .later-as .ensures) ∙ c .if1 .taken in
     later-same _ _ _ (later-decrements _ _ (a .pre .0) (a .pre .1) same _) (later-outgo _ _ (a .pre .0) (a .pre .1) same) _ _ (a .pre .4)
 
-settle-in-requires : tie.Need-settle-in-requires
-settle-in-requires c κs =
+amounts-in-requires : tie.Need-amounts-in-requires
+amounts-in-requires c κs =
     let a = c .before .before .before .pre in
     ((a .0, a .2 .low, a .2 .high, omega arith, omega arith, a .2 .valid, a .2 .table _ (projection-low _)), a .3)
 
 pub later-years-spec : {M : Type 1} → statement M
-later-years-spec = tie.close (tie.spec (λ c κs. tt) returns settle-in-requires (λ c. c .settle-in .ensures))
+later-years-spec = tie.close (tie.spec (λ c κs. tt) returns amounts-in-requires (λ c. c .amounts-in .ensures))

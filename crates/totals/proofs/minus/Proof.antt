@@ -5,7 +5,7 @@ use lib.IntN.{_-ℤ_}
 use mir.Syntax.{w64}
 use mir.Val.{SFits, toZ, ofZ}
 use mir.ValLaws.{toZ-ofZ}
-use Rattle.totals.proofs.Laws.{minus-mag}
+use Rattle.totals.proofs.SignedTotals.{minus-mag}
 use Rattle.totals.proofs.minus.Statement.{statement}
 use Rattle.totals.proofs.minus.Tie as tie
 

@@ -7,7 +7,7 @@ use lib.Signed.{mag}
 use mir.Syntax.{w64}
 use mir.Val.{SFits, toZ, ofZ}
 use mir.ValLaws.{toZ-ofZ}
-use Rattle.totals.proofs.Laws.{plus-mag}
+use Rattle.totals.proofs.SignedTotals.{plus-mag}
 use Rattle.totals.proofs.plus.Statement.{statement}
 use Rattle.totals.proofs.plus.Tie as tie
 

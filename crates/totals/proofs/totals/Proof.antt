@@ -8,14 +8,14 @@ use Rattle.valuation.proofs.Total.{totals-promised}
 use Rattle.totals.proofs.totals.Statement.{statement}
 use Rattle.totals.proofs.totals.Tie as tie
 
-reckoned-requires : tie.Need-reckoned-requires
-reckoned-requires c κs = valid 1 _ _ (sym (c .before .before .before .check .ensures) ∙ c .before .v .given .1)
+computed-requires : tie.Need-computed-requires
+computed-requires c κs = valid 1 _ _ (sym (c .before .before .before .check .ensures) ∙ c .before .v .given .1)
 
 returns : tie.Need-returns
 unfolding totalsReply
 returns c =
     let e = sym (c .before .before .before .before .check .ensures) ∙ c .before .before .v .given .1 in
-    totals-promised _ _ (c .reckoned .ensures ∙ rw (e, ← (accepted-held 1 _ _ e)))
+    totals-promised _ _ (c .computed .ensures ∙ rw (e, ← (accepted-held 1 _ _ e)))
 
 returns-2 : tie.Need-returns-2
 unfolding totalsReply
@@ -24,4 +24,4 @@ returns-2 c =
     totals-promised _ _ (c .refused .ensures ∙ rw e)
 
 pub totals-spec : {M : Type 1} → statement M
-totals-spec = tie.close (tie.spec (search needs) (search needs) reckoned-requires (search needs) (search needs) returns returns-2)
+totals-spec = tie.close (tie.spec (search needs) (search needs) computed-requires (search needs) (search needs) returns returns-2)

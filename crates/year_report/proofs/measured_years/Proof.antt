@@ -9,7 +9,7 @@ use borrow.Author.Needs.{needs}
 use lib.ListN.{length, length-set}
 use Rattle.buffer.specs.Text.{joined}
 use Rattle.report_lines.proofs.Lengths.{joined-length}
-use Rattle.year_report.specs.Report.{heading, groupLines, reportText, roomOf}
+use Rattle.year_report.specs.Report.{heading, groupLines, reportText, reportLength}
 use Rattle.year_report.specs.Tables.{FirstYears}
 use Rattle.year_report.proofs.Figures.{lines-same, one-more}
 use Rattle.year_report.proofs.measured_years.Statement.{statement}
@@ -53,7 +53,7 @@ loop-again c =
     )
 
 returns : tie.Need-returns Inv-loop μ-loop
-unfolding roomOf reportText
+unfolding reportLength reportText
 returns c =
     let l = c .before .loop in
     let all : l .j ≡ 5 = omega arith in

@@ -3,9 +3,9 @@
 use mathlib.Core.Path.{sym, _∙_}
 use native.Mathlib.Omega.{arith}
 use borrow.Author.Needs.{needs}
-use Rattle.buffer.proofs.Laws.{kept}
+use Rattle.buffer.proofs.Digits.{kept}
 use Rattle.buffer.proofs.Replies.{text-refused, text-short, text-written}
-use Rattle.year_report.specs.Report.{roomOf}
+use Rattle.year_report.specs.Report.{reportLength}
 use Rattle.year_report.proofs.Refusals.{report-setting, report-valid}
 use Rattle.year_report.proofs.Figures.{report-same}
 use Rattle.year_report.proofs.write_report.Statement.{statement}
@@ -23,7 +23,7 @@ measured-years-requires c κs =
     (omega (arith, report-setting (a .book .now) (a .setting) _ e), report-valid _ _ _ e)
 
 returns-2 : tie.Need-returns-2
-unfolding roomOf
+unfolding reportLength
 returns-2 c =
     let t = c .before .before in
     let m = t .before in
@@ -34,7 +34,7 @@ same-length : tie.Need-same-length
 same-length c = kept (c .before .before .put-report .ensures)
 
 returns-3 : tie.Need-returns-3
-unfolding roomOf
+unfolding reportLength
 returns-3 c =
     let w = c .before .before in
     let i = w .before .before in

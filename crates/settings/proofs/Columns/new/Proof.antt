@@ -6,7 +6,7 @@ use Rattle.settings.proofs.Columns.new.Tie as tie
 
 returns : tie.Need-returns
 unfolding columnsOf
-returns c = rw (c .before .before .before .living-column .ensures, c .before .before .staying-column .ensures, c .before .living-column2 .ensures, c .staying-column2 .ensures)
+returns c = rw (c .before .before .before .survival-column .ensures, c .before .before .persistency-column .ensures, c .before .survival-column2 .ensures, c .persistency-column2 .ensures)
 
 pub new-spec : {M : Type 1} → statement M
 new-spec = tie.close (tie.spec (search needs) (search needs) (search needs) (search needs) returns)

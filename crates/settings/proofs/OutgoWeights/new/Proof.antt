@@ -1,6 +1,6 @@
 -- `settings::OutgoWeights::new` meets its contract: each weight is the one read, and costs and claims have bounds of their own. Assumes nothing.
 use native.Mathlib.Omega.{arith}
-use Rattle.settings.proofs.Laws.{cost-weight-most, claims-weight-most}
+use Rattle.settings.proofs.Weights.{cost-weight-most, claims-weight-most}
 use borrow.Author.Needs.{needs}
 use Rattle.settings.proofs.OutgoWeights.new.Statement.{statement}
 use Rattle.settings.proofs.OutgoWeights.new.Tie as tie

@@ -31,10 +31,10 @@ returns : tie.Need-returns
 returns c =
     record {
       base = weights _ 0 _ (c .before .before .before .before .new .ensures);
-      more-deaths = weights _ 1 _ (c .before .before .before .new2 .ensures);
-      fewer-deaths = weights _ 2 _ (c .before .before .new3 .ensures);
-      more-lapses = weights _ 3 _ (c .before .new4 .ensures);
-      fewer-lapses = weights _ 4 _ (c .new5 .ensures);
+      mortality-up = weights _ 1 _ (c .before .before .before .new2 .ensures);
+      mortality-down = weights _ 2 _ (c .before .before .new3 .ensures);
+      lapse-up = weights _ 3 _ (c .before .new4 .ensures);
+      lapse-down = weights _ 4 _ (c .new5 .ensures);
     }
 
 pub new-spec : {M : Type 1} → statement M

@@ -1,0 +1,57 @@
+-- A year settled from its sums, as the code reckons it: outgo, cap, discounting.
+use mathlib.Core.Path.{_≡_}
+use mathlib.Core.List.{List, [], _∷_}
+use Prim.Native.Nat.{ℕ, _+_, _*_, _/_, _<_, _≤_, min}
+use lib.ListN.{getD}
+use Rattle.arith.specs.Fractions.{IsFraction}
+use Rattle.settings.specs.Settings.{costsIn, claimsWeightIn}
+use Rattle.settings.specs.declared.Outgoings.{Outgoings}
+use Rattle.valuation.specs.Arithmetic.{rounded}
+use Rattle.valuation.specs.Steps.{Cell, Terms, outgo, countedPremium, discounted, discountedOutgo, discountedPremium}
+use Rattle.cash_flow.specs.declared.Year.{Year}
+
+-- step 3 of sums of premium and claims
+unfoldable pub outgoOf : Outgoings → ℕ → ℕ → ℕ → ℕ → ℕ
+outgoOf w k rate premium claims = claims * claimsWeightIn w k / 1000 + premium * (rate * costsIn w k) / 1_000_000_000
+
+-- a divisor, and 1,000,000 over twice that as a fraction
+pub record Divisor (d fraction : ℕ) : Type 0 where
+  pub low : 990_000 ≤ d
+  pub high : d ≤ 1_200_000
+  pub fraction-is : IsFraction 1_000_000 (2 * d) fraction
+
+-- those of the fifty years
+abbrev pub Divisors : List ℕ → List ℕ → Type 0
+Divisors divisors fractions = (k : ℕ) → k < 50 → Divisor (getD divisors k 0) (getD fractions k 0)
+
+-- no amount of a year before `to` is above m
+abbrev pub FirstAtMost : ℕ → ℕ → List ℕ → Type 0
+FirstAtMost m to amounts = (k : ℕ) → k < to → getD amounts k 0 ≤ m
+
+-- a year back in the years from `from` to before `to`, each at its own divisor; the other years stay
+pub record Stepped (divisors : List ℕ) (from to : ℕ) (before after : List ℕ) : Type 0 where
+  pub stepped : (k : ℕ) → from ≤ k → k < to → getD after k 0 ≡ getD before k 0 * 1_000_000 / getD divisors k 0
+  pub earlier : (k : ℕ) → k < from → getD after k 0 ≡ getD before k 0
+  pub later : (k : ℕ) → to ≤ k → getD after k 0 ≡ getD before k 0
+
+-- step 5 of an amount, for j years with the divisor d. The bound leaves room for a further step.
+pub record Discounted (d j x r : ℕ) : Type 0 where
+  pub is : r ≡ discounted rounded d j x
+  pub most : r ≤ 4_000_000_000_000_000 + 82_000_000_000_000 * j
+
+-- step 5 of the years before `to`, each at its own divisor: for j years, or for its own number of years where that is less
+pub record DiscountedIn (divisors : List ℕ) (j to : ℕ) (before after : List ℕ) : Type 0 where
+  pub each : (k : ℕ) → k < to → Discounted (getD divisors k 0) (min j k) (getD before k 0) (getD after k 0)
+
+-- the year's four numbers by the reckoning's steps
+unfoldable pub yearOf : Terms → List Cell → ℕ → Year
+yearOf t cs k = record {
+  premium = countedPremium rounded t cs k;
+  outgo = outgo rounded t cs k;
+  «discounted_premium» = discountedPremium rounded t cs k;
+  «discounted_outgo» = discountedOutgo rounded t cs k;
+}
+
+-- in the order of the year table
+abbrev pub fourOf : Year → List ℕ
+fourOf y = y .premium ∷ y .outgo ∷ y .«discounted_premium» ∷ y .«discounted_outgo» ∷ []
