@@ -1,6 +1,6 @@
-// The C boundary: the calls under their plain names, for C, Rust and Python; include/xaropinto.h declares them.
-// A slice is a pointer and a length there. No call leans on an earlier one, and a refusal changes nothing that is lent;
-// of two funds, nothing of the refused one's half.
+// The calls under their C names; include/xaropinto.h declares them. Each forwards to the call of a crate below and puts
+// the reply into fields. A slice is a pointer and a length in C. No call relies on an earlier one, and a refusal changes
+// no buffer that was passed; of two funds, nothing of the refused one's half.
 ghost use mathlib.Core.Path.{_≡_};
 ghost use Rattle.record_view.specs.Looker.{locatedIn};
 ghost use Rattle.valuation.specs.Totals.{TotalsContract};
@@ -8,68 +8,39 @@ ghost use Rattle.cost_rates.specs.Replies.{RatesContract};
 ghost use Rattle.standard_deviation.specs.Deviation.{DeviationContract};
 ghost use Rattle.book_contents.specs.Contents.{given};
 ghost use Rattle.book_contents.specs.Contracts.{ReadContract};
-ghost use Rattle.c_api.specs.Boundary.{verdictFields, CheckExported, GroupExported};
-ghost use Rattle.c_api.specs.Boundary.{ConvertExported, WriteExported};
-ghost use Rattle.c_api.specs.Boundary.{reportFields, ListingExported, ReportExported, ReportLengthExported};
-ghost use Rattle.c_api.specs.Boundary.{FundsExported};
-ghost use Rattle.c_api.specs.Boundary.{InForceExported};
-ghost use Rattle.c_api.specs.Boundary.{SpreadExported};
-ghost use Rattle.c_api.specs.Boundary.{writeFields, PracticeExported};
+ghost use Rattle.c_api.specs.Exported.{CheckExported, GroupExported, ConvertExported, FundsExported};
+ghost use Rattle.c_api.specs.Exported.{ListingExported, ReportExported, ReportLengthExported};
+ghost use Rattle.c_api.specs.Exported.{WriteExported, PracticeExported, InForceExported, SpreadExported};
 use book_contents::ReadReply;
 use book_contents::Values;
-use book_contents::WriteReply;
-use buffer::TextReply;
+use c_api_fields::FundsFields;
+use c_api_fields::GroupFields;
+use c_api_fields::InForceFields;
+use c_api_fields::ReportFields;
+use c_api_fields::SpreadFields;
+use c_api_fields::VerdictFields;
+use c_api_fields::WriteFields;
+use c_api_fields::funds_fields;
+use c_api_fields::group_fields;
+use c_api_fields::in_force_fields;
+use c_api_fields::spread_fields;
+use c_api_fields::text_fields;
+use c_api_fields::verdict_fields;
+use c_api_fields::write_fields;
 use claims_estimates::SampleFactors;
 use claims_estimates::Summary;
-use claims_variation::SpreadReply;
 use cost_rate_shares::Accounts;
 use cost_rates::CostRates;
 use record_view::Located;
 use risk_factors::DeviationReply;
 use risk_model::RiskModel;
-use valuation::GroupReply;
 use valuation::TotalsReply;
-use verdict::Verdict;
-
-// A verdict in fields: refusal and place are 0 where accepted, n is 0 where refused.
-#[repr(C)]
-pub struct VerdictFields {
-    pub refusal: u64,
-    pub place: usize,
-    pub n: u64,
-}
-
-// Group's reply in fields: refusal and place are 0 where reckoned, liability and n are 0 where refused.
-#[repr(C)]
-pub struct GroupFields {
-    pub refusal: u64,
-    pub place: usize,
-    pub liability: i64,
-    pub n: u64,
-}
-
-fn in_fields(v: Verdict) -> VerdictFields
-    ensures { λ r. ⌜ r ≡ verdictFields v ⌝ }
-{
-    match v {
-        Verdict::Accepted(n) => VerdictFields {
-            refusal: 0,
-            place: 0,
-            n,
-        },
-        Verdict::Refused(refusal, place) => VerdictFields {
-            refusal,
-            place,
-            n: 0,
-        },
-    }
-}
 
 #[no_mangle]
 pub extern "C" fn xaropinto_check(book: &[u8]) -> VerdictFields
     ensures { λ r. ⌜ CheckExported (now (book .entry)) r ⌝ }
 {
-    in_fields(book_check::check(book))
+    verdict_fields(book_check::check(book))
 }
 
 #[no_mangle]
@@ -81,21 +52,7 @@ pub extern "C" fn xaropinto_group(
 ) -> GroupFields
     ensures { λ r. ⌜ GroupExported (now (book .entry)) setting group (now (table .entry)) (now (table .exit)) r ⌝ }
 {
-    let reply = group_liability::group(book, setting, group, table);
-    match reply {
-        GroupReply::Valued(liability, n) => GroupFields {
-            refusal: 0,
-            place: 0,
-            liability,
-            n,
-        },
-        GroupReply::Refused(refusal, place) => GroupFields {
-            refusal,
-            place,
-            liability: 0,
-            n: 0,
-        },
-    }
+    group_fields(group_liability::group(book, setting, group, table))
 }
 
 #[no_mangle]
@@ -119,85 +76,35 @@ pub extern "C" fn xaropinto_cost_rates(accounts: Accounts) -> CostRates
     cost_rates::cost_rates(accounts)
 }
 
-// The reply of Listing and of the report's two calls in fields: refusal and place are 0 where accepted, the length is 0 where refused.
-#[repr(C)]
-pub struct ReportFields {
-    pub refusal: u64,
-    pub place: usize,
-    pub length: usize,
-}
-
-fn report_fields(reply: TextReply) -> ReportFields
-    ensures { λ r. ⌜ r ≡ reportFields reply ⌝ }
-{
-    match reply {
-        TextReply::Bytes(length) => ReportFields {
-            refusal: 0,
-            place: 0,
-            length,
-        },
-        TextReply::Refused(refusal, place) => ReportFields {
-            refusal,
-            place,
-            length: 0,
-        },
-    }
-}
-
 #[no_mangle]
 pub extern "C" fn xaropinto_listing(book: &[u8], out: &mut [u8]) -> ReportFields
     ensures { λ r. ⌜ ListingExported (now (book .entry)) (now (out .entry)) (now (out .exit)) r ⌝ }
 {
-    report_fields(listing::write_listing(book, out))
+    text_fields(listing::write_listing(book, out))
 }
 
 #[no_mangle]
 pub extern "C" fn xaropinto_report(book: &[u8], setting: usize, out: &mut [u8]) -> ReportFields
     ensures { λ r. ⌜ ReportExported (now (book .entry)) setting (now (out .entry)) (now (out .exit)) r ⌝ }
 {
-    report_fields(year_report::write_report(book, setting, out))
+    text_fields(year_report::write_report(book, setting, out))
 }
 
 #[no_mangle]
 pub extern "C" fn xaropinto_report_room(book: &[u8], setting: usize) -> ReportFields
     ensures { λ r. ⌜ ReportLengthExported (now (book .entry)) setting r ⌝ }
 {
-    report_fields(year_report::report_length(book, setting))
+    text_fields(year_report::report_length(book, setting))
 }
 
 #[no_mangle]
 pub extern "C" fn xaropinto_convert(book: &[u8], out: &mut [u8]) -> VerdictFields
     ensures { λ r. ⌜ ConvertExported (now (book .entry)) (now (out .entry)) (now (out .exit)) r ⌝ }
 {
-    in_fields(age_basis::convert(book, out))
+    verdict_fields(age_basis::convert(book, out))
 }
 
-// Write's reply in fields, and Practice's: refusal and place are 0 where written, length is 0 where refused.
-#[repr(C)]
-pub struct WriteFields {
-    pub refusal: u64,
-    pub place: usize,
-    pub length: usize,
-}
-
-fn write_fields(reply: WriteReply) -> WriteFields
-    ensures { λ r. ⌜ r ≡ writeFields reply ⌝ }
-{
-    match reply {
-        WriteReply::Written(length) => WriteFields {
-            refusal: 0,
-            place: 0,
-            length,
-        },
-        WriteReply::Refused(refusal, place) => WriteFields {
-            refusal,
-            place,
-            length: 0,
-        },
-    }
-}
-
-// The values by value: a C programmer fills one struct, and what Read hands back can be handed on as it is.
+// The values by value: a C programmer fills one struct, and passes what Read returns as it is.
 #[no_mangle]
 pub extern "C" fn xaropinto_write(
     values: Values,
@@ -229,13 +136,6 @@ pub extern "C" fn xaropinto_read(
     book_read::read(book, counts, lapses, premiums, claims)
 }
 
-// Both funds' verdicts in fields.
-#[repr(C)]
-pub struct FundsFields {
-    pub first: VerdictFields,
-    pub second: VerdictFields,
-}
-
 #[no_mangle]
 pub extern "C" fn xaropinto_funds(
     table: &[u8],
@@ -246,20 +146,7 @@ pub extern "C" fn xaropinto_funds(
     ensures { λ r. ⌜ FundsExported (now (table .entry)) (now (first .entry)) (now (second .entry))
         (now (numbers .entry)) (now (numbers .exit)) r ⌝ }
 {
-    let reply = funds::funds(table, first, second, numbers);
-    let of_first = reply.first;
-    let of_second = reply.second;
-    FundsFields {
-        first: in_fields(of_first),
-        second: in_fields(of_second),
-    }
-}
-
-// The reply of one cell on the screen in fields: refusal and place are 0 where accepted.
-#[repr(C)]
-pub struct InForceFields {
-    pub refusal: u64,
-    pub place: usize,
+    funds_fields(funds::funds(table, first, second, numbers))
 }
 
 #[no_mangle]
@@ -274,25 +161,7 @@ pub extern "C" fn xaropinto_in_force(
     ensures { λ r. ⌜ InForceExported (now (book .entry)) setting code sex class
         (now (out .entry)) (now (out .exit)) r ⌝ }
 {
-    let reply = in_force::in_force(book, setting, code, sex, class, out);
-    match reply {
-        Verdict::Accepted(_) => InForceFields {
-            refusal: 0,
-            place: 0,
-        },
-        Verdict::Refused(refusal, place) => InForceFields { refusal, place },
-    }
-}
-
-// Spread's reply in fields: refusal and place are 0 where accepted; level is 1 where the claims are level, else 0; mean
-// and coefficient are 0 where the reply has none.
-#[repr(C)]
-pub struct SpreadFields {
-    pub refusal: u64,
-    pub place: usize,
-    pub level: u64,
-    pub mean: f64,
-    pub coefficient: f64,
+    in_force_fields(in_force::in_force(book, setting, code, sex, class, out))
 }
 
 #[no_mangle]
@@ -300,33 +169,10 @@ pub extern "C" fn xaropinto_spread(claims: Summary, xi: f64, eta: f64) -> Spread
     ensures { λ r. ⌜ SpreadExported claims xi eta r ⌝ }
 {
     let factors = SampleFactors { xi, eta };
-    let reply = claims_variation::spread(claims, factors);
-    match reply {
-        SpreadReply::Coefficient(mean, coefficient) => SpreadFields {
-            refusal: 0,
-            place: 0,
-            level: 0,
-            mean,
-            coefficient,
-        },
-        SpreadReply::Level(mean) => SpreadFields {
-            refusal: 0,
-            place: 0,
-            level: 1,
-            mean,
-            coefficient: 0.0,
-        },
-        SpreadReply::Refused(refusal, place) => SpreadFields {
-            refusal,
-            place,
-            level: 0,
-            mean: 0.0,
-            coefficient: 0.0,
-        },
-    }
+    spread_fields(claims_variation::spread(claims, factors))
 }
 
-// The model by value, as the accounts: a matrix lent by pointer would have a length of its own to refuse.
+// The model by value, as the accounts: a matrix passed by pointer would have a length of its own to refuse.
 #[no_mangle]
 pub extern "C" fn xaropinto_deviation(book: &[u8], model: RiskModel) -> DeviationReply
     ensures { λ r. ⌜ DeviationContract (now (book .entry)) model r ⌝ }

@@ -9,7 +9,7 @@ use Rattle.c_api.proofs.xaropinto_check.Tie as tie
 returns : tie.Need-returns
 returns c =
     record {
-      fields-are = rw (c .in-fields .ensures, c .before .check .ensures);
+      fields-are = rw (c .verdict-fields .ensures, c .before .check .ensures);
       promised = check-promised _ _ refl;
     }
 

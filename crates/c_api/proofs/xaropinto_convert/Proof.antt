@@ -8,7 +8,7 @@ returns : tie.Need-returns
 returns c =
     let promised = c .before .before .before .convert .ensures in
     record {
-      fields-are = rw (c .in-fields .ensures, promised .reply-is);
+      fields-are = rw (c .verdict-fields .ensures, promised .reply-is);
       promised = rw (promised .reply-is) at promised;
     }
 

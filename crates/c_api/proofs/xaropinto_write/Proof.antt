@@ -3,7 +3,7 @@
 -- Assumes nothing.
 use mathlib.Core.Path.{ap, _∙_}
 use borrow.Author.Needs.{needs}
-use Rattle.c_api.specs.Boundary.{writeFields}
+use Rattle.c_api_fields.specs.Fields.{writeFields}
 use Rattle.c_api.proofs.xaropinto_write.Statement.{statement}
 use Rattle.c_api.proofs.xaropinto_write.Tie as tie
 

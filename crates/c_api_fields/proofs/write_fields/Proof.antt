@@ -1,7 +1,7 @@
--- `c_api::write_fields` meets its contract: the fields of either case. Assumes nothing.
+-- `c_api_fields::write_fields` meets its contract: the fields are those of the reply. Assumes nothing.
 use borrow.Author.Needs.{needs}
-use Rattle.c_api.proofs.write_fields.Statement.{statement}
-use Rattle.c_api.proofs.write_fields.Tie as tie
+use Rattle.c_api_fields.proofs.write_fields.Statement.{statement}
+use Rattle.c_api_fields.proofs.write_fields.Tie as tie
 
 returns : tie.Need-returns
 returns c = rw (c .before .reply .given .1)
