@@ -23,7 +23,8 @@ use Rattle.age_basis.proofs.Places.{some-more, class-here, class-elsewh
 use Rattle.age_basis.proofs.Exact.{converted-length, converted-at, link-inside, link-steps, link-lowest}
 use Rattle.age_basis.proofs.Exact.{linked-past}
 
--- A walk of chain k stands at record i: it is so many steps along, and has lowered the classes of the records passed.
+-- A pass along chain k stands at record i: it is so many steps along, and has lowered the classes of the records
+-- passed.
 pub record Walk (b : List ℕ) (k i : ℕ) (before after : List ℕ) : Type 0 where
   pub steps : ℕ
   pub few : steps ≤ 122
@@ -103,7 +104,7 @@ module _ (b : List ℕ) where
     }
 
   module _ (r : Rules 2 b) where
-    -- a step of the walk, and its end
+    -- a step of the pass, and its end
     module _ (k : ℕ) (few : k < chains) (i : ℕ) (before mid : List ℕ) (w : Walk b k i before mid) where
       pub project-end : i ≡ 0 → Lowered b (λ p. chainClassAt b p k) before mid
       project-end z = chain-done k (w .steps) before mid (sym (w .here) ∙ z) (w .few) (w .passed)

@@ -51,7 +51,7 @@ converted b = listOf (convertedByte b) (length b)
 unfoldable pub convertCheck : List ℕ → ℕ → Verdict
 convertCheck b capacity = need (leb (length b) capacity) 16 0 andThen checkBook 2 b
 
--- the lent buffer afterwards: the converted book, then what stood there; as it was where refused
+-- the caller's buffer afterwards: the converted book, then what stood there; as it was where refused
 abbrev pub bufferOf : Verdict → List ℕ → List ℕ → List ℕ
 bufferOf (Accepted n) bytes before = bytes ++ drop (length bytes) before
 bufferOf (Refused number place) bytes before = before

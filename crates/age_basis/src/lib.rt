@@ -1,5 +1,5 @@
-// The converter: a book on age basis 2 turned into one on basis 1, in a lent buffer. The inner functions ask for a book
-// that the check has accepted.
+// The converter: a book on age basis 2 turned into one on basis 1, in the caller's buffer. The
+// inner functions ask for a book that the check has accepted.
 ghost use mathlib.Core.Path.{_≡_};
 ghost use mathlib.Core.List.{_++_};
 ghost use Prim.Native.Nat.{_≤_, _<_};
@@ -7,7 +7,8 @@ ghost use lib.ListN.{length, drop};
 ghost use Rattle.book.specs.Layout.{classOf};
 ghost use Rattle.book.specs.Rules.{Rules};
 ghost use Rattle.book.specs.Reading.{Inside};
-ghost use Rattle.age_basis.specs.Conversion.{classAt, chainClassAt, linkedClassAt, converted, convertCheck};
+ghost use Rattle.age_basis.specs.Conversion.{classAt, chainClassAt, linkedClassAt, converted};
+ghost use Rattle.age_basis.specs.Conversion.{convertCheck};
 ghost use Rattle.age_basis.specs.Conversion.{ConvertContract};
 ghost use Rattle.age_basis.specs.Steps.{Lowered};
 use book::CHAINS;
@@ -25,8 +26,11 @@ fn check_convert(book: &[u8], capacity: usize) -> Verdict
 
 // The class of record i, one less, at its place in the buffer.
 fn lower_class(book: &[u8], out: &mut [u8], i: usize)
-    requires { ⌜ Inside (now book) i × (1 ≤ classOf (now book) i) × (length (now book) ≤ length (now out)) ⌝ }
-    ensures { λ _. ⌜ Lowered (now (book .entry)) (λ p. classAt p i) (now (out .entry)) (now (out .exit)) ⌝ }
+    requires { ⌜ Inside (now book) i
+        × (1 ≤ classOf (now book) i)
+        × (length (now book) ≤ length (now out)) ⌝ }
+    ensures { λ _. ⌜ Lowered (now (book .entry)) (λ p. classAt p i) (now (out .entry))
+        (now (out .exit)) ⌝ }
 {
     let at = book::record_at(i) + 2;
     out[at] = book[at] - 1;
@@ -34,7 +38,9 @@ fn lower_class(book: &[u8], out: &mut [u8], i: usize)
 
 // The same for each linked record of chain k.
 fn lower_chain(book: &[u8], out: &mut [u8], k: usize)
-    requires { ⌜ Rules 2 (now book) × (k < 14) × (length (now book) ≤ length (now out)) ⌝ }
+    requires { ⌜ Rules 2 (now book)
+        × (k < 14)
+        × (length (now book) ≤ length (now out)) ⌝ }
     ensures { λ _. let b = now (book .entry) in
         ⌜ Lowered b (λ p. chainClassAt b p k) (now (out .entry)) (now (out .exit)) ⌝ }
 {
@@ -47,7 +53,8 @@ fn lower_chain(book: &[u8], out: &mut [u8], k: usize)
 
 // The same for each linked record of the book.
 fn lower_chains(book: &[u8], out: &mut [u8])
-    requires { ⌜ Rules 2 (now book) × (length (now book) ≤ length (now out)) ⌝ }
+    requires { ⌜ Rules 2 (now book)
+        × (length (now book) ≤ length (now out)) ⌝ }
     ensures { λ _. let b = now (book .entry) in
         ⌜ Lowered b (linkedClassAt b) (now (out .entry)) (now (out .exit)) ⌝ }
 {
@@ -56,9 +63,11 @@ fn lower_chains(book: &[u8], out: &mut [u8])
     }
 }
 
-// The converted book, in the first bytes of the buffer. Byte 1 is written last: no class stands there.
+// The converted book, in the first bytes of the buffer. Byte 1 is written last: no class stands
+// there.
 fn write_converted(book: &[u8], out: &mut [u8])
-    requires { ⌜ Rules 2 (now book) × (length (now book) ≤ length (now out)) ⌝ }
+    requires { ⌜ Rules 2 (now book)
+        × (length (now book) ≤ length (now out)) ⌝ }
     ensures { λ _. let b = now (book .entry) in
         ⌜ now (out .exit) ≡ converted b ++ drop (length b) (now (out .entry)) ⌝ }
 {
@@ -67,7 +76,8 @@ fn write_converted(book: &[u8], out: &mut [u8])
     out[1] = 1;
 }
 
-// A buffer that is longer than the book keeps its other bytes; where the answer is a refusal, it keeps all.
+// A buffer that is longer than the book keeps its other bytes; where the answer is a refusal, it
+// keeps all.
 pub fn convert(book: &[u8], out: &mut [u8]) -> Verdict
     ensures { λ r. ⌜ ConvertContract (now (book .entry)) (now (out .entry)) (now (out .exit)) r ⌝ }
 {

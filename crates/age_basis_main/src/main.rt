@@ -1,5 +1,5 @@
-// The book on standard input, of age basis 2, turned into basis 1 on standard output. A refusal is one line on standard
-// error, and then nothing is written to standard output.
+// The book on standard input, of age basis 2, turned into basis 1 on standard output. A refusal is
+// one line on standard error, and then nothing is written to standard output.
 use libc::STDERR_FILENO;
 use libc::STDIN_FILENO;
 use libc::STDOUT_FILENO;

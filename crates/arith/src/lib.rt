@@ -1,17 +1,21 @@
-// A product divided and rounded down, within 64 bits. For the crates above, which have shown that the figures fit.
+// A product divided and rounded down, within 64 bits. For the crates above, which have shown that
+// the figures fit.
 ghost use mathlib.Core.Path.{_≡_};
 ghost use Prim.Native.Nat.{_+_, _*_, _<_, _≤_, _/_, _%_, _^_};
 ghost use Rattle.arith.specs.Fractions.{IsFraction, nearTop};
 
-// x times y over d, rounded down. With x = q d + r it is q y + r y / d, whose products fit where the whole product may not.
+// x times y over d, rounded down. With x = q d + r it is q y + r y / d, whose products fit where
+// the whole product may not.
 pub fn mul_div(x: u64, y: u64, d: u64) -> u64
-    requires { ⌜ (0 < d) × ((x / d) * y + d * y < 2 ^ 64) ⌝ }
+    requires { ⌜ (0 < d)
+        × ((x / d) * y + d * y < 2 ^ 64) ⌝ }
     ensures { λ r. ⌜ r ≡ (x * y) / d ⌝ }
 {
     (x / d) * y + (x % d) * y / d
 }
 
-// The upper half of a product of 128 bits, from the halves of its factors. The compiler makes one multiplication of it.
+// The upper half of a product of 128 bits, from the halves of its factors. The compiler makes one
+// multiplication of it.
 pub fn mul_high(a: u64, b: u64) -> u64
     ensures { λ r. ⌜ r ≡ (a * b) / 18446744073709551616 ⌝ }
 {
@@ -24,10 +28,12 @@ pub fn mul_high(a: u64, b: u64) -> u64
     ah * bh + u / 4_294_967_296 + v / 4_294_967_296
 }
 
-// x times y over 1,000,000,000, rounded down: a share of x in billionths. 1,000,000,000 is 512 times 1,953,125; raised by 2^22 and 2^33 the
-// factors have the product over 512 as their product's upper half.
+// x times y over 1,000,000,000, rounded down: a share of x in billionths. 1,000,000,000 is 512
+// times 1,953,125; raised by 2^22 and 2^33 the factors have the product over 512 as their product's
+// upper half.
 pub fn share(x: u64, y: u64) -> u64
-    requires { ⌜ (x ≤ 1000000000000000) × (y ≤ 1300000000) ⌝ }
+    requires { ⌜ (x ≤ 1000000000000000)
+        × (y ≤ 1300000000) ⌝ }
     ensures { λ r. ⌜ r ≡ (x * y) / 1000000000 ⌝ }
 {
     if x < 4_300_000_000_000 {
@@ -48,17 +54,22 @@ pub fn mul_low(a: u64, b: u64) -> u64
     std::num::wrapping_add_u64(cross * 4_294_967_296, al * bl)
 }
 
-// Whether the upper half of x times a fraction may be one less than the quotient, for x up to `most`: what the fraction lacks, at most x, may carry
-// where the lower half ends so near below 2^64.
+// Whether the upper half of x times a fraction may be one less than the quotient, for x up to
+// `most`: what the fraction lacks, at most x, may carry where the lower half ends so near below
+// 2^64.
 pub fn may_be_low(x: u64, fraction: u64, most: u64) -> bool
     ensures { λ r. ⌜ r ≡ nearTop most (x * fraction) ⌝ }
 {
     u64::MAX - most < mul_low(x, fraction)
 }
 
-// x times w over d, where q is that, rounded down, or one too few. What is left tells: it is below 2 d, so its lower half is all of it.
+// x times w over d, where q is that, rounded down, or one too few. What is left says: it is below
+// 2 d, so its lower half is all of it.
 pub fn corrected(x: u64, w: u64, d: u64, q: u64) -> u64
-    requires { ⌜ (d < 9223372036854775808) × (q < 18446744073709551615) × (q * d ≤ x * w) × (x * w < q * d + 2 * d) ⌝ }
+    requires { ⌜ (d < 9223372036854775808)
+        × (q < 18446744073709551615)
+        × (q * d ≤ x * w)
+        × (x * w < q * d + 2 * d) ⌝ }
     ensures { λ r. ⌜ r ≡ (x * w) / d ⌝ }
 {
     let left = std::num::wrapping_sub_u64(mul_low(x, w), mul_low(q, d));
@@ -71,8 +82,8 @@ pub struct Two {
     pub second: u64,
 }
 
-// x times w and y times v over d, rounded down, by the fractions that w over d and v over d are: no division. One branch serves both: where either
-// upper half may be one too few, both are mended.
+// x times w and y times v over d, rounded down, by the fractions that w over d and v over d are: no
+// division. One branch serves both: where either upper half may be one too few, both are corrected.
 pub fn two_parts(
     x: u64,
     w: u64,
@@ -83,8 +94,14 @@ pub fn two_parts(
     d: u64,
     most: u64,
 ) -> Two
-    requires { ⌜ (x ≤ most) × (y ≤ most) × (0 < d) × (d < 9223372036854775808) × IsFraction w d fraction × IsFraction v d other ⌝ }
-    ensures { λ r. ⌜ (r .first ≡ (x * w) / d) × (r .second ≡ (y * v) / d) ⌝ }
+    requires { ⌜ (x ≤ most)
+        × (y ≤ most)
+        × (0 < d)
+        × (d < 9223372036854775808)
+        × IsFraction w d fraction
+        × IsFraction v d other ⌝ }
+    ensures { λ r. ⌜ (r .first ≡ (x * w) / d)
+        × (r .second ≡ (y * v) / d) ⌝ }
 {
     let first = mul_high(x, fraction);
     let second = mul_high(y, other);

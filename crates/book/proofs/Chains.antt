@@ -18,13 +18,15 @@ use Rattle.book.specs.Cells.{holds}
 use Rattle.book.proofs.Cells.{holds-one}
 
 module _ (b : List ℕ) (last k : ℕ) where
-  -- one step of a walk: n counted so far, left classes above record i
-  pub from-bad : (left i n q p : ℕ) → checkLink b last k left i ≡ Refused q p → plus n (checkFrom b last k left i) ≡ Refused q p
+  -- one step of a pass: n counted so far, left classes above record i
+  pub from-bad : (left i n q p : ℕ) → checkLink b last k left i ≡ Refused q p
+      → plus n (checkFrom b last k left i) ≡ Refused q p
   unfolding checkFrom _andThen_
   from-bad zero i n q p e = rw e
   from-bad (suc left) i n q p e = rw e
 
-  pub from-end : (left i n m : ℕ) → left ≡ 0 → checkLink b last k left i ≡ Accepted m → plus n (checkFrom b last k left i) ≡ Accepted (n + holds b i)
+  pub from-end : (left i n m : ℕ) → left ≡ 0 → checkLink b last k left i ≡ Accepted m
+      → plus n (checkFrom b last k left i) ≡ Accepted (n + holds b i)
   unfolding checkFrom _andThen_
   from-end zero i n m z e = rw e
   from-end (suc left) i n m z e = absurd (omega arith)
@@ -39,7 +41,8 @@ module _ (b : List ℕ) (last k : ℕ) where
   -- a chain counts each of its records at most once
   from-count : (left i : ℕ) → countOf (checkFrom b last k left i) ≤ left + 1
   unfolding checkFrom
-  from-count zero i = le-trans (then-count (checkLink b last k zero i) (Accepted (holds b i))) (omega (arith, holds-one b i))
+  from-count zero i =
+      le-trans (then-count (checkLink b last k zero i) (Accepted (holds b i))) (omega (arith, holds-one b i))
   from-count (suc left) i =
       let rest = checkFrom b last k left (nextOf b i) in
       le-trans (then-count (checkLink b last k (suc left) i) (plus (holds b i) rest))
@@ -82,5 +85,6 @@ unfolding checkChain
 chain-count b last k =
     let head = headOf b k in
     pick-count (eqb head 0) _ _
-    (le-trans (then-count (need (leb head (records b)) 9 (headPlace k)) (checkFrom b last k (last - classOf b head) head))
+    (le-trans (then-count (need (leb head (records b)) 9 (headPlace k))
+    (checkFrom b last k (last - classOf b head) head))
     (le-trans (from-count b last k (last - classOf b head) head) (omega arith)))

@@ -1,4 +1,5 @@
--- A book is accepted exactly where it keeps the rules, and then n is the number of its linked records that hold contracts.
+-- A book is accepted exactly where it keeps the rules, and then n is the number of its linked records that hold
+-- contracts.
 -- No record is linked twice. Assumes nothing.
 use mathlib.Core.Path.{_≡_, refl, sym}
 use mathlib.Core.Logic.{⊎-elim}
@@ -15,8 +16,11 @@ use Rattle.verdict.specs.declared.Verdict.{Verdict}
 use Rattle.verdict.specs.declared.Verdict.the-variants.{Accepted}
 use Rattle.verdict.proofs.Verdicts.{need-good, then-good}
 use Rattle.le_bytes.proofs.Ranges.{within-good, field-good, fields-good}
-use Rattle.book.specs.Layout.{headerSize, lastClass, lowestClass, edition, chains, records, headPlace, headOf, recordAt, classOf, nextOf, fieldOf, linkFrom, linkAt}
-use Rattle.book.specs.Check.{checkSpare, checkPercents, checkByEdition, checkHeader, checkTables, checkOwner, checkClass, checkAmounts, endsRight, checkLink, checkFrom, checkChain, checkChains, checkBook}
+use Rattle.book.specs.Layout.{headerSize, lastClass, lowestClass, edition, chains, records, headPlace, headOf}
+use Rattle.book.specs.Layout.{recordAt, classOf, nextOf, fieldOf, linkFrom, linkAt}
+use Rattle.book.specs.Check.{checkSpare, checkPercents, checkByEdition, checkHeader, checkTables, checkOwner}
+use Rattle.book.specs.Check.{checkClass, checkAmounts, endsRight, checkLink, checkFrom, checkChain, checkChains}
+use Rattle.book.specs.Check.{checkBook}
 use Rattle.book.specs.Cells.{heldFrom, heldIn, sumOf, heldInAll}
 use Rattle.book.specs.Rules.{HeaderRules, TableRules, RecordRules, ChainRules, Rules}
 use Rattle.book.specs.Reading.{ChainFrom, ValidBook}
@@ -26,7 +30,8 @@ use Rattle.book.proofs.Valid.{valid, chain-here, chain-class, chain-end
 
 -- From acceptance to the rules.
 module _ (b : List ℕ) (last k : ℕ) where
-  links-rules : (j left i : ℕ) → 0 < i → ChainFrom b last k left i → 0 < linkFrom b i j → RecordRules b last k (linkFrom b i j)
+  links-rules : (j left i : ℕ) → 0 < i → ChainFrom b last k left i → 0 < linkFrom b i j
+      → RecordRules b last k (linkFrom b i j)
   unfolding linkFrom
   links-rules zero left i some h l = chain-here b last k left i h
   links-rules (suc j) zero i some h l =
@@ -35,9 +40,11 @@ module _ (b : List ℕ) (last k : ℕ) where
   links-rules (suc j) (suc left) i some h l =
       let rest : ChainFrom b last k left (nextOf b i) = chain-next b last k (suc left) left i (omega arith) h in
       rw (link-next b i j some)
-      (links-rules j left (nextOf b i) (chain-here b last k left (nextOf b i) rest .first) rest (rw (link-next b i j some) at l))
+      (links-rules j left (nextOf b i) (chain-here b last k left (nextOf b i) rest .first) rest
+      (rw (link-next b i j some) at l))
 
-  links-rising : (j left i : ℕ) → 0 < i → left ≤ last → ChainFrom b last k left i → 0 < linkFrom b i j → classOf b (linkFrom b i j) ≡ classOf b i + j
+  links-rising : (j left i : ℕ) → 0 < i → left ≤ last → ChainFrom b last k left i → 0 < linkFrom b i j
+      → classOf b (linkFrom b i j) ≡ classOf b i + j
   unfolding linkFrom
   links-rising zero left i some fits h l = sym (add-zero (classOf b i))
   links-rising (suc j) zero i some fits h l =
@@ -46,7 +53,8 @@ module _ (b : List ℕ) (last k : ℕ) where
   links-rising (suc j) (suc left) i some fits h l =
       let rest : ChainFrom b last k left (nextOf b i) = chain-next b last k (suc left) left i (omega arith) h in
       let later : classOf b (linkFrom b (nextOf b i) j) ≡ classOf b (nextOf b i) + j
-      = links-rising j left (nextOf b i) (chain-here b last k left (nextOf b i) rest .first) (omega arith) rest (rw (link-next b i j some) at l) in
+      = links-rising j left (nextOf b i) (chain-here b last k left (nextOf b i) rest .first) (omega arith) rest
+      (rw (link-next b i j some) at l) in
       rw (link-next b i j some)
       (omega (arith, later, chain-class b last k (suc left) i h, chain-class b last k left (nextOf b i) rest))
 
@@ -58,7 +66,8 @@ empty-chain b k j none l =
 
 module _ (basis : ℕ) (b : List ℕ) (v : ValidBook basis b) (k : ℕ) (few : k < chains) where
   -- a chain with a linked record is not empty
-  chain-whole : (j : ℕ) → 0 < linkAt b k j → ChainFrom b (lastClass basis) k (lastClass basis - classOf b (headOf b k)) (headOf b k)
+  chain-whole : (j : ℕ) → 0 < linkAt b k j
+      → ChainFrom b (lastClass basis) k (lastClass basis - classOf b (headOf b k)) (headOf b k)
   chain-whole j l = v .chain k few (λ none. empty-chain b k j none l)
 
   chain-some : (j : ℕ) → 0 < linkAt b k j → 0 < headOf b k
@@ -67,7 +76,8 @@ module _ (basis : ℕ) (b : List ℕ) (v : ValidBook basis b) (k : ℕ) (few : k
   chain-rules : ChainRules b (lastClass basis) k
   chain-rules = record {
     linked = λ j l. links-rules b (lastClass basis) k j _ (headOf b k) (chain-some j l) (chain-whole j l) l;
-    rising = λ j l. links-rising b (lastClass basis) k j _ (headOf b k) (chain-some j l) (omega arith) (chain-whole j l) l;
+    rising = λ j l. links-rising b (lastClass basis) k j _ (headOf b k) (chain-some j l) (omega arith) (chain-whole j l)
+        l;
   }
 
 pub accepted-rules : (basis : ℕ) (b : List ℕ) (n : ℕ) → checkBook basis b ≡ Accepted n → Rules basis b
@@ -145,7 +155,8 @@ module _ (b : List ℕ) (last k : ℕ) where
       let more : nextOf b i ≡ 0 → ⊥ = λ z. let e = r .goes-on z in absurd (omega arith) in
       rw (ne-eqb (suc left) 0 (λ z. absurd (omega arith)), ne-eqb (nextOf b i) 0 more)
 
-  link-good : (left i : ℕ) → RecordRules b last k i → left + classOf b i ≡ last → nextOf b i ≤ records b → checkLink b last k left i ≡ Accepted 0
+  link-good : (left i : ℕ) → RecordRules b last k i → left + classOf b i ≡ last → nextOf b i ≤ records b
+      → checkLink b last k left i ≡ Accepted 0
   unfolding checkLink
   link-good left i r c inside =
       then-good _ _ _ _
@@ -167,8 +178,10 @@ module _ (b : List ℕ) (last k : ℕ) where
   from-good (suc left) i (suc m) some c h linked rising =
       let r : RecordRules b last k i = linked 0 some in
       let more : 0 < nextOf b i = pos-of-ne-zero (λ z. let e = r .goes-on z in absurd (omega arith)) in
-      let next : RecordRules b last k (nextOf b i) = rw (link-next b i 0 some) at (linked 1 (rw (link-next b i 0 some) more)) in
-      let class : classOf b (nextOf b i) ≡ classOf b i + 1 = rw (link-next b i 0 some) at (rising 1 (rw (link-next b i 0 some) more)) in
+      let next : RecordRules b last k (nextOf b i) =
+      rw (link-next b i 0 some) at (linked 1 (rw (link-next b i 0 some) more)) in
+      let class : classOf b (nextOf b i) ≡ classOf b i + 1 =
+      rw (link-next b i 0 some) at (rising 1 (rw (link-next b i 0 some) more)) in
       let rest : checkFrom b last k left (nextOf b i) ≡ Accepted (heldFrom b (nextOf b i) m)
       = from-good left (nextOf b i) m more (omega arith) (omega arith)
       (λ j l. rw (link-next b i j some) at (linked (suc j) (rw (link-next b i j some) l)))
@@ -180,24 +193,33 @@ module _ (b : List ℕ) (last k : ℕ) where
   chain-good c = by-head (eqb (headOf b k) 0) refl
     where
       by-head : (t : Bool) → eqb (headOf b k) 0 ≡ t
-          → cond t (Accepted 0) (need (leb (headOf b k) (records b)) 9 (headPlace k) andThen checkFrom b last k (last - classOf b (headOf b k)) (headOf b k))
+          → cond t (Accepted 0)
+          (need (leb (headOf b k) (records b)) 9 (headPlace k) andThen checkFrom b last k
+          (last - classOf b (headOf b k)) (headOf b k))
           ≡ Accepted (heldFrom b (headOf b k) (last + 1))
       by-head true e = let none : headOf b k ≡ 0 = eqb-true _ _ e in rw (none, held-none b (last + 1))
       by-head false e =
           let some : 0 < headOf b k = pos-of-ne-zero (eqb-false _ _ e) in
           let r : RecordRules b last k (headOf b k) = c .linked 0 some in
           then-good _ _ _ _ (need-good _ _ _ (le-leb _ _ (r .inside)))
-          (from-good (last - classOf b (headOf b k)) (headOf b k) (last + 1) some (omega (arith, r .class-high)) (omega arith) (c .linked) (c .rising))
+          (from-good (last - classOf b (headOf b k)) (headOf b k) (last + 1) some (omega (arith, r .class-high))
+          (omega arith) (c .linked) (c .rising))
 
 -- accepted runs, their counts added
-all-counted : (f : ℕ → Verdict) (g : ℕ → ℕ) (left k : ℕ) → ((j : ℕ) → k ≤ j → j < k + left → f j ≡ Accepted (g j)) → joinAll f k left ≡ Accepted (sumOf g k left)
+all-counted : (f : ℕ → Verdict) (g : ℕ → ℕ) (left k : ℕ) → ((j : ℕ) → k ≤ j → j < k + left → f j ≡ Accepted (g j))
+    → joinAll f k left ≡ Accepted (sumOf g k left)
 unfolding joinAll sumOf
 all-counted f g zero k each = refl
 all-counted f g (suc left) k each =
-    rw (each k (omega arith) (omega arith), all-counted f g left (k + 1) (λ j lo hi. each j (omega arith) (omega arith)))
+    rw (
+      each k (omega arith) (omega arith),
+      all-counted f g left (k + 1)
+          (λ j lo hi. each j (omega arith) (omega arith)),
+    )
 
 -- a book that keeps the rules is accepted, and n is as defined
-pub rules-accepted : (basis : ℕ) (b : List ℕ) → Rules basis b → checkBook basis b ≡ Accepted (heldInAll b (lastClass basis))
+pub rules-accepted : (basis : ℕ) (b : List ℕ) → Rules basis b
+    → checkBook basis b ≡ Accepted (heldInAll b (lastClass basis))
 unfolding checkBook checkChains heldInAll
 rules-accepted basis b r =
     let long : headerSize ≤ length b = omega (arith, r .header .size) in
@@ -208,7 +230,8 @@ rules-accepted basis b r =
     (all-counted _ _ chains 0 (λ k lo hi. chain-good b (lastClass basis) k (r .chain k (omega arith))))
 
 -- n of an accepted book is the number of its linked records that hold contracts
-pub accepted-held : (basis : ℕ) (b : List ℕ) (n : ℕ) → checkBook basis b ≡ Accepted n → n ≡ heldInAll b (lastClass basis)
+pub accepted-held : (basis : ℕ) (b : List ℕ) (n : ℕ) → checkBook basis b ≡ Accepted n
+    → n ≡ heldInAll b (lastClass basis)
 accepted-held basis b n e = let f = rules-accepted basis b (accepted-rules basis b n e) in cc
 
 -- A record is linked at most once: equal numbers are the same place of the same chain. So n counts no record twice.
@@ -222,5 +245,6 @@ module _ (basis : ℕ) (b : List ℕ) (r : Rules basis b) (k k′ j j′ : ℕ) 
 
   pub one-place : j ≡ j′
   one-place =
-      let y : classOf b (linkAt b k j) ≡ classOf b (headOf b k) + j′ = rw (same, one-chain) (r .chain k′ few′ .rising j′ (rw (← same) some)) in
+      let y : classOf b (linkAt b k j) ≡ classOf b (headOf b k) + j′ =
+      rw (same, one-chain) (r .chain k′ few′ .rising j′ (rw (← same) some)) in
       omega (arith, y, r .chain k few .rising j some)

@@ -1,4 +1,5 @@
--- A refusal of the book has a number from 1 to 13 or 23, on basis 2 also 21: 0 stands for acceptance and for nothing else.
+-- A refusal of the book has a number from 1 to 13 or 23, on basis 2 also 21: 0 stands for acceptance and for nothing
+-- else.
 -- Assumes nothing.
 use mathlib.Core.Path.{_≡_, refl}
 use mathlib.Core.List.{List}
@@ -14,12 +15,14 @@ use Rattle.verdict.specs.declared.Verdict.{Verdict}
 use Rattle.verdict.specs.declared.Verdict.the-variants.{Accepted, Refused}
 use Rattle.book.specs.Layout.{lastClass, lowestClass, edition, headOf, nextOf}
 use Rattle.book.specs.Cells.{holds}
-use Rattle.book.specs.Check.{checkSpare, checkPercents, checkByEdition, checkHeader, checkTables, checkOwner, checkClass, checkAmounts, checkLink, checkFrom, checkChain, checkChains, checkBook}
+use Rattle.book.specs.Check.{checkSpare, checkPercents, checkByEdition, checkHeader, checkTables, checkOwner}
+use Rattle.book.specs.Check.{checkClass, checkAmounts, checkLink, checkFrom, checkChain, checkChains, checkBook}
 
 -- a number from 1 to 13, or 23; 21 only where some class is below the lowest
 abbrev listed : ℕ → ℕ → Bool
 listed last q =
-    cond (cond (leb 1 q) (leb q 13) false) true (cond (eqb q 23) true (cond (eqb q 21) (leb 1 (lowestClass last)) false))
+    cond (cond (leb 1 q) (leb q 13) false) true
+    (cond (eqb q 23) true (cond (eqb q 21) (leb 1 (lowestClass last)) false))
 
 -- accepted, or refused with such a number
 abbrev pub Numbered : ℕ → Verdict → Type 0
@@ -149,7 +152,8 @@ numbered b basis =
     (by-all last _ _ 0 (by-chain last b))
 
 -- refusal 0 is acceptance
-pub zero-accepted : (basis : ℕ) (b : List ℕ) → refusalOf (checkBook basis b) ≡ 0 → checkBook basis b ≡ Accepted (countOf (checkBook basis b))
+pub zero-accepted : (basis : ℕ) (b : List ℕ) → refusalOf (checkBook basis b) ≡ 0
+    → checkBook basis b ≡ Accepted (countOf (checkBook basis b))
 zero-accepted basis b = by (checkBook basis b) (numbered b basis)
   where
     by : (v : Verdict) → Numbered (lastClass basis) v → refusalOf v ≡ 0 → v ≡ Accepted (countOf v)

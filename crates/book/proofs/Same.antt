@@ -5,7 +5,8 @@ use mathlib.Core.List.{List}
 use Prim.Native.Nat.{ℕ, _+_, _-_, _<_, _≤_}
 use native.Mathlib.Omega.{arith}
 use Rattle.le_bytes.proofs.Same.{Same, u16-same, u32-same}
-use Rattle.book.specs.Layout.{headerSize, recordSize, chains, records, headPlace, headOf, recordAt, sexOf, classOf, nextOf, fieldOf, linkAt}
+use Rattle.book.specs.Layout.{headerSize, recordSize, chains, records, headPlace, headOf, recordAt, sexOf}
+use Rattle.book.specs.Layout.{classOf, nextOf, fieldOf, linkAt}
 use Rattle.book.specs.Check.{checkSpare, checkPercents, checkByEdition, checkHeader}
 use Rattle.book.specs.Rules.{SameButUnlinked}
 
@@ -29,8 +30,9 @@ module _ (b b′ : List ℕ) (i : ℕ) (same : SameRecord b b′ i) where
   unfolding fieldOf
   field-of-same offset inside = u32-same b b′ _ _ same (recordAt i + offset) (omega arith) (omega arith)
 
--- the header's check reads the first eight bytes, and takes the length as it is told
-pub header-same : (b b′ : List ℕ) → Same b b′ 0 8 → (basis size : ℕ) → checkHeader basis size b ≡ checkHeader basis size b′
+-- the header's check reads the first eight bytes, and takes the length as it is given
+pub header-same : (b b′ : List ℕ) → Same b b′ 0 8 → (basis size : ℕ)
+    → checkHeader basis size b ≡ checkHeader basis size b′
 unfolding checkHeader checkByEdition checkPercents checkSpare records
 header-same b b′ same basis size =
     rw (

@@ -1,4 +1,5 @@
--- Bytes of unlinked records have no effect: two books that differ in nothing else have the same verdict. Assumes nothing.
+-- Bytes of unlinked records have no effect: two books that differ in nothing else have the same verdict. Assumes
+-- nothing.
 use mathlib.Core.Path.{_≡_, refl, _∙_}
 use mathlib.Core.List.{List}
 use mathlib.Core.Bool.{Bool, true, false, cond}
@@ -13,12 +14,16 @@ use Rattle.verdict.specs.declared.Verdict.{Verdict}
 use Rattle.verdict.specs.declared.Verdict.the-variants.{Accepted, Refused}
 use Rattle.verdict.proofs.Verdicts.{all-same}
 use Rattle.le_bytes.proofs.Same.{u16-same, field-same, fields-same}
-use Rattle.book.specs.Layout.{lastClass, chains, records, headPlace, headOf, costPlace, curvePlace, mortalityPlace, mostRate, curveLift, curveSpan, recordAt, classOf, nextOf, linkFrom, linkAt}
-use Rattle.book.specs.Check.{checkTables, checkOwner, checkClass, checkAmounts, endsRight, checkLink, checkFrom, checkChain, checkChains, checkBook}
+use Rattle.book.specs.Layout.{lastClass, chains, records, headPlace, headOf, costPlace, curvePlace}
+use Rattle.book.specs.Layout.{mortalityPlace, mostRate, curveLift, curveSpan, recordAt, classOf, nextOf, linkFrom}
+use Rattle.book.specs.Layout.{linkAt}
+use Rattle.book.specs.Check.{checkTables, checkOwner, checkClass, checkAmounts, endsRight, checkLink, checkFrom}
+use Rattle.book.specs.Check.{checkChain, checkChains, checkBook}
 use Rattle.book.specs.Cells.{holds}
 use Rattle.book.specs.Rules.{SameButUnlinked}
 use Rattle.book.proofs.Links.{link-next}
-use Rattle.book.proofs.Same.{SameRecord, class-same, next-same, field-of-same, front-same, count-same, head-same, record-same, header-same}
+use Rattle.book.proofs.Same.{SameRecord, class-same, next-same, field-of-same, front-same, count-same, head-same}
+use Rattle.book.proofs.Same.{record-same, header-same}
 
 -- a verdict that refuses, and what comes after it
 abbrev Refuses : Verdict → Type 0
@@ -67,7 +72,8 @@ module _ (b b′ : List ℕ) (last k : ℕ) (count : records b ≡ records b′)
 
     link-same : (left : ℕ) → checkLink b last k left i ≡ checkLink b′ last k left i
     unfolding checkLink checkClass
-    link-same left = rw (owner-same, same (recordAt i + 2) (omega arith) (omega arith), amounts-same, next-same b b′ i same, count)
+    link-same left =
+        rw (owner-same, same (recordAt i + 2) (omega arith) (omega arith), amounts-same, next-same b b′ i same, count)
 
   -- a record that ends its chain too early is refused
   link-early : (left i : ℕ) → nextOf b i ≡ 0 → Refuses (checkLink b last k (suc left) i)
@@ -81,30 +87,46 @@ module _ (b b′ : List ℕ) (last k : ℕ) (count : records b ≡ records b′)
       → checkFrom b last k (suc left) i ≡ checkFrom b′ last k (suc left) i
   unfolding checkFrom
   step-same left i true e here rest =
-      hidden (checkLink b last k (suc left) i) _ (plus (holds b′ i) (checkFrom b′ last k left (nextOf b′ i))) (link-early left i (eqb-true _ _ e))
+      hidden (checkLink b last k (suc left) i) _ (plus (holds b′ i) (checkFrom b′ last k left (nextOf b′ i)))
+      (link-early left i (eqb-true _ _ e))
       ∙ rw (link-same i here (suc left))
   step-same left i false e here rest =
-      rw (link-same i here (suc left), holds-same i here, rest (pos-of-ne-zero (eqb-false _ _ e)), next-same b b′ i here)
+      rw (
+        link-same i here (suc left),
+        holds-same i here,
+        rest (pos-of-ne-zero (eqb-false _ _ e)),
+        next-same b b′ i
+            here,
+      )
 
-  from-same : (left i : ℕ) → 0 < i → ((j : ℕ) → 0 < linkFrom b i j → SameRecord b b′ (linkFrom b i j)) → checkFrom b last k left i ≡ checkFrom b′ last k left i
+  from-same : (left i : ℕ) → 0 < i → ((j : ℕ) → 0 < linkFrom b i j → SameRecord b b′ (linkFrom b i j))
+      → checkFrom b last k left i ≡ checkFrom b′ last k left i
   unfolding checkFrom linkFrom
   from-same zero i some same = rw (link-same i (same 0 some) 0, holds-same i (same 0 some))
   from-same (suc left) i some same =
       step-same left i (eqb (nextOf b i) 0) refl (same 0 some)
-      (λ more. from-same left (nextOf b i) more (λ j l. rw (link-next b i j some) at (same (suc j) (rw (link-next b i j some) l))))
+      (λ more. from-same left (nextOf b i) more
+      (λ j l. rw (link-next b i j some) at (same (suc j) (rw (link-next b i j some) l))))
 
-  chain-same : headOf b k ≡ headOf b′ k → ((j : ℕ) → 0 < linkAt b k j → SameRecord b b′ (linkAt b k j)) → checkChain b last k ≡ checkChain b′ last k
+  chain-same : headOf b k ≡ headOf b′ k → ((j : ℕ) → 0 < linkAt b k j → SameRecord b b′ (linkAt b k j))
+      → checkChain b last k ≡ checkChain b′ last k
   unfolding checkChain linkFrom
   chain-same head same = rw (← head) (by-head (eqb (headOf b k) 0) refl)
     where
       chain : List ℕ → Verdict
-      chain c = need (leb (headOf b k) (records c)) 9 (headPlace k) andThen checkFrom c last k (last - classOf c (headOf b k)) (headOf b k)
+      chain c = need (leb (headOf b k) (records c)) 9 (headPlace k) andThen checkFrom c last k
+          (last - classOf c (headOf b k)) (headOf b k)
 
       by-head : (t : Bool) → eqb (headOf b k) 0 ≡ t → cond t (Accepted 0) (chain b) ≡ cond t (Accepted 0) (chain b′)
       by-head true e = refl
       by-head false e =
           let some : 0 < headOf b k = pos-of-ne-zero (eqb-false _ _ e) in
-          rw (count, class-same b b′ (headOf b k) (same 0 some), from-same (last - classOf b′ (headOf b k)) (headOf b k) some same)
+          rw (
+            count,
+            class-same b b′ (headOf b k) (same 0 some),
+            from-same (last - classOf b′ (headOf b k)) (headOf b k)
+                some same,
+          )
 
 module _ (b b′ : List ℕ) (s : SameButUnlinked b b′) where
   tables-same : checkTables b ≡ checkTables b′
@@ -124,5 +146,6 @@ module _ (b b′ : List ℕ) (s : SameButUnlinked b b′) where
         header-same b b′ (λ p lo hi. s .front p (omega arith)) basis (length b′),
         tables-same,
         all-same (checkChain b (lastClass basis)) (checkChain b′ (lastClass basis)) chains 0
-            (λ k lo hi. chain-same b b′ (lastClass basis) k (count-same b b′ s) (head-same b b′ s k (omega arith)) (λ j l. record-same b b′ s k j (omega arith) l)),
+            (λ k lo hi. chain-same b b′ (lastClass basis) k (count-same b b′ s) (head-same b b′ s k (omega arith))
+            (λ j l. record-same b b′ s k j (omega arith) l)),
       )

@@ -1,4 +1,4 @@
--- An accepted book is valid, and what a walk of its chains takes from that. Assumes nothing.
+-- An accepted book is valid, and what a pass along its chains takes from that. Assumes nothing.
 use mathlib.Core.Path.{_≡_, sym, _∙_}
 use mathlib.Core.List.{List}
 use Prim.Native.Nat.{ℕ, zero, suc, _+_, _-_, _<_, _≤_, zero-le}
@@ -10,8 +10,12 @@ use borrow.Author.Tests.{leb-true, eqb-true, eq-eqb, ne-eqb}
 use Rattle.verdict.specs.declared.Verdict.the-variants.{Accepted}
 use Rattle.verdict.proofs.Verdicts.{need-true, then-left, then-right, plus-right, all-each}
 use Rattle.le_bytes.proofs.Ranges.{within-means, field-bound, fields-bound}
-use Rattle.book.specs.Layout.{lastClass, lowestClass, edition, records, spareBytes, percentAt, mostPercent, chains, headOf, classOf, nextOf, fieldOf, mostRate, curveLift, curveSpan, costPlace, curvePlace, mortalityPlace}
-use Rattle.book.specs.Check.{checkSpare, checkPercents, checkByEdition, checkHeader, checkTables, checkOwner, checkClass, checkAmounts, endsRight, checkLink, checkFrom, checkChain, checkChains, checkBook}
+use Rattle.book.specs.Layout.{lastClass, lowestClass, edition, records, spareBytes, percentAt, mostPercent}
+use Rattle.book.specs.Layout.{chains, headOf, classOf, nextOf, fieldOf, mostRate, curveLift, curveSpan, costPlace}
+use Rattle.book.specs.Layout.{curvePlace, mortalityPlace}
+use Rattle.book.specs.Check.{checkSpare, checkPercents, checkByEdition, checkHeader, checkTables, checkOwner}
+use Rattle.book.specs.Check.{checkClass, checkAmounts, endsRight, checkLink, checkFrom, checkChain, checkChains}
+use Rattle.book.specs.Check.{checkBook}
 use Rattle.book.specs.Rules.{HeaderRules, TableRules, RecordRules}
 use Rattle.book.specs.Reading.{ChainFrom, ValidBook}
 use Rattle.book.proofs.Chains.{link-owner, link-class, link-amounts, link-ends, link-inside, link-some}
@@ -60,7 +64,8 @@ module _ (b : List ℕ) (last k : ℕ) where
         goes-on = goes-on;
       }
 
-  from-valid : (left i n : ℕ) → 0 < i → i ≤ records b → left ≤ last → checkFrom b last k left i ≡ Accepted n → ChainFrom b last k left i
+  from-valid : (left i n : ℕ) → 0 < i → i ≤ records b → left ≤ last → checkFrom b last k left i ≡ Accepted n
+      → ChainFrom b last k left i
   unfolding checkFrom ChainFrom
   from-valid zero i n some inside fits e =
       let l = then-left _ _ _ e in
@@ -72,14 +77,17 @@ module _ (b : List ℕ) (last k : ℕ) where
       let next : 0 < nextOf b i = link-some b last k (suc left) i _ l (omega arith) in (
         record-rules (suc left) i _ some inside fits l (λ h. absurd (omega arith)) (λ h. absurd (omega arith)),
         class,
-        from-valid left (nextOf b i) _ next (link-inside b last k (suc left) i _ l) (omega arith) (plus-right _ _ _ (then-right _ _ _ e)),
+        from-valid left (nextOf b i) _ next (link-inside b last k (suc left) i _ l) (omega arith)
+            (plus-right _ _ _ (then-right _ _ _ e)),
       )
 
-  chain-valid : (n : ℕ) → (headOf b k ≡ 0 → ⊥) → checkChain b last k ≡ Accepted n → ChainFrom b last k (last - classOf b (headOf b k)) (headOf b k)
+  chain-valid : (n : ℕ) → (headOf b k ≡ 0 → ⊥) → checkChain b last k ≡ Accepted n
+      → ChainFrom b last k (last - classOf b (headOf b k)) (headOf b k)
   unfolding checkChain
   chain-valid n some e =
       let w = rw (ne-eqb _ _ some) at e in
-      from-valid _ _ n (pos-of-ne-zero some) (leb-true _ _ (need-true _ _ _ _ (then-left _ _ _ w))) (omega arith) (then-right _ _ _ w)
+      from-valid _ _ n (pos-of-ne-zero some) (leb-true _ _ (need-true _ _ _ _ (then-left _ _ _ w))) (omega arith)
+      (then-right _ _ _ w)
 
 -- bytes 6 and 7, by the edition
 module _ (b : List ℕ) (n : ℕ) (e : checkByEdition b ≡ Accepted n) where
@@ -92,10 +100,12 @@ module _ (b : List ℕ) (n : ℕ) (e : checkByEdition b ≡ Accepted n) where
   percent-rule : edition b ≡ 2 → (sex : ℕ) → sex ≤ 1 → (1 ≤ percentAt b sex) × (percentAt b sex ≤ mostPercent)
   unfolding checkByEdition checkPercents
   percent-rule two zero h =
-      let men = within-means _ _ (percentAt b 0) (need-true _ _ _ _ (then-left _ _ _ (rw (eq-eqb (edition b) 2 two) at e))) in
+      let men = within-means _ _ (percentAt b 0)
+      (need-true _ _ _ _ (then-left _ _ _ (rw (eq-eqb (edition b) 2 two) at e))) in
       (omega (arith, men .0), omega (arith, men .1))
   percent-rule two (suc zero) h =
-      let women = within-means _ _ (percentAt b 1) (need-true _ _ _ _ (then-right _ _ _ (rw (eq-eqb (edition b) 2 two) at e))) in
+      let women = within-means _ _ (percentAt b 1)
+      (need-true _ _ _ _ (then-right _ _ _ (rw (eq-eqb (edition b) 2 two) at e))) in
       (omega (arith, women .0), omega (arith, women .1))
   percent-rule two (suc (suc sex)) h = absurd (omega arith)
 
@@ -141,10 +151,11 @@ valid basis b n e =
     record {
       header = header-rules basis b _ (then-right _ _ _ (then-left _ _ _ t));
       tables = table-rules b _ (then-right _ _ _ t);
-      chain = λ k l some. chain-valid b (lastClass basis) k _ some (all-each (checkChain b (lastClass basis)) chains 0 n k (then-right _ _ _ e) zero-le (omega arith));
+      chain = λ k l some. chain-valid b (lastClass basis) k _ some
+          (all-each (checkChain b (lastClass basis)) chains 0 n k (then-right _ _ _ e) zero-le (omega arith));
     }
 
--- what a walk takes: the record it stands at, its class, and the chain from the next one on
+-- what a pass takes: the record it stands at, its class, and the chain from the next one on
 module _ (b : List ℕ) (last k : ℕ) where
   pub chain-here : (left i : ℕ) → ChainFrom b last k left i → RecordRules b last k i
   unfolding ChainFrom
@@ -161,6 +172,7 @@ module _ (b : List ℕ) (last k : ℕ) where
   chain-end zero i z h = h .0 .ends (h .1)
   chain-end (suc left) i z h = absurd (omega arith)
 
-  pub chain-next : (left rest i : ℕ) → left ≡ rest + 1 → ChainFrom b last k left i → ChainFrom b last k rest (nextOf b i)
+  pub chain-next : (left rest i : ℕ) → left ≡ rest + 1 → ChainFrom b last k left i
+      → ChainFrom b last k rest (nextOf b i)
   unfolding ChainFrom
   chain-next left rest i s h = let t : left ≡ suc rest = s ∙ add-one rest in (rw t at h) .2

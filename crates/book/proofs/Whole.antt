@@ -18,11 +18,13 @@ module _ (basis : ℕ) (b : List ℕ) where
   unfolding checkBook need _andThen_
   book-short h = rw (lt-leb _ _ h)
 
-  pub book-bad : headerSize ≤ length b → (q p : ℕ) → (checkHeader basis (length b) b andThen checkTables b) ≡ Refused q p → checkBook basis b ≡ Refused q p
+  pub book-bad : headerSize ≤ length b → (q p : ℕ)
+      → (checkHeader basis (length b) b andThen checkTables b) ≡ Refused q p → checkBook basis b ≡ Refused q p
   unfolding checkBook need _andThen_
   book-bad h q p e = rw (le-leb _ _ h, e)
 
-  pub book-good : headerSize ≤ length b → (m : ℕ) → (checkHeader basis (length b) b andThen checkTables b) ≡ Accepted m → checkBook basis b ≡ checkChains b (lastClass basis)
+  pub book-good : headerSize ≤ length b → (m : ℕ) → (checkHeader basis (length b) b andThen checkTables b) ≡ Accepted m
+      → checkBook basis b ≡ checkChains b (lastClass basis)
   unfolding checkBook need _andThen_
   book-good h m e = rw (le-leb _ _ h, e)
 

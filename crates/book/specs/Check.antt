@@ -10,7 +10,11 @@ use Rattle.verdict.specs.Verdicts.{need, _andThen_, plus, joinAll}
 use Rattle.le_bytes.specs.Fields.{within, checkField, checkFields}
 use Rattle.verdict.specs.declared.Verdict.{Verdict}
 use Rattle.verdict.specs.declared.Verdict.the-variants.{Accepted}
-use Rattle.book.specs.Layout.{headerSize, recordSize, mostRecords, lastClass, lowestClass, edition, ageBasis, sstYear, firstYear, lastYear, records, spareBytes, percentPlace, percentAt, mostPercent, chains, chainCode, chainSex, headPlace, headOf, costPlace, curvePlace, mortalityPlace, mostRate, curveLift, curveSpan, recordAt, classOf, nextOf, countOffset, lapseOffset, premiumOffset, claimsOffset, mostCount, mostAmount}
+use Rattle.book.specs.Layout.{headerSize, recordSize, mostRecords, lastClass, lowestClass, edition, ageBasis}
+use Rattle.book.specs.Layout.{sstYear, firstYear, lastYear, records, spareBytes, percentPlace, percentAt}
+use Rattle.book.specs.Layout.{mostPercent, chains, chainCode, chainSex, headPlace, headOf, costPlace, curvePlace}
+use Rattle.book.specs.Layout.{mortalityPlace, mostRate, curveLift, curveSpan, recordAt, classOf, nextOf}
+use Rattle.book.specs.Layout.{countOffset, lapseOffset, premiumOffset, claimsOffset, mostCount, mostAmount}
 use Rattle.book.specs.Cells.{holds}
 
 -- 4, of the spare bytes of edition 1
@@ -81,7 +85,8 @@ checkLink b last k left i =
     need (endsRight left (nextOf b i)) 13 (recordAt i + 4) andThen
     need (leb (nextOf b i) (records b)) 9 (recordAt i + 4)
 
--- chain k from record i on, with left classes above that record's: each record in turn. Its count is how many hold contracts.
+-- chain k from record i on, with left classes above that record's: each record in turn. Its count is how many hold
+-- contracts.
 unfoldable pub checkFrom : List ℕ → ℕ → ℕ → ℕ → ℕ → Verdict
 checkFrom b last k zero i = checkLink b last k zero i andThen Accepted (holds b i)
 checkFrom b last k (suc left) i =

@@ -1,4 +1,5 @@
--- What Check promises of any bytes, in the paper's values of its verdict: the refusal's number, 0 where accepted, and n.
+-- What Check promises of any bytes, in the paper's values of its verdict: the refusal's number, 0 where accepted, and
+-- n.
 use mathlib.Core.Path.{_≡_}
 use mathlib.Core.List.{List}
 use Prim.Native.Nat.{ℕ}

@@ -1,4 +1,5 @@
--- Where everything stands in a book, and the ranges of its fields. Places and sizes are in bytes; records are numbered from 1.
+-- Where everything stands in a book, and the ranges of its fields. Places and sizes are in bytes; records are numbered
+-- from 1.
 -- Book is document 01's term for the input file of a valuation: an insurer's contracts and the tables of one SST year.
 use mathlib.Core.Bool.{cond}
 use Prim.Native.Nat.{ℕ, zero, suc, _+_, _-_, _*_, _/_, _%_}
@@ -104,7 +105,8 @@ curveLift = 10000
 abbrev pub curveSpan : ℕ
 curveSpan = 210000
 
--- A record: code, sex, class, a spare byte, next (two bytes), two spare bytes, count, lapse, premium, claims (four bytes each).
+-- A record: code, sex, class, a spare byte, next (two bytes), two spare bytes, count, lapse, premium, claims (four
+-- bytes each).
 abbrev pub recordAt : ℕ → ℕ
 recordAt i = headerSize + recordSize * (i - 1)
 

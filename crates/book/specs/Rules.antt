@@ -1,11 +1,17 @@
--- The rules that a book keeps, one by one and in no order of tests. A book is accepted exactly where it keeps them all (proofs/Exact).
+-- The rules that a book keeps, one by one and in no order of tests. A book is accepted exactly where it keeps them all
+-- (proofs/Exact).
 use Prim.Native.Nat.{ℕ, _+_, _*_, _<_, _≤_}
 use mathlib.Core.Path.{_≡_}
 use mathlib.Core.List.{List}
 use lib.ListN.{length}
 use Rattle.le_bytes.specs.Bytes.{byteAt, readU16, readU32}
 use Rattle.le_bytes.specs.Fields.{raised}
-use Rattle.book.specs.Layout.{headerSize, recordSize, mostRecords, lastClass, lowestClass, edition, ageBasis, sstYear, firstYear, lastYear, records, spareBytes, percentAt, mostPercent, chains, chainCode, chainSex, headOf, costPlace, curvePlace, mortalityPlace, mostRate, curveLift, curveSpan, recordAt, codeOf, sexOf, classOf, nextOf, fieldOf, countOffset, lapseOffset, premiumOffset, claimsOffset, mostCount, mostAmount, linkAt}
+use Rattle.book.specs.Layout.{headerSize, recordSize, mostRecords, lastClass, lowestClass, edition, ageBasis}
+use Rattle.book.specs.Layout.{sstYear, firstYear, lastYear, records, spareBytes, percentAt, mostPercent, chains}
+use Rattle.book.specs.Layout.{chainCode, chainSex, headOf, costPlace, curvePlace, mortalityPlace, mostRate}
+use Rattle.book.specs.Layout.{curveLift, curveSpan, recordAt, codeOf, sexOf, classOf, nextOf, fieldOf}
+use Rattle.book.specs.Layout.{countOffset, lapseOffset, premiumOffset, claimsOffset, mostCount, mostAmount}
+use Rattle.book.specs.Layout.{linkAt}
 
 pub record HeaderRules (basis : ℕ) (b : List ℕ) : Type 0 where
   pub edition-low : 1 ≤ edition b

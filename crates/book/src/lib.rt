@@ -1,9 +1,11 @@
-// Where everything stands in a book, and readers of its records. The readers ask that the record lies in the bytes:
+// Where everything stands in a book, and readers of its records. The readers ask that the record
+// lies in the bytes:
 // they are for the crates above, which have shown it.
 ghost use mathlib.Core.Path.{_≡_};
 ghost use Prim.Native.Nat.{_+_, _*_, _≤_, _<_};
 ghost use lib.ListN.{length};
-ghost use Rattle.book.specs.Layout.{headerSize, lastClass, lowestClass, edition, records, percentAt, headOf, recordAt, classOf, nextOf, fieldOf};
+ghost use Rattle.book.specs.Layout.{headerSize, lastClass, lowestClass, edition, records};
+ghost use Rattle.book.specs.Layout.{percentAt, headOf, recordAt, classOf, nextOf, fieldOf};
 ghost use Rattle.book.specs.Cells.{holds};
 ghost use Rattle.book.specs.Check.{checkAmounts};
 ghost use Rattle.book.specs.Reading.{Inside};
@@ -79,15 +81,18 @@ pub fn lowest_class(last: usize) -> usize
 
 pub fn edition(b: &[u8]) -> usize
     requires { ⌜ headerSize ≤ length (now b) ⌝ }
-    ensures { λ r. ⌜ (r ≡ edition (now (b .entry))) × (r < 256) ⌝ }
+    ensures { λ r. ⌜ (r ≡ edition (now (b .entry)))
+        × (r < 256) ⌝ }
 {
     le_bytes::read_u8(b, 0)
 }
 
 // The percentage that edition 2 has for a sex: 0 men, 1 women.
 pub fn percent_at(b: &[u8], sex: usize) -> usize
-    requires { ⌜ (sex ≤ 1) × (headerSize ≤ length (now b)) ⌝ }
-    ensures { λ r. ⌜ (r ≡ percentAt (now (b .entry)) sex) × (r < 256) ⌝ }
+    requires { ⌜ (sex ≤ 1)
+        × (headerSize ≤ length (now b)) ⌝ }
+    ensures { λ r. ⌜ (r ≡ percentAt (now (b .entry)) sex)
+        × (r < 256) ⌝ }
 {
     le_bytes::read_u8(b, PERCENT_PLACE + sex)
 }
@@ -95,22 +100,26 @@ pub fn percent_at(b: &[u8], sex: usize) -> usize
 // N, the number of records.
 pub fn records(b: &[u8]) -> usize
     requires { ⌜ headerSize ≤ length (now b) ⌝ }
-    ensures { λ r. ⌜ (r ≡ records (now (b .entry))) × (r < 65536) ⌝ }
+    ensures { λ r. ⌜ (r ≡ records (now (b .entry)))
+        × (r < 65536) ⌝ }
 {
     le_bytes::read_u16(b, 4)
 }
 
 // The first record of chain k, 0 where it is empty.
 pub fn head_of(b: &[u8], k: usize) -> usize
-    requires { ⌜ (k < 14) × (headerSize ≤ length (now b)) ⌝ }
-    ensures { λ r. ⌜ (r ≡ headOf (now (b .entry)) k) × (r < 65536) ⌝ }
+    requires { ⌜ (k < 14)
+        × (headerSize ≤ length (now b)) ⌝ }
+    ensures { λ r. ⌜ (r ≡ headOf (now (b .entry)) k)
+        × (r < 65536) ⌝ }
 {
     le_bytes::read_u16(b, HEADS_PLACE + 2 * k)
 }
 
 // Where record i starts.
 pub fn record_at(i: usize) -> usize
-    requires { ⌜ (0 < i) × (24 * i < 9223372036854775808) ⌝ }
+    requires { ⌜ (0 < i)
+        × (24 * i < 9223372036854775808) ⌝ }
     ensures { λ r. ⌜ r ≡ recordAt i ⌝ }
 {
     HEADER_SIZE + RECORD_SIZE * (i - 1)
@@ -119,7 +128,8 @@ pub fn record_at(i: usize) -> usize
 // The class of record i.
 pub fn class_of(b: &[u8], i: usize) -> usize
     requires { ⌜ Inside (now b) i ⌝ }
-    ensures { λ r. ⌜ (r ≡ classOf (now (b .entry)) i) × (r < 256) ⌝ }
+    ensures { λ r. ⌜ (r ≡ classOf (now (b .entry)) i)
+        × (r < 256) ⌝ }
 {
     le_bytes::read_u8(b, record_at(i) + 2)
 }
@@ -127,15 +137,18 @@ pub fn class_of(b: &[u8], i: usize) -> usize
 // The record that follows record i in its chain, 0 where the chain ends.
 pub fn next_of(b: &[u8], i: usize) -> usize
     requires { ⌜ Inside (now b) i ⌝ }
-    ensures { λ r. ⌜ (r ≡ nextOf (now (b .entry)) i) × (r < 65536) ⌝ }
+    ensures { λ r. ⌜ (r ≡ nextOf (now (b .entry)) i)
+        × (r < 65536) ⌝ }
 {
     le_bytes::read_u16(b, record_at(i) + 4)
 }
 
 // Record i's four-byte field at an offset.
 pub fn field_of(b: &[u8], i: usize, offset: usize) -> u64
-    requires { ⌜ Inside (now b) i × (offset ≤ 20) ⌝ }
-    ensures { λ r. ⌜ (r ≡ fieldOf (now (b .entry)) i offset) × (r < 4294967296) ⌝ }
+    requires { ⌜ Inside (now b) i
+        × (offset ≤ 20) ⌝ }
+    ensures { λ r. ⌜ (r ≡ fieldOf (now (b .entry)) i offset)
+        × (r < 4294967296) ⌝ }
 {
     le_bytes::read_u32(b, record_at(i) + offset)
 }
@@ -143,7 +156,8 @@ pub fn field_of(b: &[u8], i: usize, offset: usize) -> u64
 // 1 where record i holds contracts, else 0.
 pub fn holds(b: &[u8], i: usize) -> u64
     requires { ⌜ Inside (now b) i ⌝ }
-    ensures { λ r. ⌜ (r ≡ holds (now (b .entry)) i) × (r ≤ 1) ⌝ }
+    ensures { λ r. ⌜ (r ≡ holds (now (b .entry)) i)
+        × (r ≤ 1) ⌝ }
 {
     let count = field_of(b, i, COUNT_OFFSET);
     if count == 0 { 0 } else { 1 }
@@ -161,7 +175,8 @@ pub fn check_amounts(b: &[u8], at: usize) -> Verdict
     count.and_then(lapse).and_then(premium).and_then(claims)
 }
 
-// Zeros, one more than the longest book has bytes: a program that reads a longer input still refuses it for its length.
+// Zeros, one more than the longest book has bytes: a program that reads a longer input still
+// refuses it for its length.
 pub fn input_buffer() -> [u8; 41_877]
     ensures { λ r. ⌜ 41_877 ≡ length r ⌝ }
 {

@@ -1,5 +1,7 @@
-// The check of a book: for any bytes whatever, accepted with n, or the first rule broken and the place where it is broken.
-// Its definition is book/specs/Check, and the functions here and in `front` and `linked` read in its order.
+// The check of a book: for any bytes whatever, accepted with n, or the first rule broken and the
+// place where it is broken.
+// Its definition is book/specs/Check, and the functions here and in `book_check_header` and
+// `book_check_records` read in its order.
 ghost use mathlib.Core.Path.{_≡_};
 ghost use Prim.Native.Nat.{_-_, _≤_, _<_};
 ghost use Rattle.book.specs.Layout.{records};
@@ -11,7 +13,12 @@ use verdict::Verdict;
 
 // Chain k from record `from` on, with left classes above that record's.
 fn check_from(b: &[u8], last: usize, k: usize, left: usize, from: usize) -> Verdict
-    requires { ⌜ (k < 14) × (left ≤ last) × (120 ≤ last) × (last ≤ 121) × (0 < from) × (from ≤ records (now b))
+    requires { ⌜ (k < 14)
+        × (left ≤ last)
+        × (120 ≤ last)
+        × (last ≤ 121)
+        × (0 < from)
+        × (from ≤ records (now b))
         × Sized (now b) ⌝ }
     ensures { λ r. ⌜ r ≡ checkFrom (now (b .entry)) last k left from ⌝ }
 {
@@ -34,14 +41,18 @@ fn check_from(b: &[u8], last: usize, k: usize, left: usize, from: usize) -> Verd
 
 // How many classes lie above a class, none from the last on.
 fn classes_above(last: usize, class: usize) -> usize
-    ensures { λ r. ⌜ (r ≡ last - class) × (r ≤ last) ⌝ }
+    ensures { λ r. ⌜ (r ≡ last - class)
+        × (r ≤ last) ⌝ }
 {
     if class < last { last - class } else { 0 }
 }
 
 // Chain k from its head: refusals 9 to 13, and 21.
 fn check_chain(b: &[u8], last: usize, k: usize) -> Verdict
-    requires { ⌜ (k < 14) × (120 ≤ last) × (last ≤ 121) × Sized (now b) ⌝ }
+    requires { ⌜ (k < 14)
+        × (120 ≤ last)
+        × (last ≤ 121)
+        × Sized (now b) ⌝ }
     ensures { λ r. ⌜ r ≡ checkChain (now (b .entry)) last k ⌝ }
 {
     let count = book::records(b);
@@ -58,7 +69,9 @@ fn check_chain(b: &[u8], last: usize, k: usize) -> Verdict
 
 // The chains in the order of their heads.
 fn check_chains(b: &[u8], last: usize) -> Verdict
-    requires { ⌜ (120 ≤ last) × (last ≤ 121) × Sized (now b) ⌝ }
+    requires { ⌜ (120 ≤ last)
+        × (last ≤ 121)
+        × Sized (now b) ⌝ }
     ensures { λ r. ⌜ r ≡ checkChains (now (b .entry)) last ⌝ }
 {
     let mut n: u64 = 0;
@@ -76,7 +89,8 @@ fn check_chains(b: &[u8], last: usize) -> Verdict
 
 // The check of a book on an age basis. It is for the crates above, which name the basis.
 pub fn check_on(b: &[u8], basis: usize) -> Verdict
-    requires { ⌜ (1 ≤ basis) × (basis ≤ 2) ⌝ }
+    requires { ⌜ (1 ≤ basis)
+        × (basis ≤ 2) ⌝ }
     ensures { λ r. ⌜ r ≡ checkBook basis (now (b .entry)) ⌝ }
 {
     if b.len() < HEADER_SIZE {

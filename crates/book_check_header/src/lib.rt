@@ -1,10 +1,12 @@
 // What stands before a book's records: refusals 2 to 8 and 23, of the header and of the tables.
-// The functions ask for the bytes that they read: they are for the check, which has shown that they are there.
+// The functions ask for the bytes that they read: they are for the check, which has shown that they
+// are there.
 ghost use mathlib.Core.Path.{_≡_};
 ghost use Prim.Native.Nat.{_≤_};
 ghost use lib.ListN.{length};
 ghost use Rattle.book.specs.Layout.{headerSize};
-ghost use Rattle.book.specs.Check.{checkSpare, checkPercents, checkByEdition, checkHeader, checkTables};
+ghost use Rattle.book.specs.Check.{checkSpare, checkPercents, checkByEdition, checkHeader};
+ghost use Rattle.book.specs.Check.{checkTables};
 use book::COST_PLACE;
 use book::CURVE_LIFT;
 use book::CURVE_PLACE;

@@ -1,5 +1,6 @@
 // One linked record: refusals 10, 21, 11, 12 and 13, then 9 for its next.
-// The functions ask for the record's bytes: they are for the check, which has shown that they are there.
+// The functions ask for the record's bytes: they are for the check, which has shown that they are
+// there.
 ghost use mathlib.Core.Path.{_≡_};
 ghost use Prim.Native.Nat.{_+_, _≤_, _<_};
 ghost use lib.ListN.{length};
@@ -9,7 +10,8 @@ use verdict::Verdict;
 
 // Refusal 10 of the record that starts at a place, in chain k.
 fn check_owner(b: &[u8], k: usize, at: usize) -> Verdict
-    requires { ⌜ (k < 14) × (at + 24 ≤ length (now b)) ⌝ }
+    requires { ⌜ (k < 14)
+        × (at + 24 ≤ length (now b)) ⌝ }
     ensures { λ r. ⌜ r ≡ checkOwner (now (b .entry)) k at ⌝ }
 {
     let code = le_bytes::read_u8(b, at);
@@ -40,7 +42,10 @@ fn ends_right(left: usize, next: usize) -> bool
 
 // Record i in chain k, with left classes above its own: its refusals, then 9 of its next.
 pub fn check_link(b: &[u8], last: usize, k: usize, left: usize, i: usize) -> Verdict
-    requires { ⌜ (k < 14) × (left ≤ last) × (120 ≤ last) × Inside (now b) i ⌝ }
+    requires { ⌜ (k < 14)
+        × (left ≤ last)
+        × (120 ≤ last)
+        × Inside (now b) i ⌝ }
     ensures { λ r. ⌜ r ≡ checkLink (now (b .entry)) last k left i ⌝ }
 {
     let count = book::records(b);

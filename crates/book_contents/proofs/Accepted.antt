@@ -28,7 +28,8 @@ use Rattle.book_contents.proofs.Numbers.{four-read, curve-small, curve-
 use Rattle.book_contents.proofs.Laid.{Laid, stands-laid, book-length}
 use Rattle.book_contents.proofs.Fit.{fit}
 use Rattle.book_contents.proofs.Linked.{size-most, before-most, head-none, head-some, next-last, next-more}
-use Rattle.book_contents.proofs.Linked.{edition-is, men-is, women-is, basis-is, year-is, records-is, head-is, class-of-entry}
+use Rattle.book_contents.proofs.Linked.{edition-is, men-is, women-is, basis-is, year-is, records-is, head-is}
+use Rattle.book_contents.proofs.Linked.{class-of-entry}
 use Rattle.book_contents.proofs.Linked.{next-of-entry, count-of-entry, rules-of-entry, link-in, link-entry}
 
 -- The rules of a book are kept.
@@ -105,7 +106,8 @@ module _ (b : List ℕ) (v : Contents) (f : Fit v) (x : Laid b v) where
       ∙ rw (count-of-entry b v f x k j few h)
 
   held-steps : (k : ℕ) → k < chains → (m j : ℕ) → j < sizeOf (v .values .first) k → sizeOf (v .values .first) k ≤ j + m
-      → heldFrom b (numberOf (v .values .first) k j) m ≡ sumOf (some (v .counts)) (recordsBefore (v .values .first) k + j)
+      → heldFrom b (numberOf (v .values .first) k j) m ≡ sumOf (some (v .counts))
+      (recordsBefore (v .values .first) k + j)
       (sizeOf (v .values .first) k - j)
   unfolding heldFrom sumOf
   held-steps k few zero j h g = absurd (omega arith)
@@ -123,7 +125,8 @@ module _ (b : List ℕ) (v : Contents) (f : Fit v) (x : Laid b v) where
       ))
       (λ (l : j + 1 < sizeOf (v .values .first) k).
       let left : sizeOf (v .values .first) k - j ≡ suc (sizeOf (v .values .first) k - (j + 1)) = omega arith in
-      let place : recordsBefore (v .values .first) k + (j + 1) ≡ recordsBefore (v .values .first) k + j + 1 = omega arith in
+      let place : recordsBefore (v .values .first) k + (j + 1) ≡ recordsBefore (v .values .first) k + j + 1 =
+      omega arith in
       rw (
         holds-entry k j few h,
         after-some b (numberOf (v .values .first) k j) (omega arith),

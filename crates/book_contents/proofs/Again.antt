@@ -27,13 +27,16 @@ use Rattle.book.proofs.Exact.{accepted-rules}
 use Rattle.buffer.specs.Text.{joined}
 use Rattle.buffer.proofs.Digits.{le-or-lt}
 use Rattle.book_contents.specs.Contents.{noClass, sizeOf, recordsBefore}
-use Rattle.book_contents.specs.Written.{twoBytes, twosComplement, numberOf, headFor, nextFor, recordBytesOf, frontBytes, bookOf}
+use Rattle.book_contents.specs.Written.{twoBytes, twosComplement, numberOf, headFor, nextFor, recordBytesOf}
+use Rattle.book_contents.specs.Written.{frontBytes, bookOf}
 use Rattle.book_contents.specs.Written.{bookSize}
 use Rattle.book_contents.specs.Limits.{curveRate, checkContents, Fit}
-use Rattle.book_contents.specs.Reading.{each, signedOf, firstIn, firstsOf, listIn, fieldList, valuesOf, contentsOf}
+use Rattle.book_contents.specs.Reading.{each, signedOf, firstIn, firstsOf, listIn, fieldList, valuesOf}
+use Rattle.book_contents.specs.Reading.{contentsOf}
 use Rattle.book_contents.specs.Reading.{OfBytes, InOrder}
 use Rattle.book_contents.proofs.Stands.{Stands, stands-whole, stands-both, each-length, each-at, each-all}
-use Rattle.book_contents.proofs.Numbers.{two-stands, four-stands, two-length, u32-small, signed-back, signed-rate}
+use Rattle.book_contents.proofs.Numbers.{two-stands, four-stands, two-length, u32-small, signed-back}
+use Rattle.book_contents.proofs.Numbers.{signed-rate}
 use Rattle.book_contents.proofs.Laid.{Laid, laid-stands, book-length}
 use Rattle.book_contents.proofs.Fit.{fit-good}
 use Rattle.book_contents.proofs.Entries.{of-entry}
@@ -303,8 +306,9 @@ module _ (b : List ℕ) (v : ValidBook 1 b) (r : Rules 1 b) where
         claim = list-most claimsOffset mostAmount (λ k j few h. linked-rules k j few h .claims);
       }
 
--- What is read from an accepted book, in order or not, is not refused where the lent buffer takes its book.
-pub reading-taken : (b : List ℕ) (n capacity : ℕ) → checkBook 1 b ≡ Accepted n → OfBytes b → bookSize (firstsOf b) ≤ capacity
+-- What is read from an accepted book, in order or not, is not refused where the caller's buffer takes its book.
+pub reading-taken : (b : List ℕ) (n capacity : ℕ) → checkBook 1 b ≡ Accepted n → OfBytes b
+    → bookSize (firstsOf b) ≤ capacity
     → checkContents (contentsOf b) capacity ≡ Accepted 0
 unfolding contentsOf valuesOf
 reading-taken b n capacity e bytes enough =

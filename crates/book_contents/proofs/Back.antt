@@ -20,7 +20,8 @@ use Rattle.book_contents.proofs.Stands.{stands-self, each-whole}
 use Rattle.book_contents.proofs.Numbers.{four-read, curve-small, curve-back}
 use Rattle.book_contents.proofs.Laid.{Laid, stands-laid}
 use Rattle.book_contents.proofs.Fit.{fit}
-use Rattle.book_contents.proofs.Linked.{head-none, head-some, edition-is, men-is, women-is, year-is, head-is, class-of-entry, count-of-entry}
+use Rattle.book_contents.proofs.Linked.{head-none, head-some, edition-is, men-is, women-is, year-is, head-is}
+use Rattle.book_contents.proofs.Linked.{class-of-entry, count-of-entry}
 use Rattle.book_contents.proofs.Linked.{lapse-of-entry, premium-of-entry, claims-of-entry, link-in}
 use Rattle.book_contents.proofs.Lists.{lists-whole}
 

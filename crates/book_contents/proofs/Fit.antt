@@ -1,4 +1,4 @@
--- Contents are not refused, with room enough, exactly where they keep the rules. Assumes nothing.
+-- Contents are not refused, with space enough, exactly where they keep the rules. Assumes nothing.
 use mathlib.Core.Path.{_≡_}
 use mathlib.Core.Logic.{⊎-elim}
 use mathlib.Core.List.{List}
@@ -18,7 +18,8 @@ use Rattle.book.specs.Layout.{mostPercent, mostRate, mostCount, mostAmount}
 use Rattle.buffer.proofs.Digits.{le-or-lt}
 use Rattle.book_contents.specs.Contents.{Contents, noClass}
 use Rattle.book_contents.specs.Written.{bookSize}
-use Rattle.book_contents.specs.Limits.{checkMost, curveRate, checkCurve, checkLengths, checkGivenPercents, checkEdition}
+use Rattle.book_contents.specs.Limits.{checkMost, curveRate, checkCurve, checkLengths, checkGivenPercents}
+use Rattle.book_contents.specs.Limits.{checkEdition}
 use Rattle.book_contents.specs.Limits.{checkGivenTables, checkLists, checkContents, Fit}
 
 module _ (number most : ℕ) (l : List ℕ) where
@@ -55,8 +56,11 @@ module _ (edition men women n : ℕ) (e : checkGivenPercents edition men women �
   unfolding checkGivenPercents
   none-given one =
       let other : edition ≡ 2 → ⊥ = λ two. absurd (omega arith) in
-      let both = rw (ne-eqb edition 2 other) at e in
-      (eqb-true _ _ (need-true _ _ _ _ (then-left _ _ _ both)), eqb-true _ _ (need-true _ _ _ _ (then-right _ _ _ both)))
+      let both = rw (ne-eqb edition 2 other) at e in (
+        eqb-true _ _ (need-true _ _ _ _ (then-left _ _ _ both)),
+        eqb-true _ _
+            (need-true _ _ _ _ (then-right _ _ _ both)),
+      )
 
   both-given : edition ≡ 2 → ((1 ≤ men) × (men ≤ mostPercent)) × ((1 ≤ women) × (women ≤ mostPercent))
   unfolding checkGivenPercents
@@ -66,7 +70,8 @@ module _ (edition men women n : ℕ) (e : checkGivenPercents edition men women �
       let w = within-means _ _ women (need-true _ _ _ _ (then-right _ _ _ both)) in
       ((omega (arith, m .0), omega (arith, m .1)), (omega (arith, w .0), omega (arith, w .1)))
 
-percents-good : (v : Contents) → Fit v → checkGivenPercents (v .values .edition) (v .values .men) (v .values .women) ≡ Accepted 0
+percents-good : (v : Contents) → Fit v
+    → checkGivenPercents (v .values .edition) (v .values .men) (v .values .women) ≡ Accepted 0
 unfolding checkGivenPercents
 percents-good v f =
     ⊎-elim
@@ -141,7 +146,7 @@ module _ (v : Contents) (capacity : ℕ) where
         claim = most-means 12 mostAmount _ _ (then-right _ _ _ l);
       }
 
-  -- the lent buffer takes the book
+  -- the caller's buffer takes the book
   pub capacity-enough : (n : ℕ) → checkContents v capacity ≡ Accepted n → bookSize (v .values .first) ≤ capacity
   unfolding checkContents checkLengths
   capacity-enough n e =

@@ -10,9 +10,12 @@ use lib.ListN.{length, getD, length-append}
 use Rattle.book.specs.Layout.{headerSize, recordSize, chains, headPlace, costPlace, curvePlace, mortalityPlace}
 use Rattle.buffer.specs.Text.{joined}
 use Rattle.book_contents.specs.Contents.{Contents, sizeOf, recordsBefore}
-use Rattle.book_contents.specs.Written.{twoBytes, fourBytes, twosComplement, fields, signedFields, headFor, encodedRecord}
-use Rattle.book_contents.specs.Written.{recordBytesOf, chainBytes, frontBytes, headBytes, headerBytes, bookOf, bookSize}
-use Rattle.book_contents.proofs.Stands.{Stands, stands-left, stands-right, stands-both, stands-part, stands-joined}
+use Rattle.book_contents.specs.Written.{twoBytes, fourBytes, twosComplement, fields, signedFields, headFor}
+use Rattle.book_contents.specs.Written.{encodedRecord}
+use Rattle.book_contents.specs.Written.{recordBytesOf, chainBytes, frontBytes, headBytes, headerBytes, bookOf}
+use Rattle.book_contents.specs.Written.{bookSize}
+use Rattle.book_contents.proofs.Stands.{Stands, stands-left, stands-right, stands-both, stands-part}
+use Rattle.book_contents.proofs.Stands.{stands-joined}
 use Rattle.book_contents.proofs.Stands.{joined-length}
 use Rattle.book_contents.proofs.Numbers.{two-length, four-length}
 
@@ -21,7 +24,8 @@ pub record Laid (b : List ℕ) (v : Contents) : Type 0 where
   pub front : Stands b 0 (frontBytes (v .values))
   pub head : (k : ℕ) → k < chains → Stands b (headPlace k) (twoBytes (headFor (v .values .first) k))
   pub cost : (j : ℕ) → j < 5 → Stands b (costPlace + 4 * j) (fourBytes (getD (v .values .cost) j 0))
-  pub curve : (j : ℕ) → j < 49 → Stands b (curvePlace + 4 * j) (fourBytes (twosComplement (getD (v .values .curve) j (pos 0))))
+  pub curve : (j : ℕ) → j < 49
+      → Stands b (curvePlace + 4 * j) (fourBytes (twosComplement (getD (v .values .curve) j (pos 0))))
   pub mortality : (j : ℕ) → j < 242 → Stands b (mortalityPlace + 4 * j) (fourBytes (getD (v .values .mortality) j 0))
   pub entry : (k j : ℕ) → k < chains → j < sizeOf (v .values .first) k
       → Stands b (headerSize + recordSize * (recordsBefore (v .values .first) k + j)) (recordBytesOf v k j)

@@ -107,7 +107,8 @@ module _ (b : List ℕ) (v : Contents) (f : Fit v) (x : Laid b v) where
 
   -- entry j of chain k
   module _ (k j : ℕ) (few : k < chains) (inside : j < sizeOf (v .values .first) k) where
-    at-place : headerSize + recordSize * (recordsBefore (v .values .first) k + j) ≡ recordAt (numberOf (v .values .first) k j)
+    at-place : headerSize + recordSize * (recordsBefore (v .values .first) k + j) ≡ recordAt
+        (numberOf (v .values .first) k j)
     at-place = omega arith
 
     entry : Entry b (recordAt (numberOf (v .values .first) k j)) k (getD (v .values .first) k 0 + j)
@@ -138,12 +139,14 @@ module _ (b : List ℕ) (v : Contents) (f : Fit v) (x : Laid b v) where
     pub count-of-entry : fieldOf b (numberOf (v .values .first) k j) countOffset ≡ getD (v .counts)
         (recordsBefore (v .values .first) k + j) 0
     unfolding fieldOf
-    count-of-entry = four-read b _ _ (omega (arith, f .count (recordsBefore (v .values .first) k + j))) (entry .count-stands)
+    count-of-entry =
+        four-read b _ _ (omega (arith, f .count (recordsBefore (v .values .first) k + j))) (entry .count-stands)
 
     pub lapse-of-entry : fieldOf b (numberOf (v .values .first) k j) lapseOffset ≡ getD (v .lapses)
         (recordsBefore (v .values .first) k + j) 0
     unfolding fieldOf
-    lapse-of-entry = four-read b _ _ (omega (arith, f .lapse (recordsBefore (v .values .first) k + j))) (entry .lapse-stands)
+    lapse-of-entry =
+        four-read b _ _ (omega (arith, f .lapse (recordsBefore (v .values .first) k + j))) (entry .lapse-stands)
 
     pub premium-of-entry : fieldOf b (numberOf (v .values .first) k j) premiumOffset ≡ getD (v .premiums)
         (recordsBefore (v .values .first) k + j) 0
@@ -154,7 +157,8 @@ module _ (b : List ℕ) (v : Contents) (f : Fit v) (x : Laid b v) where
     pub claims-of-entry : fieldOf b (numberOf (v .values .first) k j) claimsOffset ≡ getD (v .claims)
         (recordsBefore (v .values .first) k + j) 0
     unfolding fieldOf
-    claims-of-entry = four-read b _ _ (omega (arith, f .claim (recordsBefore (v .values .first) k + j))) (entry .claims-stands)
+    claims-of-entry =
+        four-read b _ _ (omega (arith, f .claim (recordsBefore (v .values .first) k + j))) (entry .claims-stands)
 
     next-cases : (j + 1 ≡ sizeOf (v .values .first) k) ⊎ (j + 1 < sizeOf (v .values .first) k)
     next-cases = eq-or-lt-of-le (omega arith)

@@ -8,7 +8,8 @@ use Rattle.book.specs.Layout.{chains, fieldOf, linkAt}
 use Rattle.buffer.specs.Text.{joined}
 use Rattle.book_contents.specs.Contents.{noClass, sizeOf, recordsBefore}
 use Rattle.book_contents.specs.Reading.{firstIn, firstsOf, listIn, fieldList}
-use Rattle.book_contents.proofs.Stands.{stands-self, stands-whole, stands-part, stands-joined, each-length, each-at}
+use Rattle.book_contents.proofs.Stands.{stands-self, stands-whole, stands-part, stands-joined, each-length}
+use Rattle.book_contents.proofs.Stands.{each-at}
 
 -- the first classes of a book, one by one
 pub firsts-at : (b : List ℕ) (k : ℕ) → k < chains → getD (firstsOf b) k 0 ≡ firstIn b k
@@ -54,7 +55,8 @@ module _ (b first : List ℕ) (sizes : (k : ℕ) → k < chains → noClass - fi
 
   -- a list that has each entry at its place, and no others, is the book's
   pub lists-whole : (l : List ℕ) → length l ≡ recordsBefore first chains
-      → ((k j : ℕ) → k < chains → j < sizeOf first k → fieldOf b (linkAt b k j) offset ≡ getD l (recordsBefore first k + j) 0)
+      → ((k j : ℕ) → k < chains → j < sizeOf first k → fieldOf b (linkAt b k j) offset ≡ getD l
+      (recordsBefore first k + j) 0)
       → fieldList b offset ≡ l
   unfolding fieldList
   lists-whole l size same =

@@ -47,7 +47,8 @@ written-ordered v capacity n s e =
     let b = bookOf v in
     let f = fit v capacity n e in
     let x = stands-laid b v (stands-self b) in
-    let firsts : firstsOf b ≡ v .values .first = ap (λ (w : Contents). w .values .first) (read-written v capacity n s e) in
+    let firsts : firstsOf b ≡ v .values .first =
+    ap (λ (w : Contents). w .values .first) (read-written v capacity n s e) in
     record {
       heads = λ k few some. rw firsts (head-right b v f x k few some);
       nexts = next-right b v f x;

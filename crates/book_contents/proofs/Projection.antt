@@ -1,4 +1,4 @@
--- What a walk along the chains of an accepted book takes, and runs of numbers, one more at a time. Assumes nothing.
+-- What a pass along the chains of an accepted book takes, and runs of numbers, one more at a time. Assumes nothing.
 use mathlib.Core.Path.{_≡_, refl, sym, ap, _∙_}
 use mathlib.Core.List.{List, [], _∷_, _++_}
 use Prim.Native.Nat.{ℕ, _+_, _-_, _<_, _≤_}
@@ -106,7 +106,8 @@ pub filled : (b : List ℕ) (offset : ℕ) (entry exit : List ℕ) → recordsBe
     → exit ≡ sets entry 0 (fieldList b offset)
     → exit ≡ fieldList b offset ++ drop (length (fieldList b offset)) entry
 filled b offset entry exit fits e =
-    let w : Wrote entry 0 (fieldList b offset) exit (0 + length (fieldList b offset)) = record { bytes = e; place = refl } in
+    let w : Wrote entry 0 (fieldList b offset) exit (0 + length (fieldList b offset)) =
+    record { bytes = e; place = refl } in
     from-start w (omega (arith, sound-size b offset))
 
 pub filled-kept : (b : List ℕ) (offset : ℕ) (entry exit : List ℕ) → exit ≡ sets entry 0 (fieldList b offset)

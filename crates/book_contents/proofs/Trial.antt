@@ -11,7 +11,8 @@ use Rattle.book.specs.Cells.{sumOf}
 use Rattle.book.specs.Check.{checkBook}
 use Rattle.book_contents.specs.Contents.{Contents, given, sizeOf, recordsBefore}
 use Rattle.book_contents.specs.Written.{bookOf}
-use Rattle.book_contents.specs.Limits.{checkMost, curveRate, checkCurve, checkLengths, checkGivenPercents, checkEdition}
+use Rattle.book_contents.specs.Limits.{checkMost, curveRate, checkCurve, checkLengths, checkGivenPercents}
+use Rattle.book_contents.specs.Limits.{checkEdition}
 use Rattle.book_contents.specs.Limits.{checkGivenTables, checkLists, checkContents, Shaped}
 use Rattle.book_contents.specs.Reading.{contentsOf, InOrder}
 use Rattle.book_contents.specs.Contracts.{notZero}
@@ -39,7 +40,8 @@ shaped : Shaped (oneRecord .values)
 shaped = record { cost = refl; curve = refl; mortality = refl; first = refl }
 
 pub one-record-taken : checkContents oneRecord 1244 ≡ Accepted 0
-unfolding checkContents checkLengths checkGivenPercents checkEdition checkGivenTables checkLists checkMost checkCurve curveRate
+unfolding checkContents checkLengths checkGivenPercents checkEdition checkGivenTables checkLists checkMost checkCurve
+    curveRate
     joinAll need _andThen_ within sizeOf recordsBefore
 one-record-taken = refl
 

@@ -22,7 +22,8 @@ use Rattle.book_contents.specs.Contents.{Contents, given, recordsBefore}
 use Rattle.book_contents.specs.Written.{bookOf}
 use Rattle.book_contents.specs.Limits.{checkContents, Shaped}
 use Rattle.book_contents.specs.Reading.{valuesOf, firstsOf, fieldList, contentsOf, OfBytes, InOrder}
-use Rattle.book_contents.specs.Contracts.{writeRefusal, writePlace, writeLength, writeReplyFor, leftFor, writeReply}
+use Rattle.book_contents.specs.Contracts.{writeRefusal, writePlace, writeLength, writeReplyFor, leftFor}
+use Rattle.book_contents.specs.Contracts.{writeReply}
 use Rattle.book_contents.specs.Contracts.{WriteContract, readFor, readVerdict, ReadContract}
 use Rattle.book_contents.proofs.Accepted.{written-accepted}
 use Rattle.book_contents.proofs.Back.{read-written}
@@ -89,7 +90,8 @@ module _ (b counts lapses premiums claims counts′ lapses′ premiums′ claims
     (reply : r ≡ readFor (readVerdict b counts lapses premiums claims) (valuesOf b))
     (counts-are : counts′ ≡ leftFor (readVerdict b counts lapses premiums claims) (fieldList b countOffset) counts)
     (lapses-are : lapses′ ≡ leftFor (readVerdict b counts lapses premiums claims) (fieldList b lapseOffset) lapses)
-    (premiums-are : premiums′ ≡ leftFor (readVerdict b counts lapses premiums claims) (fieldList b premiumOffset) premiums)
+    (premiums-are : premiums′ ≡ leftFor (readVerdict b counts lapses premiums claims) (fieldList b premiumOffset)
+    premiums)
     (claims-are : claims′ ≡ leftFor (readVerdict b counts lapses premiums claims) (fieldList b claimsOffset) claims) where
   -- a reply with refusal 0 is that of an accepted reading
   read-good : r .refusal ≡ 0
@@ -125,7 +127,7 @@ module _ (b counts lapses premiums claims counts′ lapses′ premiums′ claims
   book-first (Accepted n) h some = absurd (omega arith)
   book-first (Refused q p) h some = rw (reply, book-refused b _ _ _ _ q p h) (refl, refl)
 
-  -- what was read of a book in order, given to Write with room for the book
+  -- what was read of a book in order, given to Write with space for the book
   rewritten : r .refusal ≡ 0 → InOrder b → let w = writeReply (contentsOf b) (length b) in
       (bookOf (contentsOf b) ≡ b) × (writeRefusal w ≡ 0) × (writeLength w ≡ length b)
   unfolding writeReply

@@ -10,7 +10,8 @@ use Rattle.verdict.specs.declared.Verdict.the-variants.{Accepted, Refused}
 use Rattle.verdict.proofs.Verdicts.{ZeroAccepts, zero-accepts-need, zero-accepts-then}
 use Rattle.book.proofs.Numbers.{zero-accepted}
 use Rattle.book_contents.specs.Contents.{Contents}
-use Rattle.book_contents.specs.Limits.{checkMost, checkCurve, checkLengths, checkGivenPercents, checkEdition, checkGivenTables}
+use Rattle.book_contents.specs.Limits.{checkMost, checkCurve, checkLengths, checkGivenPercents, checkEdition}
+use Rattle.book_contents.specs.Limits.{checkGivenTables}
 use Rattle.book_contents.specs.Limits.{checkLists, checkContents}
 use Rattle.book_contents.specs.Reading.{checkRead}
 
@@ -23,7 +24,8 @@ zero-accepts-join (Refused q p) w hv hw = hv
 zero-accepts-all : (f : ℕ → Verdict) (left k : ℕ) → ((j : ℕ) → ZeroAccepts (f j)) → ZeroAccepts (joinAll f k left)
 unfolding ZeroAccepts joinAll
 zero-accepts-all f zero k each = λ e. refl
-zero-accepts-all f (suc left) k each = zero-accepts-join (f k) (joinAll f (k + 1) left) (each k) (zero-accepts-all f left (k + 1) each)
+zero-accepts-all f (suc left) k each =
+    zero-accepts-join (f k) (joinAll f (k + 1) left) (each k) (zero-accepts-all f left (k + 1) each)
 
 zero-accepts-test : (ok : Bool) (q p : ℕ) (w : Verdict) → ZeroAccepts w → ZeroAccepts (w andThen need ok (suc q) p)
 zero-accepts-test ok q p w h = zero-accepts-then w (need ok (suc q) p) h (zero-accepts-need ok q p)
@@ -47,7 +49,9 @@ zero-accepts-lengths : (total counts lapses premiums claims capacity : ℕ)
     → ZeroAccepts (checkLengths total counts lapses premiums claims capacity)
 unfolding checkLengths
 zero-accepts-lengths total counts lapses premiums claims capacity =
-    zero-accepts-test _ 21 0 _ (zero-accepts-test _ 21 0 _ (zero-accepts-test _ 21 0 _ (zero-accepts-test _ 21 0 _ (zero-accepts-need _ 21 0))))
+    zero-accepts-test _ 21 0 _
+    (zero-accepts-test _ 21 0 _
+    (zero-accepts-test _ 21 0 _ (zero-accepts-test _ 21 0 _ (zero-accepts-need _ 21 0))))
 
 -- the call that writes
 pub zero-accepts-contents : (v : Contents) (capacity : ℕ) → ZeroAccepts (checkContents v capacity)
@@ -58,13 +62,18 @@ zero-accepts-contents v capacity =
     (zero-accepts-then _ _
     (zero-accepts-then _ _ (zero-accepts-most 10 _ _) (zero-accepts-lengths _ _ _ _ _ _))
     (zero-accepts-then _ _ (zero-accepts-test _ 3 0 _ (zero-accepts-need _ 1 0)) (zero-accepts-percents _ _ _)))
-    (zero-accepts-then _ _ (zero-accepts-then _ _ (zero-accepts-most 5 _ _) (zero-accepts-all _ _ 0 (λ j. zero-accepts-need _ 6 0))) (zero-accepts-most 7 _ _)))
     (zero-accepts-then _ _
-    (zero-accepts-then _ _ (zero-accepts-then _ _ (zero-accepts-most 11 _ _) (zero-accepts-most 11 _ _)) (zero-accepts-most 11 _ _))
+    (zero-accepts-then _ _ (zero-accepts-most 5 _ _) (zero-accepts-all _ _ 0 (λ j. zero-accepts-need _ 6 0)))
+    (zero-accepts-most 7 _ _)))
+    (zero-accepts-then _ _
+    (zero-accepts-then _ _ (zero-accepts-then _ _ (zero-accepts-most 11 _ _) (zero-accepts-most 11 _ _))
+    (zero-accepts-most 11 _ _))
     (zero-accepts-most 11 _ _))
 
 -- the call that reads
-pub zero-accepts-read : (b : List ℕ) (counts lapses premiums claims : ℕ) → ZeroAccepts (checkRead b counts lapses premiums claims)
+pub zero-accepts-read : (b : List ℕ) (counts lapses premiums claims : ℕ)
+    → ZeroAccepts (checkRead b counts lapses premiums claims)
 unfolding checkRead ZeroAccepts
 zero-accepts-read b counts lapses premiums claims =
-    zero-accepts-test _ 21 0 _ (zero-accepts-test _ 21 0 _ (zero-accepts-test _ 21 0 _ (zero-accepts-test _ 21 0 _ (zero-accepted 1 b))))
+    zero-accepts-test _ 21 0 _
+    (zero-accepts-test _ 21 0 _ (zero-accepts-test _ 21 0 _ (zero-accepts-test _ 21 0 _ (zero-accepted 1 b))))

@@ -1,4 +1,4 @@
--- What a desk has that wants a book (W-205): the header's values, a first class for each chain, and four lists.
+-- What a user has who wants a book (W-205): the header's values, a first class for each chain, and four lists.
 use Prim.Native.Nat.{ℕ, zero, suc, _+_, _-_}
 use mathlib.Core.List.{List}
 use lib.ListN.{getD}

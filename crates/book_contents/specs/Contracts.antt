@@ -1,5 +1,5 @@
--- What the two calls promise (W-205), in the paper's values: replies and lent buffers equal their definitions, and both
--- round trips hold.
+-- What the two calls promise (W-205), in the paper's values: replies and caller's buffers equal their definitions, and
+-- both round trips hold.
 use mathlib.Core.Bool.{cond}
 use Prim.Native.Nat.{ℕ, _<_}
 use mathlib.Core.Path.{_≡_}
@@ -40,7 +40,7 @@ abbrev pub writeReplyFor : Verdict → ℕ → WriteReply
 writeReplyFor (Accepted m) size = Written size
 writeReplyFor (Refused number place) size = WriteRefused number place
 
--- a lent buffer afterwards: what was asked for and then its numbers as they were, or, where refused, as it was
+-- the caller's buffer afterwards: what was asked for and then its numbers as they were, or, where refused, as it was
 abbrev pub leftFor : Verdict → List ℕ → List ℕ → List ℕ
 leftFor (Accepted m) l entry = l ++ drop (length l) entry
 leftFor (Refused number place) l entry = entry
@@ -52,7 +52,7 @@ writeReply v capacity = writeReplyFor (checkContents v capacity) (length (bookOf
 unfoldable pub notZero : List ℕ → ℕ
 notZero l = sumOf (λ (i : ℕ). cond (eqb (getD l i 0) 0) 0 1) 0 (length l)
 
--- Write: of contents v, with the lent bytes from entry to exit
+-- Write: of contents v, with the caller's bytes from entry to exit
 pub record WriteContract (v : Contents) (entry exit : List ℕ) (r : WriteReply) : Type 0 where
   pub reply-is : r ≡ writeReply v (length entry)
   -- the same in the paper's values: the refusal's number and place, and the book's length
@@ -79,18 +79,19 @@ abbrev pub readVerdict : List ℕ → List ℕ → List ℕ → List ℕ → Lis
 readVerdict b counts lapses premiums claims =
     checkRead b (length counts) (length lapses) (length premiums) (length claims)
 
--- Read: of book b, with each lent list from before to after (′)
+-- Read: of book b, with each of the caller's lists from before to after (′)
 pub record ReadContract (b counts lapses premiums claims counts′ lapses′ premiums′ claims′ : List ℕ)
     (r : ReadReply) : Type 0 where
   pub reply-is : r ≡ readFor (readVerdict b counts lapses premiums claims) (valuesOf b)
   pub counts-are : counts′ ≡ leftFor (readVerdict b counts lapses premiums claims) (fieldList b countOffset) counts
   pub lapses-are : lapses′ ≡ leftFor (readVerdict b counts lapses premiums claims) (fieldList b lapseOffset) lapses
-  pub premiums-are : premiums′ ≡ leftFor (readVerdict b counts lapses premiums claims) (fieldList b premiumOffset) premiums
+  pub premiums-are : premiums′ ≡ leftFor (readVerdict b counts lapses premiums claims) (fieldList b premiumOffset)
+      premiums
   pub claims-are : claims′ ≡ leftFor (readVerdict b counts lapses premiums claims) (fieldList b claimsOffset) claims
   -- a refused book gives its own refusal and place, however long the buffers are
   pub book-first : 0 < refusalOf (checkBook 1 b)
       → (r .refusal ≡ refusalOf (checkBook 1 b)) × (r .place ≡ placeOf (checkBook 1 b))
-  -- what was read from a book in order is written to that book's bytes again, and is not refused with room for them
+  -- what was read from a book in order is written to that book's bytes again, and is not refused with space for them
   pub again : r .refusal ≡ 0 → InOrder b
       → let n = records b in
       let v = given (r .values) (take n counts′) (take n lapses′) (take n premiums′) (take n claims′) in

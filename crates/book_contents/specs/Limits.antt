@@ -70,13 +70,14 @@ checkLists counts lapses premiums claims =
 unfoldable pub checkContents : Contents → ℕ → Verdict
 checkContents v capacity =
     checkMost 11 noClass (v .values .first) andThen
-    checkLengths (recordsBefore (v .values .first) chains) (length (v .counts)) (length (v .lapses)) (length (v .premiums))
+    checkLengths (recordsBefore (v .values .first) chains) (length (v .counts)) (length (v .lapses))
+    (length (v .premiums))
     (length (v .claims)) capacity andThen
     checkEdition (v .values .edition) (v .values .men) (v .values .women) (v .values .year) andThen
     checkGivenTables (v .values .cost) (v .values .curve) (v .values .mortality) andThen
     checkLists (v .counts) (v .lapses) (v .premiums) (v .claims)
 
--- The rules that contents keep, one by one and in no order of tests. They are not refused, with room enough, exactly
+-- The rules that contents keep, one by one and in no order of tests. They are not refused, with space enough, exactly
 -- where they keep them all (proofs/Fit). Past its end a list reads 0, which every rule takes.
 pub record Fit (v : Contents) : Type 0 where
   pub first : (k : ℕ) → getD (v .values .first) k 0 ≤ noClass

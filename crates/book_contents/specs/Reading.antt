@@ -11,7 +11,8 @@ use Rattle.verdict.specs.Verdicts.{need, _andThen_, countOf}
 use Rattle.verdict.specs.declared.Verdict.{Verdict}
 use Rattle.verdict.specs.declared.Verdict.the-variants.{Accepted}
 use Rattle.book.specs.Layout.{edition, percentAt, sstYear, records, chains, headOf, classOf, nextOf, fieldOf, linkAt}
-use Rattle.book.specs.Layout.{costPlace, curvePlace, mortalityPlace, countOffset, lapseOffset, premiumOffset, claimsOffset}
+use Rattle.book.specs.Layout.{costPlace, curvePlace, mortalityPlace, countOffset, lapseOffset, premiumOffset}
+use Rattle.book.specs.Layout.{claimsOffset}
 use Rattle.book.specs.Check.{checkBook}
 use Rattle.buffer.specs.Text.{joined}
 use Rattle.book_contents.specs.declared.Values.{Values}
@@ -33,7 +34,8 @@ firstIn b k = cond (eqb (headOf b k) 0) noClass (classOf b (headOf b k))
 unfoldable pub firstsOf : List ℕ → List ℕ
 firstsOf b = each (firstIn b) chains
 
--- the values: edition, mortality percentages (zero bytes in edition 1), SST year, cost rates, curve, mortality, first classes
+-- the values: edition, mortality percentages (zero bytes in edition 1), SST year, cost rates, curve, mortality, first
+-- classes
 unfoldable pub valuesOf : List ℕ → Values
 valuesOf b =
     record {

@@ -50,7 +50,7 @@ frontBytes h =
 unfoldable pub headBytes : List ℕ → List ℕ
 headBytes first = joined (λ (k : ℕ). twoBytes (headFor first k)) chains
 
--- bytes 0 to 1,219: front, heads, cost rates, curve, mortality
+-- bytes 0 to 1,219: fixed fields, heads, cost rates, curve, mortality
 unfoldable pub headerBytes : Values → List ℕ
 headerBytes h =
     frontBytes h ++ headBytes (h .first) ++ fields (h .cost) 5 ++ signedFields (h .curve) 49

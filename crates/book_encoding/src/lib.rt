@@ -1,12 +1,14 @@
-// Numbers as the bytes of a book, for the crates that write one: two bytes or four, least byte first, and runs of
-// fields. Each writer takes a place and gives the next one, as those of `text` do.
+// Numbers as the bytes of a book, for the crates that write one: two bytes or four, least byte
+// first, and runs of fields. Each writer takes a place and gives the next one, as those of `text`
+// do.
 ghost use mathlib.Core.Bool.{true};
 ghost use mathlib.Core.Path.{_≡_};
 ghost use Prim.Native.Nat.{ℕ, _+_, _*_, _<_, _%_, _^_};
 ghost use lib.IntN.{pos};
 ghost use lib.ListN.{length, getD};
 ghost use Rattle.buffer.specs.Text.{Wrote};
-ghost use Rattle.book_contents.specs.Written.{twoBytes, fourBytes, twosComplement, fields, signedFields};
+ghost use Rattle.book_contents.specs.Written.{twoBytes, fourBytes, twosComplement, fields};
+ghost use Rattle.book_contents.specs.Written.{signedFields};
 ghost use Rattle.book_contents.specs.Limits.{curveRate};
 use buffer::put_byte;
 
@@ -18,7 +20,8 @@ fn low_byte(x: u64) -> u8
 
 pub fn put_two(out: &mut [u8], at: usize, x: u64) -> usize
     requires { ⌜ at + 3 < 2 ^ 64 ⌝ }
-    ensures { λ r. ⌜ Wrote (now (out .entry)) at (twoBytes x) (now (out .exit)) r × (r ≡ at + 2) ⌝ }
+    ensures { λ r. ⌜ Wrote (now (out .entry)) at (twoBytes x) (now (out .exit)) r
+        × (r ≡ at + 2) ⌝ }
 {
     let next = put_byte(out, at, low_byte(x));
     put_byte(out, next, low_byte(x / 256))
@@ -26,7 +29,8 @@ pub fn put_two(out: &mut [u8], at: usize, x: u64) -> usize
 
 pub fn put_four(out: &mut [u8], at: usize, x: u64) -> usize
     requires { ⌜ at + 5 < 2 ^ 64 ⌝ }
-    ensures { λ r. ⌜ Wrote (now (out .entry)) at (fourBytes x) (now (out .exit)) r × (r ≡ at + 4) ⌝ }
+    ensures { λ r. ⌜ Wrote (now (out .entry)) at (fourBytes x) (now (out .exit)) r
+        × (r ≡ at + 4) ⌝ }
 {
     let next = put_two(out, at, x);
     put_two(out, next, x / 65536)
@@ -35,8 +39,9 @@ pub fn put_four(out: &mut [u8], at: usize, x: u64) -> usize
 // Every number of the list, four bytes each.
 pub fn put_fields(out: &mut [u8], at: usize, list: &[u64]) -> usize
     requires { ⌜ at + 4 * length (now list) + 5 < 2 ^ 64 ⌝ }
-    ensures { λ r. ⌜ Wrote (now (out .entry)) at (fields (now (list .entry)) (length (now (list .entry))))
-        (now (out .exit)) r × (r ≡ at + 4 * length (now (list .entry))) ⌝ }
+    ensures { λ r. ⌜ Wrote (now (out .entry)) at
+        (fields (now (list .entry)) (length (now (list .entry)))) (now (out .exit)) r
+        × (r ≡ at + 4 * length (now (list .entry))) ⌝ }
 {
     let mut next = at;
     let mut j = 0;
@@ -61,8 +66,9 @@ fn stored(x: i64) -> u64
 pub fn put_curve(out: &mut [u8], at: usize, curve: &[i64]) -> usize
     requires { ⌜ (at + 4 * length (now curve) + 5 < 2 ^ 64)
         × ((j : ℕ) → curveRate (getD (now curve) j (pos 0)) ≡ true) ⌝ }
-    ensures { λ r. ⌜ Wrote (now (out .entry)) at (signedFields (now (curve .entry)) (length (now (curve .entry))))
-        (now (out .exit)) r × (r ≡ at + 4 * length (now (curve .entry))) ⌝ }
+    ensures { λ r. ⌜ Wrote (now (out .entry)) at
+        (signedFields (now (curve .entry)) (length (now (curve .entry)))) (now (out .exit)) r
+        × (r ≡ at + 4 * length (now (curve .entry))) ⌝ }
 {
     let mut next = at;
     let mut j = 0;

@@ -28,8 +28,8 @@ fn check_tables(cost: &[u64], curve: &[i64], mortality: &[u64]) -> Verdict
 
 // Refusal 12.
 fn check_lists(counts: &[u64], lapses: &[u64], premiums: &[u64], claims: &[u64]) -> Verdict
-    ensures { λ r. ⌜ r ≡ checkLists (now (counts .entry)) (now (lapses .entry)) (now (premiums .entry))
-        (now (claims .entry)) ⌝ }
+    ensures { λ r. ⌜ r ≡ checkLists (now (counts .entry)) (now (lapses .entry))
+        (now (premiums .entry)) (now (claims .entry)) ⌝ }
 {
     let count = check_most(counts, MOST_COUNT, 12);
     let lapse = check_most(lapses, MOST_RATE, 12);

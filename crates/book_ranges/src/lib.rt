@@ -1,5 +1,5 @@
-// Numbers that Write takes, each in its range: lists, the curve, and the edition with its percentages
-// and the year. The definition is book_contents/specs/Limits; places are 0.
+// Numbers that Write takes, each in its range: lists, the curve, and the edition with its
+// percentages and the year. The definition is book_contents/specs/Limits; places are 0.
 ghost use mathlib.Core.Path.{_≡_};
 ghost use Rattle.book_contents.specs.Limits.{checkMost, curveRate, checkCurve};
 ghost use Rattle.book_contents.specs.Limits.{checkGivenPercents, checkEdition};

@@ -1,4 +1,5 @@
-// The call that reads a book: from any bytes to the header's values and, in four lent buffers, the lists of its chains.
+// The call that reads a book: from any bytes to the header's values and, in four of the caller's
+// buffers, the lists of its chains.
 ghost use mathlib.Core.List.{[], _∷_};
 ghost use mathlib.Core.Path.{_≡_};
 ghost use Prim.Native.Nat.{_+_, _≤_, _<_, _^_};
@@ -34,8 +35,12 @@ fn put_entry(list: &mut [u64], at: usize, x: u64) -> usize
 
 // One field of the records of chain k, from a place of the list on.
 fn fill_chain(book: &[u8], k: usize, offset: usize, list: &mut [u64], at: usize) -> usize
-    requires { ⌜ (k < 14) × (offset ≤ 20) × (at + 122 < 2 ^ 64) × Sound (now book) ⌝ }
-    ensures { λ r. ⌜ Wrote (now (list .entry)) at (listIn (now (book .entry)) offset k) (now (list .exit)) r
+    requires { ⌜ (k < 14)
+        × (offset ≤ 20)
+        × (at + 122 < 2 ^ 64)
+        × Sound (now book) ⌝ }
+    ensures { λ r. ⌜ Wrote (now (list .entry)) at (listIn (now (book .entry)) offset k)
+        (now (list .exit)) r
         × (r ≤ at + 121) ⌝ }
 {
     let size = (NO_CLASS - first_in(book, k)) as usize;
@@ -50,8 +55,10 @@ fn fill_chain(book: &[u8], k: usize, offset: usize, list: &mut [u64], at: usize)
 
 // One field of all linked records, in linked order.
 fn fill_list(book: &[u8], offset: usize, list: &mut [u64])
-    requires { ⌜ (offset ≤ 20) × Sound (now book) ⌝ }
-    ensures { λ _. ⌜ now (list .exit) ≡ sets (now (list .entry)) 0 (fieldList (now (book .entry)) offset) ⌝ }
+    requires { ⌜ (offset ≤ 20)
+        × Sound (now book) ⌝ }
+    ensures { λ _. ⌜ now (list .exit) ≡ sets (now (list .entry)) 0
+        (fieldList (now (book .entry)) offset) ⌝ }
 {
     let mut next = 0;
     for k in 0..CHAINS {
@@ -95,8 +102,9 @@ fn refused(number: u64, place: usize) -> ReadReply
     }
 }
 
-// Reads a book: the header's values in the answer, the lists in the four buffers. Numbers past the lists stay as they
-// were; so does everything lent where the book is refused or a buffer is too short.
+// Reads a book: the header's values in the answer, the lists in the four buffers. Numbers past the
+// lists stay as they were; so does every buffer passed where the book is refused or a buffer is too
+// short.
 pub fn read(
     book: &[u8],
     counts: &mut [u64],
@@ -105,8 +113,8 @@ pub fn read(
     claims: &mut [u64],
 ) -> ReadReply
     ensures { λ r. ⌜ ReadContract (now (book .entry)) (now (counts .entry)) (now (lapses .entry))
-        (now (premiums .entry)) (now (claims .entry)) (now (counts .exit)) (now (lapses .exit)) (now (premiums .exit))
-        (now (claims .exit)) r ⌝ }
+        (now (premiums .entry)) (now (claims .entry)) (now (counts .exit)) (now (lapses .exit))
+        (now (premiums .exit)) (now (claims .exit)) r ⌝ }
 {
     let v = check_read(
         book,

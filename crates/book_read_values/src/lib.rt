@@ -1,5 +1,5 @@
-// The values of a book, read. Where a first class is read, the book must be accepted: these functions are for the call
-// that reads, which has that from the check.
+// The values of a book, read. Where a first class is read, the book must be accepted: these
+// functions are for the call that reads, which has that from the check.
 ghost use mathlib.Core.Path.{_≡_};
 ghost use Prim.Native.Nat.{ℕ, _+_, _*_, _≤_, _<_};
 ghost use lib.ListN.{length, set};
@@ -60,8 +60,10 @@ fn curve_of(book: &[u8]) -> [i64; 49]
 
 // Chain k's first class, 121 where it is empty.
 pub fn first_in(book: &[u8], k: usize) -> u64
-    requires { ⌜ (k < 14) × Sound (now book) ⌝ }
-    ensures { λ r. ⌜ (r ≡ firstIn (now (book .entry)) k) × (r ≤ 121) ⌝ }
+    requires { ⌜ (k < 14)
+        × Sound (now book) ⌝ }
+    ensures { λ r. ⌜ (r ≡ firstIn (now (book .entry)) k)
+        × (r ≤ 121) ⌝ }
 {
     let head = book::head_of(book, k);
     if head == 0 {

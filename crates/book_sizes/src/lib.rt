@@ -1,5 +1,5 @@
-// How many numbers the lists of a book's chains have, and refusal 22 for buffers of other lengths. The
-// definitions are book_contents/specs/Contents and book_contents/specs/Limits.
+// How many numbers the lists of a book's chains have, and refusal 22 for buffers of other lengths.
+// The definitions are book_contents/specs/Contents and book_contents/specs/Limits.
 ghost use mathlib.Core.Path.{_≡_};
 ghost use Prim.Native.Nat.{_≤_, _<_};
 ghost use Rattle.book_contents.specs.Contents.{sizeOf, recordsBefore};
@@ -16,7 +16,8 @@ pub const NO_CLASS: u64 = 121;
 // How long each list of chain k is.
 pub fn size_of(first: &[u64; 14], k: usize) -> usize
     requires { ⌜ k < 14 ⌝ }
-    ensures { λ r. ⌜ (r ≡ sizeOf (now (first .entry)) k) × (r ≤ 121) ⌝ }
+    ensures { λ r. ⌜ (r ≡ sizeOf (now (first .entry)) k)
+        × (r ≤ 121) ⌝ }
 {
     let class = first[k];
     if class < NO_CLASS {
@@ -27,7 +28,8 @@ pub fn size_of(first: &[u64; 14], k: usize) -> usize
 
 // How long all lists of one kind are together.
 pub fn total(first: &[u64; 14]) -> usize
-    ensures { λ r. ⌜ (r ≡ recordsBefore (now (first .entry)) 14) × (r ≤ 1694) ⌝ }
+    ensures { λ r. ⌜ (r ≡ recordsBefore (now (first .entry)) 14)
+        × (r ≤ 1694) ⌝ }
 {
     let mut sum = 0;
     for k in 0..CHAINS {

@@ -1,4 +1,5 @@
-// The call that writes a book: from the header's values and the lists of its chains to bytes in a lent buffer.
+// The call that writes a book: from the header's values and the lists of its chains to bytes in a
+// caller's buffer.
 ghost use Rattle.buffer.specs.Text.{Wrote};
 ghost use Rattle.book_contents.specs.Contents.{given};
 ghost use Rattle.book_contents.specs.Written.{bookOf};
@@ -28,8 +29,8 @@ fn put_book(
     put_chains(out, records_at, values, counts, lapses, premiums, claims)
 }
 
-// Writes the book of the contents, and answers its length. Where they are refused, a buffer that is shorter than the
-// book among it, nothing is written.
+// Writes the book of the contents, and answers its length. Where they are refused, a buffer that is
+// shorter than the book among it, nothing is written.
 pub fn write(
     values: Values,
     counts: &[u64],
@@ -39,8 +40,8 @@ pub fn write(
     out: &mut [u8],
 ) -> WriteReply
     ensures { λ r. ⌜ WriteContract
-        (given values (now (counts .entry)) (now (lapses .entry)) (now (premiums .entry)) (now (claims .entry)))
-        (now (out .entry)) (now (out .exit)) r ⌝ }
+        (given values (now (counts .entry)) (now (lapses .entry)) (now (premiums .entry))
+        (now (claims .entry))) (now (out .entry)) (now (out .exit)) r ⌝ }
 {
     let v = check_contents(values, counts, lapses, premiums, claims, out.len());
     match v {

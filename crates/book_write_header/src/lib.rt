@@ -1,4 +1,5 @@
-// What stands before the records of a book, written: front, heads, cost rates, curve and mortality.
+// What stands before the records of a book, written: fixed fields, heads, cost rates, curve and
+// mortality.
 ghost use mathlib.Core.Bool.{true};
 ghost use mathlib.Core.List.{[], _∷_, _++_};
 ghost use mathlib.Core.Path.{_≡_};
@@ -20,9 +21,13 @@ use buffer::put_byte;
 
 // What stands before the heads, with N, the number of records.
 fn put_front(out: &mut [u8], edition: u64, men: u64, women: u64, year: u64, n: usize) -> usize
-    requires { ⌜ (edition < 256) × (men < 256) × (women < 256) ⌝ }
+    requires { ⌜ (edition < 256)
+        × (men < 256)
+        × (women < 256) ⌝ }
     ensures { λ r. ⌜ Wrote (now (out .entry)) 0
-        (edition ∷ 1 ∷ [] ++ twoBytes year ++ twoBytes n ++ men ∷ women ∷ []) (now (out .exit)) r × (r ≡ 8) ⌝ }
+        (edition ∷ 1 ∷ [] ++ twoBytes year ++ twoBytes n ++ men ∷ women ∷ []) (now (out .exit))
+        r
+        × (r ≡ 8) ⌝ }
 {
     let basis_at = put_byte(out, 0, edition as u8);
     let year_at = put_byte(out, basis_at, 1);
@@ -34,7 +39,9 @@ fn put_front(out: &mut [u8], edition: u64, men: u64, women: u64, year: u64, n: u
 
 // The head of chain k, with so many records before its own.
 fn head_for(first: &[u64; 14], k: usize, sum: usize) -> u64
-    requires { ⌜ (k < 14) × (sum ≡ recordsBefore (now first) k) × (sum < 65536) ⌝ }
+    requires { ⌜ (k < 14)
+        × (sum ≡ recordsBefore (now first) k)
+        × (sum < 65536) ⌝ }
     ensures { λ r. ⌜ r ≡ headFor (now (first .entry)) k ⌝ }
 {
     if size_of(first, k) == 0 {
@@ -45,7 +52,8 @@ fn head_for(first: &[u64; 14], k: usize, sum: usize) -> u64
 
 fn put_heads(out: &mut [u8], at: usize, first: &[u64; 14]) -> usize
     requires { ⌜ at + 64 < 2 ^ 64 ⌝ }
-    ensures { λ r. ⌜ Wrote (now (out .entry)) at (headBytes (now (first .entry))) (now (out .exit)) r
+    ensures { λ r. ⌜ Wrote (now (out .entry)) at (headBytes (now (first .entry))) (now (out .exit))
+        r
         × (r ≡ at + 28) ⌝ }
 {
     let mut next = at;
@@ -59,9 +67,12 @@ fn put_heads(out: &mut [u8], at: usize, first: &[u64; 14]) -> usize
 
 // What stands before the records.
 pub fn put_header(out: &mut [u8], values: Values) -> usize
-    requires { ⌜ (values .edition < 256) × (values .men < 256) × (values .women < 256)
+    requires { ⌜ (values .edition < 256)
+        × (values .men < 256)
+        × (values .women < 256)
         × ((j : ℕ) → curveRate (getD (values .curve) j (pos 0)) ≡ true) ⌝ }
-    ensures { λ r. ⌜ Wrote (now (out .entry)) 0 (headerBytes values) (now (out .exit)) r × (r ≡ 1220) ⌝ }
+    ensures { λ r. ⌜ Wrote (now (out .entry)) 0 (headerBytes values) (now (out .exit)) r
+        × (r ≡ 1220) ⌝ }
 {
     let first = values.first;
     let cost = values.cost;

@@ -12,8 +12,9 @@ use Rattle.book_contents.specs.Limits.{Fit}
 use Rattle.book_contents.proofs.Linked.{before-most, before-more}
 
 module _ {e : List ℕ} {at : ℕ} where
-  -- the record of entry j, with the chain's start and the entry's next as they were reckoned
-  pub records-more : {x y : List ℕ} {r q : ℕ} (v : Contents) (k j sum next : ℕ) → sum ≡ recordsBefore (v .values .first) k
+  -- the record of entry j, with the chain's start and the entry's next as they were computed
+  pub records-more : {x y : List ℕ} {r q : ℕ} (v : Contents) (k j sum next : ℕ)
+      → sum ≡ recordsBefore (v .values .first) k
       → next ≡ nextFor (v .values .first) k j
       → Wrote e at (joined (recordBytesOf v k) j) x r
       → Wrote x r
@@ -24,8 +25,8 @@ module _ {e : List ℕ} {at : ℕ} where
   unfolding recordBytesOf
   records-more v k j sum next es en h w = joined-more (recordBytesOf v k) j [] h (rw (es, en) at w)
 
--- How many stand before the lists of chain k, how long they are, and how long all lists are: what a walk of the lists
--- takes.
+-- How many stand before the lists of chain k, how long they are, and how long all lists are: what a pass along the
+-- lists takes.
 pub record Room (v : Contents) (k sum size : ℕ) : Type 0 where
   pub few : sum + size ≤ 1694
   pub class : getD (v .values .first) k 0 + size ≤ 121

@@ -16,9 +16,13 @@ use buffer::put_byte;
 
 // The first eight bytes of a record of chain k.
 fn put_link(out: &mut [u8], at: usize, k: usize, class: u64, next: u64) -> usize
-    requires { ⌜ (at + 9 < 2 ^ 64) × (k < 14) × (class < 256) ⌝ }
-    ensures { λ r. ⌜ Wrote (now (out .entry)) at (chainCode k ∷ chainSex k ∷ class ∷ 0 ∷ [] ++ twoBytes next
-        ++ twoBytes 0) (now (out .exit)) r × (r ≡ at + 8) ⌝ }
+    requires { ⌜ (at + 9 < 2 ^ 64)
+        × (k < 14)
+        × (class < 256) ⌝ }
+    ensures { λ r. ⌜ Wrote (now (out .entry)) at
+        (chainCode k ∷ chainSex k ∷ class ∷ 0 ∷ [] ++ twoBytes next ++ twoBytes 0)
+        (now (out .exit)) r
+        × (r ≡ at + 8) ⌝ }
 {
     let sex_at = put_byte(out, at, (k / 2 + 1) as u8);
     let class_at = put_byte(out, sex_at, (k % 2) as u8);
@@ -39,9 +43,12 @@ fn put_record(
     premium: u64,
     claims: u64,
 ) -> usize
-    requires { ⌜ (at + 25 < 2 ^ 64) × (k < 14) × (class < 256) ⌝ }
-    ensures { λ r. ⌜ Wrote (now (out .entry)) at (encodedRecord k class next count lapse premium claims)
-        (now (out .exit)) r × (r ≡ at + 24) ⌝ }
+    requires { ⌜ (at + 25 < 2 ^ 64)
+        × (k < 14)
+        × (class < 256) ⌝ }
+    ensures { λ r. ⌜ Wrote (now (out .entry)) at
+        (encodedRecord k class next count lapse premium claims) (now (out .exit)) r
+        × (r ≡ at + 24) ⌝ }
 {
     let count_at = put_link(out, at, k, class, next);
     let lapse_at = put_four(out, count_at, count);
@@ -52,7 +59,10 @@ fn put_record(
 
 // The next of entry j of chain k, with so many records before the chain's.
 fn next_for(first: &[u64; 14], k: usize, j: usize, sum: usize) -> u64
-    requires { ⌜ (k < 14) × (sum ≡ recordsBefore (now first) k) × (sum < 65536) × (j < 121) ⌝ }
+    requires { ⌜ (k < 14)
+        × (sum ≡ recordsBefore (now first) k)
+        × (sum < 65536)
+        × (j < 121) ⌝ }
     ensures { λ r. ⌜ r ≡ nextFor (now (first .entry)) k j ⌝ }
 {
     if j + 1 == size_of(first, k) {
@@ -73,11 +83,15 @@ fn put_chain(
     premiums: &[u64],
     claims: &[u64],
 ) -> usize
-    requires { ⌜ (at < 2 ^ 32) × (k < 14) × (sum ≡ recordsBefore (values .first) k)
+    requires { ⌜ (at < 2 ^ 32)
+        × (k < 14)
+        × (sum ≡ recordsBefore (values .first) k)
         × Fit (given values (now counts) (now lapses) (now premiums) (now claims)) ⌝ }
     ensures { λ r. ⌜ Wrote (now (out .entry)) at
-        (chainBytes (given values (now (counts .entry)) (now (lapses .entry)) (now (premiums .entry))
-        (now (claims .entry))) k) (now (out .exit)) r × (r ≡ at + 24 * sizeOf (values .first) k) ⌝ }
+        (chainBytes
+        (given values (now (counts .entry)) (now (lapses .entry)) (now (premiums .entry))
+        (now (claims .entry))) k) (now (out .exit)) r
+        × (r ≡ at + 24 * sizeOf (values .first) k) ⌝ }
 {
     let first = values.first;
     let class = first[k];
@@ -110,9 +124,11 @@ pub fn put_chains(
     premiums: &[u64],
     claims: &[u64],
 ) -> usize
-    requires { ⌜ (at < 2 ^ 31) × Fit (given values (now counts) (now lapses) (now premiums) (now claims)) ⌝ }
+    requires { ⌜ (at < 2 ^ 31)
+        × Fit (given values (now counts) (now lapses) (now premiums) (now claims)) ⌝ }
     ensures { λ r. ⌜ Wrote (now (out .entry)) at
-        (joined (chainBytes (given values (now (counts .entry)) (now (lapses .entry)) (now (premiums .entry))
+        (joined (chainBytes
+        (given values (now (counts .entry)) (now (lapses .entry)) (now (premiums .entry))
         (now (claims .entry)))) 14) (now (out .exit)) r ⌝ }
 {
     let first = values.first;

@@ -31,7 +31,9 @@ spelled-same zero zero n p q = refl
 spelled-same zero (suc g) n p q = rw (lt-ltb n 10 (omega arith))
 spelled-same (suc f) zero n p q = rw (lt-ltb n 10 (omega arith))
 spelled-same (suc f) (suc g) n p q =
-    ⊎-elim (λ h. rw (le-ltb n 10 h) (ap (λ (l : List ℕ). l ++ ((48 + n % 10) ∷ [])) (spelled-same f g (n / 10) (omega arith) (omega arith)))) (λ h. rw (lt-ltb n 10 h)) (le-or-lt 10 n)
+    ⊎-elim (λ h. rw (le-ltb n 10 h)
+    (ap (λ (l : List ℕ). l ++ ((48 + n % 10) ∷ [])) (spelled-same f g (n / 10) (omega arith) (omega arith))))
+    (λ h. rw (lt-ltb n 10 h)) (le-or-lt 10 n)
 
 pub decimal-one : (n : ℕ) → n < 10 → decimal n ≡ (48 + n) ∷ []
 unfolding decimal spelled
@@ -42,9 +44,11 @@ pub decimal-more : (n : ℕ) → 10 ≤ n → decimal n ≡ decimal (n / 10) ++ 
 unfolding decimal spelled
 decimal-more zero h = absurd (not-suc-le-zero h)
 decimal-more (suc n) h =
-    rw (le-ltb (suc n) 10 h) (ap (λ (l : List ℕ). l ++ ((48 + suc n % 10) ∷ [])) (spelled-same n (suc n / 10) (suc n / 10) (omega arith) (omega arith)))
+    rw (le-ltb (suc n) 10 h)
+    (ap (λ (l : List ℕ). l ++ ((48 + suc n % 10) ∷ []))
+    (spelled-same n (suc n / 10) (suc n / 10) (omega arith) (omega arith)))
 
--- ten times a number: a nought more; a thousand times: three
+-- ten times a number: a zero more; a thousand times: three
 pub decimal-tens : (n : ℕ) → 0 < n → decimal (n * 10) ≡ decimal n ++ 48 ∷ []
 decimal-tens n h =
     let tenth : n * 10 / 10 ≡ n = omega arith in
@@ -71,7 +75,13 @@ spelled-most (suc f) zero n h = rw (lt-ltb n 10 h) (omega arith)
 spelled-most (suc f) (suc k) n h =
     let more : 10 ^ (suc k + 1) ≡ 10 ^ (k + 1) * 10 = rw (suc-add k 1) (pow-suc 10 (k + 1)) in
     ⊎-elim
-    (λ p. rw (le-ltb n 10 p) (omega (arith, length-append (spelled f (n / 10)) ((48 + n % 10) ∷ []), spelled-most f k (n / 10) (omega arith))))
+    (λ p. rw (le-ltb n 10 p)
+    (omega (
+      arith,
+      length-append (spelled f (n / 10)) ((48 + n % 10) ∷ []),
+      spelled-most f k (n / 10)
+          (omega arith),
+    )))
     (λ p. rw (lt-ltb n 10 p) (omega arith)) (le-or-lt 10 n)
 
 -- ---- one text after another
@@ -85,7 +95,8 @@ infixl 5 _then_
 pub _then_ : {e s x t y : List ℕ} {at r q : ℕ} → Wrote e at s x r → Wrote x r t y q → Wrote e at (s ++ t) y q
 _then_ {e} {s} {x} {t} {y} {at} {r} {q} v w =
     record {
-      bytes = w .bytes ∙ ap (λ (l : List ℕ). sets l r t) (v .bytes) ∙ ap (λ (k : ℕ). sets (sets e at s) k t) (v .place) ∙ sets-append s t e at;
+      bytes = w .bytes ∙ ap (λ (l : List ℕ). sets l r t) (v .bytes) ∙ ap (λ (k : ℕ). sets (sets e at s) k t) (v .place)
+          ∙ sets-append s t e at;
       place = omega (arith, w .place, v .place, length-append s t);
     }
 
@@ -106,7 +117,7 @@ pub digits-most : (k n : ℕ) → n < 10 ^ (k + 1) → length (decimal n) ≤ k 
 unfolding decimal
 digits-most k n h = spelled-most n k n h
 
--- a trial run tells the length
+-- a trial run says the length
 pub trial : {o t p : List ℕ} {want : ℕ} → Wrote o 0 t p want → want ≡ length t
 trial {o} {t} v = omega (arith, v .place)
 
@@ -116,7 +127,8 @@ module _ {e x : List ℕ} {at r : ℕ} (n d : ℕ) where
   pub one-digit : n < 10 → d ≡ 48 + n → Wrote e at (d ∷ []) x r → Wrote e at (decimal n) x r
   one-digit h f w = rw (decimal-one n h) (rw f at w)
 
-  pub more-digits : {y : List ℕ} {q : ℕ} → 10 ≤ n → d ≡ 48 + n % 10 → Wrote e at (decimal (n / 10)) x r → Wrote x r (d ∷ []) y q → Wrote e at (decimal n) y q
+  pub more-digits : {y : List ℕ} {q : ℕ} → 10 ≤ n → d ≡ 48 + n % 10 → Wrote e at (decimal (n / 10)) x r
+      → Wrote x r (d ∷ []) y q → Wrote e at (decimal n) y q
   more-digits h f v w = rw (decimal-more n h) (v then (rw f at w))
 
 -- a number of 64 bits takes at most 20 bytes
@@ -151,7 +163,7 @@ size-most (negsuc k) h = omega (arith, h .sfits)
 pub back : (n : ℕ) → n < 2 ^ 63 → toZ w64 (ofZ w64 (pos n)) ≡ pos n
 back n h = toZ-ofZ w64 (pos n) (record { sfits = h })
 
--- what a test `v < 0` tells
+-- what a test `v < 0` says
 pub is-below : (v : ℤ) → SFits w64 v → ltZ (toZ w64 (ofZ w64 v)) (pos 0) ≡ true → v <ℤ pos 0
 is-below v f e = record { lt = subst T (sym (rw (toZ-ofZ w64 v f) at e)) tt }
 
@@ -160,11 +172,13 @@ is-other v f e = ltZ-no (subst (λ (t : Bool). T (not t)) (sym (rw (toZ-ofZ w64 
 
 -- ---- a run of bytes
 
-pub bytes-more : {e x y : List ℕ} {at r q : ℕ} (s : List ℕ) (i : ℕ) → i < length s → Wrote e at (take i s) x r → Wrote x r (getD s i 0 ∷ []) y q
+pub bytes-more : {e x y : List ℕ} {at r q : ℕ} (s : List ℕ) (i : ℕ) → i < length s → Wrote e at (take i s) x r
+    → Wrote x r (getD s i 0 ∷ []) y q
     → Wrote e at (take (i + 1) s) y q
 bytes-more s i h v w = rw (add-one i, take-suc s i 0) (v then w)
 
-pub bytes-all : {e x : List ℕ} {at r : ℕ} (s : List ℕ) (i : ℕ) → length s ≤ i → Wrote e at (take i s) x r → Wrote e at s x r
+pub bytes-all : {e x : List ℕ} {at r : ℕ} (s : List ℕ) (i : ℕ) → length s ≤ i → Wrote e at (take i s) x r
+    → Wrote e at s x r
 bytes-all s i h w = rw (take-all i s h) at w
 
 pub bytes-place : {e x : List ℕ} {at r : ℕ} (s : List ℕ) (i : ℕ) → i ≤ length s → Wrote e at (take i s) x r → r ≡ at + i
@@ -172,7 +186,8 @@ bytes-place s i h w = omega (arith, w .place, length-take-le i s h)
 
 -- ---- runs of texts
 
-pub joined-more : {e x y : List ℕ} {at r q : ℕ} (f : ℕ → List ℕ) (n : ℕ) (t : List ℕ) → Wrote e at (t ++ joined f n) x r → Wrote x r (f n) y q
+pub joined-more : {e x y : List ℕ} {at r q : ℕ} (f : ℕ → List ℕ) (n : ℕ) (t : List ℕ) → Wrote e at (t ++ joined f n) x r
+    → Wrote x r (f n) y q
     → Wrote e at (t ++ joined f (n + 1)) y q
 unfolding joined
 joined-more f n t v w = rw (add-one n, ← append-assoc) (v then w)

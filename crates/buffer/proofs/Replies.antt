@@ -1,5 +1,5 @@
--- The three ways of a call that writes a text, each as promised: a refusal of its own, a buffer that is shorter than the
--- text, and the text written. Assumes nothing.
+-- The three ways of a call that writes a text, each as promised: a refusal of its own, a buffer that is shorter than
+-- the text, and the text written. Assumes nothing.
 use mathlib.Core.Bool.{Bool, false}
 use mathlib.Core.List.{List}
 use mathlib.Core.Path.{_≡_, refl, ap}

@@ -33,7 +33,8 @@ abbrev pub bufferFor : Verdict → List ℕ → List ℕ → List ℕ
 bufferFor (Accepted m) text before = text ++ drop (length text) before
 bufferFor (Refused number place) text before = before
 
--- the refusals of the call: v, those before it writes; then 20 where a buffer of `capacity` bytes is shorter than the text
+-- the refusals of the call: v, those before it writes; then 20 where a buffer of `capacity` bytes is shorter than the
+-- text
 unfoldable pub withCapacity : Verdict → List ℕ → ℕ → Verdict
 withCapacity v text capacity = v andThen need (leb (length text) capacity) 20 0
 

@@ -1,4 +1,4 @@
--- Numbers as text, in base ten; the line of a refusal; and what writing text into a lent buffer means.
+-- Numbers as text, in base ten; the line of a refusal; and what writing text into the caller's buffer means.
 use mathlib.Core.Bool.{cond}
 use mathlib.Core.List.{List, [], _∷_, _++_}
 use mathlib.Core.Path.{_≡_}
@@ -36,7 +36,8 @@ refusedWord = 114 ∷ 101 ∷ 102 ∷ 117 ∷ 115 ∷ 101 ∷ 100 ∷ 32 ∷ []
 unfoldable pub refusalText : ℕ → ℕ → List ℕ
 refusalText number place = refusedWord ++ ended number 32 ++ ended place 10
 
--- `text` stands in the buffer from `at` on, all else is as it was (what passes the buffer's end is dropped), and `next` is the place after it
+-- `text` stands in the buffer from `at` on, all else is as it was (what passes the buffer's end is dropped), and `next`
+-- is the place after it
 pub record Wrote (entry : List ℕ) (at : ℕ) (text exit : List ℕ) (next : ℕ) : Type 0 where
   pub bytes : exit ≡ sets entry at text
   pub place : next ≡ at + length text

@@ -1,5 +1,5 @@
--- The contracts of the calls for C: the reply's fields are those of the reply as defined, and of that reply, and of what
--- each buffer then holds, everything is true that the call's own contract says.
+-- The contracts of the calls for C: the reply's fields are those of the reply as defined, and of that reply, and of
+-- what each buffer then holds, everything is true that the call's own contract says.
 use mathlib.Core.Path.{_≡_}
 use mathlib.Core.List.{List}
 use Prim.Native.Nat.{ℕ}

@@ -1,6 +1,7 @@
-// The calls under their C names; include/xaropinto.h declares them. Each forwards to the call of a crate below and puts
-// the reply into fields. A slice is a pointer and a length in C. No call relies on an earlier one, and a refusal changes
-// no buffer that was passed; of two funds, nothing of the refused one's half.
+// The calls under their C names; include/xaropinto.h declares them. Each forwards to the call of a
+// crate below and puts the reply into fields. A slice is a pointer and a length in C. No call
+// relies on an earlier one, and a refusal changes no buffer that was passed; of two funds, nothing
+// of the refused one's half.
 ghost use mathlib.Core.Path.{_≡_};
 ghost use Rattle.record_view.specs.Looker.{locatedIn};
 ghost use Rattle.valuation.specs.Totals.{TotalsContract};
@@ -8,9 +9,11 @@ ghost use Rattle.cost_rates.specs.Replies.{RatesContract};
 ghost use Rattle.standard_deviation.specs.Deviation.{DeviationContract};
 ghost use Rattle.book_contents.specs.Contents.{given};
 ghost use Rattle.book_contents.specs.Contracts.{ReadContract};
-ghost use Rattle.c_api.specs.Exported.{CheckExported, GroupExported, ConvertExported, FundsExported};
+ghost use Rattle.c_api.specs.Exported.{CheckExported, GroupExported, ConvertExported};
+ghost use Rattle.c_api.specs.Exported.{FundsExported};
 ghost use Rattle.c_api.specs.Exported.{ListingExported, ReportExported, ReportLengthExported};
-ghost use Rattle.c_api.specs.Exported.{WriteExported, PracticeExported, InForceExported, SpreadExported};
+ghost use Rattle.c_api.specs.Exported.{WriteExported, PracticeExported, InForceExported};
+ghost use Rattle.c_api.specs.Exported.{SpreadExported};
 use book_contents::ReadReply;
 use book_contents::Values;
 use c_api_fields::FundsFields;
@@ -50,7 +53,8 @@ pub extern "C" fn xaropinto_group(
     group: usize,
     table: &mut [u64],
 ) -> GroupFields
-    ensures { λ r. ⌜ GroupExported (now (book .entry)) setting group (now (table .entry)) (now (table .exit)) r ⌝ }
+    ensures { λ r. ⌜ GroupExported (now (book .entry)) setting group (now (table .entry))
+        (now (table .exit)) r ⌝ }
 {
     group_fields(group_liability::group(book, setting, group, table))
 }
@@ -85,7 +89,8 @@ pub extern "C" fn xaropinto_listing(book: &[u8], out: &mut [u8]) -> ReportFields
 
 #[no_mangle]
 pub extern "C" fn xaropinto_report(book: &[u8], setting: usize, out: &mut [u8]) -> ReportFields
-    ensures { λ r. ⌜ ReportExported (now (book .entry)) setting (now (out .entry)) (now (out .exit)) r ⌝ }
+    ensures { λ r. ⌜ ReportExported (now (book .entry)) setting (now (out .entry)) (now (out .exit))
+        r ⌝ }
 {
     text_fields(year_report::write_report(book, setting, out))
 }
@@ -115,8 +120,8 @@ pub extern "C" fn xaropinto_write(
     out: &mut [u8],
 ) -> WriteFields
     ensures { λ r. ⌜ WriteExported
-        (given values (now (counts .entry)) (now (lapses .entry)) (now (premiums .entry)) (now (claims .entry)))
-        (now (out .entry)) (now (out .exit)) r ⌝ }
+        (given values (now (counts .entry)) (now (lapses .entry)) (now (premiums .entry))
+        (now (claims .entry))) (now (out .entry)) (now (out .exit)) r ⌝ }
 {
     write_fields(book_write::write(values, counts, lapses, premiums, claims, out))
 }
@@ -130,8 +135,8 @@ pub extern "C" fn xaropinto_read(
     claims: &mut [u64],
 ) -> ReadReply
     ensures { λ r. ⌜ ReadContract (now (book .entry)) (now (counts .entry)) (now (lapses .entry))
-        (now (premiums .entry)) (now (claims .entry)) (now (counts .exit)) (now (lapses .exit)) (now (premiums .exit))
-        (now (claims .exit)) r ⌝ }
+        (now (premiums .entry)) (now (claims .entry)) (now (counts .exit)) (now (lapses .exit))
+        (now (premiums .exit)) (now (claims .exit)) r ⌝ }
 {
     book_read::read(book, counts, lapses, premiums, claims)
 }
@@ -158,8 +163,8 @@ pub extern "C" fn xaropinto_in_force(
     class: usize,
     out: &mut [u64],
 ) -> InForceFields
-    ensures { λ r. ⌜ InForceExported (now (book .entry)) setting code sex class
-        (now (out .entry)) (now (out .exit)) r ⌝ }
+    ensures { λ r. ⌜ InForceExported (now (book .entry)) setting code sex class (now (out .entry))
+        (now (out .exit)) r ⌝ }
 {
     in_force_fields(in_force::in_force(book, setting, code, sex, class, out))
 }
@@ -172,7 +177,8 @@ pub extern "C" fn xaropinto_spread(claims: Summary, xi: f64, eta: f64) -> Spread
     spread_fields(claims_variation::spread(claims, factors))
 }
 
-// The model by value, as the accounts: a matrix passed by pointer would have a length of its own to refuse.
+// The model by value, as the accounts: a matrix passed by pointer would have a length of its own to
+// refuse.
 #[no_mangle]
 pub extern "C" fn xaropinto_deviation(book: &[u8], model: RiskModel) -> DeviationReply
     ensures { λ r. ⌜ DeviationContract (now (book .entry)) model r ⌝ }

@@ -1,8 +1,11 @@
-// The replies of the calls as C has them: structs of plain fields, and each reply put into its fields.
-// A refusal is a number above 0 and a place; where there is none both are 0. What a reply does not have is 0.
+// The replies of the calls as C has them: structs of plain fields, and each reply put into its
+// fields.
+// A refusal is a number above 0 and a place; where there is none both are 0. What a reply does not
+// have is 0.
 ghost use mathlib.Core.Path.{_≡_};
 ghost use Rattle.c_api_fields.specs.Fields.{verdictFields, inForceFields, groupFields};
-ghost use Rattle.c_api_fields.specs.Fields.{textFields, writeFields, spreadFields, fundsFields};
+ghost use Rattle.c_api_fields.specs.Fields.{textFields, writeFields, spreadFields};
+ghost use Rattle.c_api_fields.specs.Fields.{fundsFields};
 use book_contents::WriteReply;
 use buffer::TextReply;
 use claims_variation::SpreadReply;

@@ -12,7 +12,8 @@ use lib.ListN.{length, set, take, drop, length-append, length-drop}
 use lib.Seq.{sets-eq, take-at, drop-at, drop-drop}
 use Rattle.settings.specs.Settings.{decrementsOf, outgoingsOf}
 use Rattle.valuation.specs.Arithmetic.{rounded}
-use Rattle.valuation.specs.Steps.{Cell, Terms, premiumSum, claimsSum, outgo, capped, countedPremium, discounted, discountedOutgo, discountedPremium, sumYears, totalOutgo, totalPremium, liability}
+use Rattle.valuation.specs.Steps.{Cell, Terms, premiumSum, claimsSum, outgo, capped, countedPremium, discounted}
+use Rattle.valuation.specs.Steps.{discountedOutgo, discountedPremium, sumYears, totalOutgo, totalPremium, liability}
 use Rattle.valuation.specs.Portfolio.{costRateOf, divisorOf, termsOf, groupCells}
 use Rattle.valuation.specs.Replies.{groupLiability, yearTable}
 use Rattle.valuation.proofs.GroupContract.{length-years}
@@ -29,27 +30,40 @@ four-stores t i a b c d h =
     rw (e1, e2, e3) (sets-eq (a ∷ b ∷ c ∷ d ∷ []) t i h ∙ append-assoc (take i t) (a ∷ b ∷ c ∷ d ∷ []) (drop (i + 4) t))
 
 module _ (t : Terms) (cs : List Cell) where
-  -- one year more in the lent table
-  pub years-more : (n : ℕ) (y : Year) (before u v : List ℕ) → y ≡ yearOf t cs n → 4 * n + 4 ≤ length before → u ≡ yearTable t cs n ++ drop (4 * n) before
+  -- one year more in the caller's table
+  pub years-more : (n : ℕ) (y : Year) (before u v : List ℕ) → y ≡ yearOf t cs n → 4 * n + 4 ≤ length before
+      → u ≡ yearTable t cs n ++ drop (4 * n) before
       → v ≡ take (4 * n) u ++ (fourOf y ++ drop (4 * n + 4) u) → v ≡ yearTable t cs (n + 1) ++ drop (4 * (n + 1)) before
   unfolding yearTable yearOf
   years-more n y before u v ey h eu ev =
       let e : 4 * (n + 1) ≡ 4 * n + 4 = omega arith in
-      let front : take (4 * n) u ≡ yearTable t cs n = ap (take (4 * n)) eu ∙ take-at (yearTable t cs n) (drop (4 * n) before) (4 * n) (length-years t cs n) in
+      let front : take (4 * n) u ≡ yearTable t cs n =
+      ap (take (4 * n)) eu ∙ take-at (yearTable t cs n) (drop (4 * n) before) (4 * n) (length-years t cs n) in
       let rest : drop (4 * n + 4) u ≡ drop (4 * n + 4) before =
       sym (drop-drop 4 (4 * n) u) ∙ ap (λ (l : List ℕ). drop 4 (drop (4 * n) l)) eu
-      ∙ ap (drop 4) (drop-at (yearTable t cs n) (drop (4 * n) before) (4 * n) (length-years t cs n)) ∙ drop-drop 4 (4 * n) before in
-      ev ∙ rw (front, rest, e, add-one n, ey) (sym (append-assoc (yearTable t cs n) (fourOf (yearOf t cs n)) (drop (4 * n + 4) before)))
+      ∙ ap (drop 4) (drop-at (yearTable t cs n) (drop (4 * n) before) (4 * n) (length-years t cs n)) ∙ drop-drop 4
+      (4 * n) before in
+      ev ∙ rw (front, rest, e, add-one n, ey)
+      (sym (append-assoc (yearTable t cs n) (fourOf (yearOf t cs n)) (drop (4 * n + 4) before)))
 
   -- the table keeps its length
-  pub years-length : (n : ℕ) (before u : List ℕ) → 4 * n ≤ length before → u ≡ yearTable t cs n ++ drop (4 * n) before → length u ≡ length before
+  pub years-length : (n : ℕ) (before u : List ℕ) → 4 * n ≤ length before → u ≡ yearTable t cs n ++ drop (4 * n) before
+      → length u ≡ length before
   years-length n before u h e =
-      ap length e ∙ omega (arith, length-append (yearTable t cs n) (drop (4 * n) before), length-years t cs n, length-drop (4 * n) before)
+      ap length e ∙ omega (
+        arith,
+        length-append (yearTable t cs n) (drop (4 * n) before),
+        length-years t cs n,
+        length-drop (4 * n)
+            before,
+      )
 
 -- the year's four numbers
-pub year-is : (t : Terms) (cs : List Cell) (k a b c d : ℕ) → a ≡ countedPremium rounded t cs k → b ≡ outgo rounded t cs k
+pub year-is : (t : Terms) (cs : List Cell) (k a b c d : ℕ) → a ≡ countedPremium rounded t cs k
+    → b ≡ outgo rounded t cs k
     → c ≡ discountedPremium rounded t cs k → d ≡ discountedOutgo rounded t cs k
-    → _≡_ {A = Year} (record { premium = a; outgo = b; «discounted_premium» = c; «discounted_outgo» = d }) (yearOf t cs k)
+    → _≡_ {A = Year} (record { premium = a; outgo = b; «discounted_premium» = c; «discounted_outgo» = d })
+    (yearOf t cs k)
 unfolding yearOf
 year-is t cs k a b c d h1 h2 h3 h4 = rw (h1, h2, h3, h4)
 
@@ -68,14 +82,16 @@ less-mag a (suc n) m p q = by (ltb a (suc n)) (suc n - suc a) (a - suc n) (omega
     by false x y p q = q
 
 module _ (b : List ℕ) (s g : ℕ) where
-  -- outgo and cap of the year's sums are the reckoning's
+  -- outgo and cap of the year's sums are the valuation's
   pub outgo-of : (k rate p c x : ℕ) → x ≡ outgoOf (outgoingsOf s) k rate p c → rate ≡ costRateOf b g
-      → p ≡ premiumSum rounded (groupCells b (decrementsOf b s) g) k → c ≡ claimsSum rounded (groupCells b (decrementsOf b s) g) k
+      → p ≡ premiumSum rounded (groupCells b (decrementsOf b s) g) k
+      → c ≡ claimsSum rounded (groupCells b (decrementsOf b s) g) k
       → x ≡ outgo rounded (termsOf b s g) (groupCells b (decrementsOf b s) g) k
   unfolding outgoOf outgo termsOf
   outgo-of k rate p c x e h1 h2 h3 = e ∙ rw (h1, h2, h3)
 
-  pub premium-of : (k p x y : ℕ) → y ≡ capped rounded k p x → p ≡ premiumSum rounded (groupCells b (decrementsOf b s) g) k
+  pub premium-of : (k p x y : ℕ) → y ≡ capped rounded k p x
+      → p ≡ premiumSum rounded (groupCells b (decrementsOf b s) g) k
       → x ≡ outgo rounded (termsOf b s g) (groupCells b (decrementsOf b s) g) k
       → y ≡ countedPremium rounded (termsOf b s g) (groupCells b (decrementsOf b s) g) k
   unfolding countedPremium
@@ -88,7 +104,8 @@ module _ (b : List ℕ) (s g : ℕ) where
   outgo-discounted k = refl
 
   pub premium-discounted : (k : ℕ) → discountedPremium rounded (termsOf b s g) (groupCells b (decrementsOf b s) g) k
-      ≡ discounted rounded (divisorOf b k) k (countedPremium rounded (termsOf b s g) (groupCells b (decrementsOf b s) g) k)
+      ≡ discounted rounded (divisorOf b k) k
+      (countedPremium rounded (termsOf b s g) (groupCells b (decrementsOf b s) g) k)
   unfolding discountedPremium termsOf
   premium-discounted k = refl
 
@@ -101,4 +118,5 @@ module _ (b : List ℕ) (s g : ℕ) where
       let cs = groupCells b (decrementsOf b s) g in
       let o = rw h at hp in
       let p = rw h at he in
-      ap (λ (x : ℕ). pos x -ℤ pos earned) o ∙ ap (λ (x : ℕ). pos (sumYears rounded 50 (discountedOutgo rounded (termsOf b s g) cs)) -ℤ pos x) p
+      ap (λ (x : ℕ). pos x -ℤ pos earned) o ∙ ap
+      (λ (x : ℕ). pos (sumYears rounded 50 (discountedOutgo rounded (termsOf b s g) cs)) -ℤ pos x) p

@@ -1,4 +1,5 @@
--- Discounting in whole numbers: one year more, that it fits, a step by a fraction, and the same of all years at once. Assumes nothing.
+-- Discounting in whole numbers: one year more, that it fits, a step by a fraction, and the same of all years at once.
+-- Assumes nothing.
 use mathlib.Core.Path.{_≡_, refl, sym, ap, _∙_}
 use mathlib.Core.Logic.{_≢_, ⊎-elim}
 use mathlib.Core.List.{List, [], _∷_}
@@ -24,13 +25,15 @@ discounted-more d zero x h = omega arith
 discounted-more d (suc j) x h = rw (sub-one (suc j))
 
 -- one step on the amount discounted for one year less
-one-back : (d j x y r : ℕ) → 0 < j → y ≡ discounted rounded d (j - 1) x → r ≡ y * 1_000_000 / d → r ≡ discounted rounded d j x
+one-back : (d j x y r : ℕ) → 0 < j → y ≡ discounted rounded d (j - 1) x → r ≡ y * 1_000_000 / d
+    → r ≡ discounted rounded d j x
 one-back d j x y r h e s = s ∙ ap (λ (z : ℕ). z * 1_000_000 / d) e ∙ sym (discounted-more d j x h)
 
 -- a year back at a divisor of at least 990,000 adds at most a fiftieth of the first bound
 back-most : (d j y : ℕ) → 990_000 ≤ d → 0 < j → j ≤ 49 → y ≤ 4_000_000_000_000_000 + 82_000_000_000_000 * (j - 1)
     → y * 1_000_000 / d ≤ 4_000_000_000_000_000 + 82_000_000_000_000 * j
-back-most d j y hd h hj hy = div-le-of-le-mul d (omega (arith, mul-le-mul-right (4_000_000_000_000_000 + 82_000_000_000_000 * j) hd))
+back-most d j y hd h hj hy =
+    div-le-of-le-mul d (omega (arith, mul-le-mul-right (4_000_000_000_000_000 + 82_000_000_000_000 * j) hd))
 
 -- the fraction of a divisor, from what is whole of it and what is left
 pub fraction-down : (d q s c : ℕ) → q * d + s ≡ 9223372036854775808 → c * d ≤ 1000000 * s → 1000000 * s < c * d + d
@@ -69,14 +72,17 @@ module _ (divisors : List ℕ) (from : ℕ) (before : List ℕ) where
       other i n = rw e (getD-set-other u k i x 0 n)
 
       here : getD v k 0 ≡ getD before k 0 * 1_000_000 / getD divisors k 0
-      here = rw e (step-at u k (getD divisors k 0) ∙ ap (λ (y : ℕ). y * 1_000_000 / getD divisors k 0) (s .later k (omega arith)))
+      here = rw e (step-at u k (getD divisors k 0) ∙ ap (λ (y : ℕ). y * 1_000_000 / getD divisors k 0)
+          (s .later k (omega arith)))
 
       at : (i : ℕ) → from ≤ i → i ≤ k → getD v i 0 ≡ getD before i 0 * 1_000_000 / getD divisors i 0
-      at i li le = ⊎-elim (λ (q : i ≡ k). rw q here) (λ (g : i < k). other i (λ q. omega arith) ∙ s .stepped i li g) (eq-or-lt-of-le le)
+      at i li le = ⊎-elim (λ (q : i ≡ k). rw q here) (λ (g : i < k). other i (λ q. omega arith) ∙ s .stepped i li g)
+          (eq-or-lt-of-le le)
 
   pub stepped-two : (k : ℕ) (u v w : List ℕ) → from ≤ k → Stepped divisors from k before u
       → v ≡ set u k (getD u k 0 * 1_000_000 / getD divisors k 0)
-      → w ≡ set v (k + 1) (getD v (k + 1) 0 * 1_000_000 / getD divisors (k + 1) 0) → Stepped divisors from (k + 2) before w
+      → w ≡ set v (k + 1) (getD v (k + 1) 0 * 1_000_000 / getD divisors (k + 1) 0)
+      → Stepped divisors from (k + 2) before w
   stepped-two k u v w l s e f =
       let two : k + 1 + 1 ≡ k + 2 = omega arith in
       rw two at (stepped-more (k + 1) v w (omega arith) (stepped-more k u v l s e) f)
@@ -89,7 +95,11 @@ module _ (divisors : List ℕ) (to : ℕ) (before : List ℕ) where
       none : (k : ℕ) → k < to → Discounted (getD divisors k 0) (min j k) (getD before k 0) (getD before k 0)
       none k h =
           let z : min j k ≡ 0 = omega arith in
-          record { is = discounted-none (getD divisors k 0) (min j k) (getD before k 0) z; most = omega (arith, small k h) }
+          record {
+            is = discounted-none (getD divisors k 0) (min j k) (getD before k 0) z;
+            most = omega
+                (arith, small k h);
+          }
 
   pub in-more : (j : ℕ) (u v : List ℕ) → 0 < j → j < to → to ≤ 50 → ((k : ℕ) → k < to → 990_000 ≤ getD divisors k 0)
       → DiscountedIn divisors (j - 1) to before u → Stepped divisors j to u v → DiscountedIn divisors j to before v
@@ -113,6 +123,7 @@ module _ (divisors : List ℕ) (to : ℕ) (before : List ℕ) where
           let e : min (j - 1) k ≡ min j k = omega arith in
           rw (s .earlier k (omega arith), ← e) (p .each k h)
 
-  -- what is discounted leaves room for a further step
-  pub capacity : (j : ℕ) (u : List ℕ) → j ≤ 49 → DiscountedIn divisors j to before u → FirstAtMost 10_000_000_000_000_000 to u
+  -- what is discounted leaves space for a further step
+  pub capacity : (j : ℕ) (u : List ℕ) → j ≤ 49 → DiscountedIn divisors j to before u
+      → FirstAtMost 10_000_000_000_000_000 to u
   capacity j u h p k l = omega (arith, p .each k l .most)

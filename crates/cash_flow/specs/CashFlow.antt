@@ -1,4 +1,4 @@
--- A year settled from its sums, as the code reckons it: outgo, cap, discounting.
+-- A year valued from its sums, as the code computes it: outgo, cap, discounting.
 use mathlib.Core.Path.{_≡_}
 use mathlib.Core.List.{List, [], _∷_}
 use Prim.Native.Nat.{ℕ, _+_, _*_, _/_, _<_, _≤_, min}
@@ -34,16 +34,17 @@ pub record Stepped (divisors : List ℕ) (from to : ℕ) (before after : List �
   pub earlier : (k : ℕ) → k < from → getD after k 0 ≡ getD before k 0
   pub later : (k : ℕ) → to ≤ k → getD after k 0 ≡ getD before k 0
 
--- step 5 of an amount, for j years with the divisor d. The bound leaves room for a further step.
+-- step 5 of an amount, for j years with the divisor d. The bound leaves space for a further step.
 pub record Discounted (d j x r : ℕ) : Type 0 where
   pub is : r ≡ discounted rounded d j x
   pub most : r ≤ 4_000_000_000_000_000 + 82_000_000_000_000 * j
 
--- step 5 of the years before `to`, each at its own divisor: for j years, or for its own number of years where that is less
+-- step 5 of the years before `to`, each at its own divisor: for j years, or for its own number of years where that is
+-- less
 pub record DiscountedIn (divisors : List ℕ) (j to : ℕ) (before after : List ℕ) : Type 0 where
   pub each : (k : ℕ) → k < to → Discounted (getD divisors k 0) (min j k) (getD before k 0) (getD after k 0)
 
--- the year's four numbers by the reckoning's steps
+-- the year's four numbers by the valuation's steps
 unfoldable pub yearOf : Terms → List Cell → ℕ → Year
 yearOf t cs k = record {
   premium = countedPremium rounded t cs k;

@@ -1,5 +1,5 @@
--- A cell that is walked over the rows of its chain is the reckoning's cell of its record, for the fifty years; and what such a cell adds is
--- bounded in every year. Assumes nothing.
+-- A cell that is projected over the rows of its chain is the valuation's cell of its record, for the fifty years; and
+-- what such a cell adds is bounded in every year. Assumes nothing.
 use mathlib.Core.Path.{_≡_, refl, sym, ap, _∙_}
 use mathlib.Core.List.{List}
 use mathlib.Core.Bool.{Bool, true, false}
@@ -9,7 +9,8 @@ use native.Mathlib.Omega.{arith}
 use lib.Dec.{ltb}
 use Rattle.book.specs.Layout.{chainSex, sexOf, classOf, fieldOf, countOffset, lapseOffset, premiumOffset, claimsOffset}
 use Rattle.book.specs.Reading.{Standing}
-use Rattle.settings.specs.Settings.{weightOf, mortalityWeight, decrementsOf, mortalityIn, lapseIn, sameMortality, livingColumn, stayingColumn}
+use Rattle.settings.specs.Settings.{weightOf, mortalityWeight, decrementsOf, mortalityIn, lapseIn, sameMortality}
+use Rattle.settings.specs.Settings.{livingColumn, stayingColumn}
 use Rattle.settings.proofs.Weights.{each-setting}
 use Rattle.settings.proofs.Held.{survival-low, persistency-low}
 use Rattle.settings.specs.declared.Decrements.{Decrements}
@@ -31,7 +32,9 @@ row-sum b i j (suc k) = rw (add-suc j k) (ap (onward b) (row-sum b i j k))
 -- the column that holds in a year of a setting has the rate at the setting's weight of that year
 module _ (b : List ℕ) (sex i k : ℕ) where
   Lives : ℕ → Type 0
-  Lives setting = rateOf b sex i (livingColumn setting k) ≡ oneLess (mortalityOf b sex (classOf b i)) (mortalityIn (decrementsOf b setting) sex k)
+  Lives setting =
+      rateOf b sex i (livingColumn setting k) ≡ oneLess (mortalityOf b sex (classOf b i))
+      (mortalityIn (decrementsOf b setting) sex k)
 
   column-survival : (setting : ℕ) → setting < 8 → Lives setting
   unfolding Lives rateOf livingColumn sameMortality decrementsOf mortalityWeight weightOf
@@ -42,7 +45,8 @@ module _ (b : List ℕ) (sex i k : ℕ) where
       by false e = each-setting Lives (rw e) (rw e) (rw e) (rw e) (rw e) (rw e) (rw e) (rw e)
 
   Stays : ℕ → Type 0
-  Stays setting = rateOf b sex i (stayingColumn setting k) ≡ oneLess (fieldOf b i lapseOffset) (lapseIn (decrementsOf b setting) k)
+  Stays setting =
+      rateOf b sex i (stayingColumn setting k) ≡ oneLess (fieldOf b i lapseOffset) (lapseIn (decrementsOf b setting) k)
 
   column-persistency : (setting : ℕ) → setting < 8 → Stays setting
   unfolding Stays rateOf stayingColumn decrementsOf weightOf
@@ -65,30 +69,49 @@ module _ (b : List ℕ) (chain i : ℕ) (s : Standing b 120 chain i) (t : List �
   here k h = rw (row-sum b i own k) at (rows (own + k) (omega (arith, s .0 .class-high)))
 
   pub projectable : Projectable t own contracts
-  projectable = record { rows = λ k h. here k h .ready; ordered = λ k h. row-ordered _ _ _ t (own + k) (here k h); fits = omega arith; few = row-standing b chain i s own .0 .count }
+  projectable = record {
+    rows = λ k h. here k h .ready;
+    ordered = λ k h. row-ordered _ _ _ t (own + k) (here k h);
+    fits = omega arith;
+    few = row-standing b chain i s own .0 .count;
+  }
 
   sex-is : sexOf b record-of ≡ chainSex chain
   sex-is = row-standing b chain i s own .0 .sex
 
   module _ (setting : ℕ) (known : setting < 8) where
-    survival-is : (k : ℕ) → k < 50 → rate t (own + k) (livingColumn setting k) ≡ oneLess (mortalityOf b (sexOf b record-of) (classOf b (rowAt b record-of k))) (mortalityIn (decrementsOf b setting) (sexOf b record-of) k)
+    survival-is : (k : ℕ) → k < 50
+        → rate t (own + k) (livingColumn setting k) ≡ oneLess
+        (mortalityOf b (sexOf b record-of) (classOf b (rowAt b record-of k)))
+        (mortalityIn (decrementsOf b setting) (sexOf b record-of) k)
     unfolding Lives
-    survival-is k h = rw sex-is (here k h .rates _ (omega (arith, survival-low setting k)) ∙ column-survival b (chainSex chain) (rowAt b record-of k) k setting known)
+    survival-is k h =
+        rw sex-is (here k h .rates _ (omega (arith, survival-low setting k)) ∙ column-survival b (chainSex chain)
+        (rowAt b record-of k) k setting known)
 
-    persistency-is : (k : ℕ) → k < 50 → rate t (own + k) (stayingColumn setting k) ≡ oneLess (fieldOf b (rowAt b record-of k) lapseOffset) (lapseIn (decrementsOf b setting) k)
+    persistency-is : (k : ℕ) → k < 50
+        → rate t (own + k) (stayingColumn setting k) ≡ oneLess (fieldOf b (rowAt b record-of k) lapseOffset)
+        (lapseIn (decrementsOf b setting) k)
     unfolding Stays
-    persistency-is k h = here k h .rates _ (omega (arith, persistency-low setting k)) ∙ column-persistency b (chainSex chain) (rowAt b record-of k) k setting known
+    persistency-is k h =
+        here k h .rates _ (omega (arith, persistency-low setting k)) ∙ column-persistency b (chainSex chain)
+        (rowAt b record-of k) k setting known
 
-    pub inforce-same : (k : ℕ) → k ≤ 50 → inForce rounded (cellIn t own contracts setting) k ≡ inForce rounded (cellOf b (decrementsOf b setting) record-of) k
+    pub inforce-same : (k : ℕ) → k ≤ 50
+        → inForce rounded (cellIn t own contracts setting) k ≡ inForce rounded
+        (cellOf b (decrementsOf b setting) record-of) k
     unfolding inForce cellIn cellOf
     inforce-same zero h = refl
-    inforce-same (suc k) h = rw (inforce-same k (omega arith), survival-is k (omega arith), persistency-is k (omega arith))
+    inforce-same (suc k) h =
+        rw (inforce-same k (omega arith), survival-is k (omega arith), persistency-is k (omega arith))
 
-    pub premium-same : (k : ℕ) → k < 50 → premiumBy (cellIn t own contracts setting) k ≡ premiumAt b (decrementsOf b setting) record-of k
+    pub premium-same : (k : ℕ) → k < 50
+        → premiumBy (cellIn t own contracts setting) k ≡ premiumAt b (decrementsOf b setting) record-of k
     unfolding premiumAt premiumBy cellPremium cellIn cellOf rateOf
     premium-same k h = rw (inforce-same k (omega arith), here k h .rates 6 (omega arith))
 
-    pub claims-same : (k : ℕ) → k < 50 → claimsBy (cellIn t own contracts setting) k ≡ claimsAt b (decrementsOf b setting) record-of k
+    pub claims-same : (k : ℕ) → k < 50
+        → claimsBy (cellIn t own contracts setting) k ≡ claimsAt b (decrementsOf b setting) record-of k
     unfolding claimsAt claimsBy cellClaims cellIn cellOf rateOf
     claims-same k h = rw (inforce-same k (omega arith), here k h .rates 7 (omega arith))
 
@@ -101,12 +124,18 @@ module _ (b : List ℕ) (w : Decrements) (chain i : ℕ) (s : Standing b 120 cha
   inforce-le : (k : ℕ) → inForce rounded (cellOf b w i) k ≤ 100_000_000_000_000
   unfolding inForce cellOf
   inforce-le zero = omega (arith, s .0 .count)
-  inforce-le (suc k) = le-trans (share-le _ _ (one-less-le _ (lapseIn w k))) (le-trans (share-le _ _ (one-less-le _ (mortalityIn w (sexOf b i) k))) (inforce-le k))
+  inforce-le (suc k) =
+      le-trans (share-le _ _ (one-less-le _ (lapseIn w k)))
+      (le-trans (share-le _ _ (one-less-le _ (mortalityIn w (sexOf b i) k))) (inforce-le k))
 
   pub premium-at-le : (k : ℕ) → premiumAt b w i k ≤ 1_000_000_000_000
   unfolding premiumAt premiumBy cellPremium cellOf
-  premium-at-le k = div-le-of-le-mul 1_000_000_000 (le-trans (mul-le-mul (inforce-le k) (row-standing b chain i s k .0 .premium)) (omega arith))
+  premium-at-le k =
+      div-le-of-le-mul 1_000_000_000
+      (le-trans (mul-le-mul (inforce-le k) (row-standing b chain i s k .0 .premium)) (omega arith))
 
   pub claims-at-le : (k : ℕ) → claimsAt b w i k ≤ 1_000_000_000_000
   unfolding claimsAt claimsBy cellClaims cellOf
-  claims-at-le k = div-le-of-le-mul 1_000_000_000 (le-trans (mul-le-mul (inforce-le k) (row-standing b chain i s k .0 .claims)) (omega arith))
+  claims-at-le k =
+      div-le-of-le-mul 1_000_000_000
+      (le-trans (mul-le-mul (inforce-le k) (row-standing b chain i s k .0 .claims)) (omega arith))

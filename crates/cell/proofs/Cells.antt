@@ -1,4 +1,5 @@
--- Laws of a cell's state over the rows of its chain: every state of a walk can go on, is the reckoning's, and what it adds is bounded.
+-- Laws of a cell's state over the rows of its chain: every state of a projection can go on, is the valuation's, and
+-- what it adds is bounded.
 -- Assumes nothing.
 use mathlib.Core.Path.{_≡_, refl, sym, ap, _∙_}
 use mathlib.Core.List.{List}
@@ -13,7 +14,8 @@ use Rattle.valuation.specs.Arithmetic.{rounded}
 use Rattle.valuation.specs.Steps.{inForce, cellPremium, cellClaims}
 use Rattle.rate_table.specs.Rows.{rate, RowReady}
 use Rattle.cell.specs.declared.Cell.{Cell}
-use Rattle.cell.specs.States.{cellIn, Projectable, Ready, nextBy, nextYear, stateIn, premiumIn, claimsIn, premiumBy, claimsBy}
+use Rattle.cell.specs.States.{cellIn, Projectable, Ready, nextBy, nextYear, stateIn, premiumIn, claimsIn}
+use Rattle.cell.specs.States.{premiumBy, claimsBy}
 
 -- a share of at most the whole is at most the amount
 pub share-le : (x y : ℕ) → y ≤ 1_000_000_000 → x * y / 1_000_000_000 ≤ x
@@ -34,9 +36,14 @@ module _ (t : List ℕ) (c : Cell) (r : Ready t c) where
 -- the columns of a setting are those of its year k
 module _ (setting k : ℕ) (columns : Columns) (e : columns ≡ columnsOf setting) where
   pub held-low : (livesIn columns k ≤ 5) × (staysIn columns k ≤ 5)
-  held-low = rw e (omega (arith, survives-is setting k, survival-low setting k), omega (arith, persists-is setting k, persistency-low setting k))
+  held-low = rw e (
+    omega (arith, survives-is setting k, survival-low setting k),
+    omega
+        (arith, persists-is setting k, persistency-low setting k),
+  )
 
-  pub next-held : (t : List ℕ) (c r : Cell) → r ≡ nextBy t (livesIn columns k) (staysIn columns k) c → r ≡ nextYear t setting k c
+  pub next-held : (t : List ℕ) (c r : Cell) → r ≡ nextBy t (livesIn columns k) (staysIn columns k) c
+      → r ≡ nextYear t setting k c
   unfolding nextYear
   next-held t c r h = h ∙ rw (e, survives-is setting k, persists-is setting k)
 
@@ -52,7 +59,7 @@ module _ (t : List ℕ) (r n setting : ℕ) where
       let e : (r + k) + 1 ≡ r + suc k = omega arith in
       rw (add-one k) (ap (λ (x : ℕ). record { row = x; inforce = inForce rounded (cellIn t r n setting) (suc k) }) e)
 
-  -- what a state has in force and adds is what the reckoning's cell has and adds
+  -- what a state has in force and adds is what the valuation's cell has and adds
   pub inforce-is : (k : ℕ) → stateIn t r n setting k .inforce ≡ inForce rounded (cellIn t r n setting) k
   unfolding stateIn
   inforce-is k = refl
@@ -66,16 +73,17 @@ module _ (t : List ℕ) (r n setting : ℕ) where
   claims-is k = refl
 
   module _ (s : Projectable t r n) where
-    -- what the reckoning has in force is no more than the contracts
+    -- what the valuation has in force is no more than the contracts
     inforce-le : (k : ℕ) → k ≤ 50 → inForce rounded (cellIn t r n setting) k ≤ 100_000_000_000_000
     unfolding inForce cellIn
     inforce-le zero h = omega (arith, s .few)
     inforce-le (suc k) h =
         let row = s .rows k (omega arith) in
         le-trans (share-le _ _ (row .shares (stayingColumn setting k) (omega (arith, persistency-low setting k))))
-        (le-trans (share-le _ _ (row .shares (livingColumn setting k) (omega (arith, survival-low setting k)))) (inforce-le k (omega arith)))
+        (le-trans (share-le _ _ (row .shares (livingColumn setting k) (omega (arith, survival-low setting k))))
+        (inforce-le k (omega arith)))
 
-    -- every state of the reckoning can go on
+    -- every state of the valuation can go on
     pub state-ready : (k : ℕ) → k < 50 → Ready t (stateIn t r n setting k)
     unfolding stateIn
     state-ready k h = record { row = s .rows k h; fits = omega (arith, s .fits); bound = inforce-le k (omega arith) }

@@ -1,4 +1,5 @@
--- Shares by the places of a row: where the upper half of a product is the share, and from what it is mended else. Assumes nothing.
+-- Shares by the places of a row: where the upper half of a product is the share, and from what it is corrected else.
+-- Assumes nothing.
 use mathlib.Core.Bool.{false}
 use mathlib.Core.List.{List}
 use mathlib.Core.Path.{_≡_}
@@ -11,7 +12,8 @@ use Rattle.arith.proofs.Division.{part-sure, part-short, part-below}
 use Rattle.rate_table.specs.Rows.{RowReady}
 use Rattle.cell.specs.States.{ShareAt, shareOf}
 
-module _ (t : List ℕ) (at : ℕ) (share : ShareAt t at) (x q : ℕ) (few : x ≤ 100000000000000) (upper : q ≡ x * getD t at 0 / 18446744073709551616) where
+module _ (t : List ℕ) (at : ℕ) (share : ShareAt t at) (x q : ℕ) (few : x ≤ 100000000000000)
+    (upper : q ≡ x * getD t at 0 / 18446744073709551616) where
   pub sure : nearTop 100000000000000 (x * getD t at 0) ≡ false → q ≡ shareOf t at x
   sure = part-sure x _ 1000000000 _ q 100000000000000 (omega arith) (share .fraction-is) upper few (omega arith)
 
@@ -19,11 +21,14 @@ module _ (t : List ℕ) (at : ℕ) (share : ShareAt t at) (x q : ℕ) (few : x �
   upper-le : q ≤ x
   upper-le =
       le-of-mul-le-mul-right {k = 1000000000}
-      (le-trans (part-below x _ 1000000000 _ q (omega arith) (share .fraction-is) upper) (mul-le-mul-left x (share .most))) (omega arith)
+      (le-trans (part-below x _ 1000000000 _ q (omega arith) (share .fraction-is) upper)
+      (mul-le-mul-left x (share .most))) (omega arith)
 
-  pub short : (1000000000 < 9223372036854775808) × (q < 18446744073709551615) × (q * 1000000000 ≤ x * getD t (at + 8) 0) × (x * getD t (at + 8) 0 < q * 1000000000 + 2 * 1000000000)
+  pub short : (1000000000 < 9223372036854775808) × (q < 18446744073709551615) × (q * 1000000000 ≤ x * getD t (at + 8) 0)
+      × (x * getD t (at + 8) 0 < q * 1000000000 + 2 * 1000000000)
   short =
-      part-short x _ 1000000000 _ q 100000000000000 (omega arith) (share .fraction-is) upper few (omega arith) (omega arith)
+      part-short x _ 1000000000 _ q 100000000000000 (omega arith) (share .fraction-is) upper few (omega arith)
+      (omega arith)
       (omega (arith, upper-le, few))
 
 -- the places of a row

@@ -23,7 +23,7 @@ cellIn t r n setting = record {
   claims = λ k. rate t (r + k) 7;
 }
 
--- its rows can be walked for fifty years, and its contracts are few enough
+-- its rows can be followed for fifty years, and its contracts are few enough
 pub record Projectable (t : List ℕ) (r n : ℕ) : Type 0 where
   pub rows : (k : ℕ) → k < 50 → RowReady t (r + k)
   pub ordered : (k : ℕ) → k < 50 → RowOrdered t (r + k)
@@ -36,7 +36,8 @@ pub record Ready (t : List ℕ) (c : Cell) : Type 0 where
   pub fits : c .row < 170
   pub bound : c .inforce ≤ 100_000_000_000_000
 
--- a place of the rows by which shares can be taken: it has the fraction of the rate eight further, which is at most the whole
+-- a place of the rows by which shares can be taken: it has the fraction of the rate eight further, which is at most the
+-- whole
 pub record ShareAt (t : List ℕ) (at : ℕ) : Type 0 where
   pub fraction-is : IsFraction (getD t (at + 8) 0) 1_000_000_000 (getD t at 0)
   pub most : getD t (at + 8) 0 ≤ 1_000_000_000
@@ -45,7 +46,8 @@ pub record ShareAt (t : List ℕ) (at : ℕ) : Type 0 where
 abbrev pub shareOf : List ℕ → ℕ → ℕ → ℕ
 shareOf t at x = x * getD t (at + 8) 0 / 1_000_000_000
 
--- the state a year later, by the columns of what lives on and of what stays: what lives on, rounded down, and of that what stays, rounded down
+-- the state a year later, by the columns of what lives on and of what stays: what lives on, rounded down, and of that
+-- what stays, rounded down
 abbrev pub nextBy : List ℕ → ℕ → ℕ → Cell → Cell
 nextBy t survives persists c = record {
   row = c .row + 1;
@@ -56,7 +58,7 @@ nextBy t survives persists c = record {
 unfoldable pub nextYear : List ℕ → ℕ → ℕ → Cell → Cell
 nextYear t setting k = nextBy t (livingColumn setting k) (stayingColumn setting k)
 
--- the state in year k of a setting, as the reckoning has it
+-- the state in year k of a setting, as the valuation has it
 unfoldable pub stateIn : List ℕ → ℕ → ℕ → ℕ → ℕ → Cell
 stateIn t r n setting k = record { row = r + k; inforce = inForce rounded (cellIn t r n setting) k }
 
@@ -67,7 +69,7 @@ premiumIn t c = c .inforce * rate t (c .row) 6 / 1_000_000_000
 abbrev pub claimsIn : List ℕ → Cell → ℕ
 claimsIn t c = c .inforce * rate t (c .row) 7 / 1_000_000_000
 
--- premium and claims of a cell in year k, by the reckoning's steps, and those of the cell of record i
+-- premium and claims of a cell in year k, by the valuation's steps, and those of the cell of record i
 unfoldable pub premiumBy : steps.Cell → ℕ → ℕ
 premiumBy c k = cellPremium rounded k c
 

@@ -1,4 +1,4 @@
--- Where a walk ends: at the first year with nothing in force, after which nothing is added. Assumes nothing.
+-- Where a projection ends: at the first year with nothing in force, after which nothing is added. Assumes nothing.
 use mathlib.Core.Path.{_≡_, refl, sym, ap, _∙_}
 use mathlib.Core.Logic.{_⊎_, inl, inr, ⊎-elim}
 use mathlib.Core.Bool.{Bool, true, false, cond}
@@ -68,7 +68,7 @@ module _ (c : Cell) where
       let e : (j - n) + n ≡ j = omega arith in
       rw e at (nothing-after n (j - n) z)
 
-  -- the years of a walk end at the first with nothing in force, or are fifty
+  -- the years of a projection end at the first with nothing in force, or are fifty
   pub first-year : IsFirst (inForce rounded c) 0 50 (yearsInForce c)
   unfolding yearsInForce
   first-year = found (inForce rounded c) 50

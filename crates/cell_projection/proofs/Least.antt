@@ -1,4 +1,5 @@
--- More deaths and more lapses leave the least in force: where they leave something, so do all five projections. Assumes nothing.
+-- More deaths and more lapses leave the least in force: where they leave something, so do all five projections. Assumes
+-- nothing.
 use mathlib.Core.Path.{_≡_, refl, ap}
 use mathlib.Core.Bool.{Bool, true, false}
 use mathlib.Core.List.{List}
@@ -23,7 +24,9 @@ module _ (c d : Cell) (same : c .count ≡ d .count) (m : ℕ) (survives : (k : 
   in-force-le : (k : ℕ) → k ≤ m → inForce rounded c k ≤ inForce rounded d k
   unfolding inForce
   in-force-le zero h = omega (arith, same)
-  in-force-le (suc k) h = share-mono _ _ _ _ (share-mono _ _ _ _ (in-force-le k (omega arith)) (survives k (omega arith))) (persists k (omega arith))
+  in-force-le (suc k) h =
+      share-mono _ _ _ _ (share-mono _ _ _ _ (in-force-le k (omega arith)) (survives k (omega arith)))
+      (persists k (omega arith))
 
 module _ (t : List ℕ) (r n : ℕ) (s : Projectable t r n) where
   -- what lives on and what stays, where the table orders them
@@ -84,8 +87,10 @@ module _ (t : List ℕ) (r n : ℕ) (s : Projectable t r n) where
   ordered : (Most 1 0) × (Most 0 2) × (Most 0 4)
   unfolding Most Survives Persists cellIn
   ordered = (
-    in-force-le (cellIn t r n 1) (cellIn t r n 0) refl 50 (λ k h. mortality-up-survives k h) (λ k h. base-persists k h .0),
-    in-force-le (cellIn t r n 0) (cellIn t r n 2) refl 50 (λ k h. mortality-down-survives k h) (λ k h. base-persists k h .1),
+    in-force-le (cellIn t r n 1) (cellIn t r n 0) refl 50 (λ k h. mortality-up-survives k h)
+        (λ k h. base-persists k h .0),
+    in-force-le (cellIn t r n 0) (cellIn t r n 2) refl 50 (λ k h. mortality-down-survives k h)
+        (λ k h. base-persists k h .1),
     in-force-le (cellIn t r n 0) (cellIn t r n 4) refl 50 (λ k h. base-survives k h .1) (λ k h. lapses k h .1),
   )
 
@@ -97,7 +102,23 @@ module _ (t : List ℕ) (r n : ℕ) (s : Projectable t r n) where
       record {
         base = omega (arith, l .mortality-up, ordered .0 k h, base, more);
         mortality-up = l .mortality-up;
-        mortality-down = omega (arith, l .mortality-up, ordered .0 k h, ordered .1 k h, ap (λ (x : Five). x .«mortality_down» .inforce) e, more);
+        mortality-down =
+            omega (
+              arith,
+              l .mortality-up,
+              ordered .0 k h,
+              ordered .1 k h,
+              ap
+                  (λ (x : Five). x .«mortality_down» .inforce) e,
+              more,
+            );
         lapse-up = l .lapse-up;
-        lapse-down = omega (arith, l .mortality-up, ordered .0 k h, ordered .2 k h, ap (λ (x : Five). x .«lapse_down» .inforce) e, more);
+        lapse-down = omega (
+          arith,
+          l .mortality-up,
+          ordered .0 k h,
+          ordered .2 k h,
+          ap (λ (x : Five). x .«lapse_down» .inforce) e,
+          more,
+        );
       }

@@ -1,4 +1,5 @@
--- Laws of one projection by itself: its years in a table, and a run over them up to its own first year with nothing in force. Assumes nothing.
+-- Laws of one projection by itself: its years in a table, and a run over them up to its own first year with nothing in
+-- force. Assumes nothing.
 use mathlib.Core.Path.{_≡_, refl, sym, ap, _∙_}
 use mathlib.Core.Bool.{Bool, true, false, cond}
 use mathlib.Core.List.{List}
@@ -18,7 +19,8 @@ use Rattle.cell.proofs.Cells.{state-ready, state-next, inforce-is, premium-is, 
 use Rattle.cell_projection.specs.Tables.{amountBy, added, sumWithin, chosen, Among, twoMore, AtMost}
 use Rattle.cell_projection.specs.Five.{yearMore}
 use Rattle.cell_projection.specs.Projected.{ReachedIn, ProjectedIn}
-use Rattle.cell_projection.proofs.Years.{two-added, added-rest, added-same, added-join, added-most, amount-premium, amount-claims, amount-each}
+use Rattle.cell_projection.proofs.Years.{two-added, added-rest, added-same, added-join, added-most}
+use Rattle.cell_projection.proofs.Years.{amount-premium, amount-claims, amount-each}
 use Rattle.cell_projection.proofs.Ends.{going-on, going-ends, going-out, nothing-later, no-premium, no-claims}
 
 none : (b : Bool) → _≡_ {A = ℕ} (cond b 0 0) 0
@@ -58,8 +60,10 @@ module _ (f : ℕ → ℕ) (s m k j : ℕ) where
   unfolding sumWithin
   within-more h = by (eqb (j % 10 / 2) s) (ltb (j / 10) m) refl (ltb (j / 10) k) refl (ltb (j / 10) (k + 1)) refl
     where
-      by : (own early : Bool) → ltb (j / 10) m ≡ early → (before : Bool) → ltb (j / 10) k ≡ before → (upto : Bool) → ltb (j / 10) (k + 1) ≡ upto
-          → cond own (cond early 0 (cond before (f j) 0)) 0 + cond own (cond before 0 (cond upto (f j) 0)) 0 ≡ cond own (cond early 0 (cond upto (f j) 0)) 0
+      by : (own early : Bool) → ltb (j / 10) m ≡ early → (before : Bool) → ltb (j / 10) k ≡ before → (upto : Bool)
+          → ltb (j / 10) (k + 1) ≡ upto
+          → cond own (cond early 0 (cond before (f j) 0)) 0 + cond own (cond before 0 (cond upto (f j) 0)) 0 ≡ cond own
+          (cond early 0 (cond upto (f j) 0)) 0
       by false early e before b upto u = omega arith
       by true true e true b upto u = omega arith
       by true true e false b upto u = absurd (omega (arith, ltb-true (j / 10) m e, ltb-false (j / 10) k b))
@@ -91,7 +95,8 @@ module _ (which : ℕ) (f : ℕ → ℕ) where
 
   pub chosen-at : (s j : ℕ) → Among which s → s < 5 → j % 10 / 2 ≡ s → j / 10 < 50 → chosen which f j ≡ f j
   chosen-at s j (inl e) l own h = chosen-all e j
-  chosen-at s j (inr e) l own h = chosen-one (λ q. omega (arith, e, q, l)) j ∙ within-own f which 0 50 j (own ∙ sym e) (omega arith) h
+  chosen-at s j (inr e) l own h =
+      chosen-one (λ q. omega (arith, e, q, l)) j ∙ within-own f which 0 50 j (own ∙ sym e) (omega arith) h
 
 -- no years add nothing
 pub within-start : (f : ℕ → ℕ) (s m : ℕ) (u : List ℕ) → u ≡ added (sumWithin f s m m) 500 u
@@ -120,15 +125,20 @@ module _ (f : ℕ → ℕ) (s k : ℕ) (h : s < 5) (l : k < 50) where
 
   untouched : (u : List ℕ) → u ≡ added (sumWithin f s k (k + 1)) (10 * k + 2 * s) u
   unfolding added
-  untouched u = sym (rw (add-zero (10 * k + 2 * s)) at (added-rest (sumWithin f s k (k + 1)) 0 (10 * k + 2 * s) u (λ i g a. before-year i (omega arith))))
+  untouched u = sym
+      (rw (add-zero (10 * k + 2 * s)) at
+      (added-rest (sumWithin f s k (k + 1)) 0 (10 * k + 2 * s) u (λ i g a. before-year i (omega arith))))
 
-  pub year-added : (u : List ℕ) (x y : ℕ) → x ≡ f (10 * k + 2 * s) → y ≡ f (10 * k + 2 * s + 1) → twoMore u (10 * k + 2 * s) x y ≡ added (sumWithin f s k (k + 1)) 500 u
+  pub year-added : (u : List ℕ) (x y : ℕ) → x ≡ f (10 * k + 2 * s) → y ≡ f (10 * k + 2 * s + 1)
+      → twoMore u (10 * k + 2 * s) x y ≡ added (sumWithin f s k (k + 1)) 500 u
   year-added u x y ex ey =
       let all : (498 - (10 * k + 2 * s)) + (10 * k + 2 * s + 2) ≡ 500 = omega arith in
       two-added (sumWithin f s k (k + 1)) (10 * k + 2 * s) u u x y (untouched u)
       (ex ∙ sym (within-own f s k (k + 1) (10 * k + 2 * s) (omega arith) (omega arith) (omega arith)))
       (ey ∙ sym (within-own f s k (k + 1) (10 * k + 2 * s + 1) (omega arith) (omega arith) (omega arith)))
-      ∙ sym (rw all at (added-rest (sumWithin f s k (k + 1)) (10 * k + 2 * s + 2) (498 - (10 * k + 2 * s)) u (λ i g a. after-year i g)))
+      ∙ sym (rw all at
+      (added-rest (sumWithin f s k (k + 1)) (10 * k + 2 * s + 2) (498 - (10 * k + 2 * s)) u
+      (λ i g a. after-year i g)))
 
 -- a projection with nothing in force adds nothing from there on
 module _ (c : ℕ → steps.Cell) (s k : ℕ) (z : inForce rounded (c s) k ≡ 0) where
@@ -141,8 +151,10 @@ module _ (c : ℕ → steps.Cell) (s k : ℕ) (z : inForce rounded (c s) k ≡ 0
   unfolding sumWithin
   within-ended m j l = by (eqb (j % 10 / 2) s) refl (ltb (j / 10) m) (ltb (j / 10) k) refl (ltb (j / 10) 50) refl
     where
-      by : (own : Bool) → eqb (j % 10 / 2) s ≡ own → (early before : Bool) → ltb (j / 10) k ≡ before → (last : Bool) → ltb (j / 10) 50 ≡ last
-          → cond own (cond early 0 (cond before (amountBy c j) 0)) 0 ≡ cond own (cond early 0 (cond last (amountBy c j) 0)) 0
+      by : (own : Bool) → eqb (j % 10 / 2) s ≡ own → (early before : Bool) → ltb (j / 10) k ≡ before → (last : Bool)
+          → ltb (j / 10) 50 ≡ last
+          → cond own (cond early 0 (cond before (amountBy c j) 0)) 0 ≡ cond own
+          (cond early 0 (cond last (amountBy c j) 0)) 0
       by false o early before b last q = refl
       by true o true before b last q = refl
       by true o false true b true q = refl
@@ -150,34 +162,40 @@ module _ (c : ℕ → steps.Cell) (s k : ℕ) (z : inForce rounded (c s) k ≡ 0
       by true o false before b false q = absurd (omega (arith, ltb-false (j / 10) 50 q))
 
 -- what a cell adds is bounded
-pub amount-le : (t : List ℕ) (r n : ℕ) → Projectable t r n → (j : ℕ) → j < 500 → amountBy (cellIn t r n) j ≤ 1_000_000_000_000
+pub amount-le : (t : List ℕ) (r n : ℕ) → Projectable t r n → (j : ℕ) → j < 500
+    → amountBy (cellIn t r n) j ≤ 1_000_000_000_000
 amount-le t r n w j h =
-    amount-each (λ x. x ≤ 1_000_000_000_000) (cellIn t r n) j (premium-by-le t r n (j % 10 / 2) w (j / 10) (omega arith))
+    amount-each (λ x. x ≤ 1_000_000_000_000) (cellIn t r n) j
+    (premium-by-le t r n (j % 10 / 2) w (j / 10) (omega arith))
     (claims-by-le t r n (j % 10 / 2) w (j / 10) (omega arith))
 
-pub within-capacity : (t : List ℕ) (r n s m k : ℕ) (u v : List ℕ) → Projectable t r n → v ≡ added (sumWithin (amountBy (cellIn t r n)) s m k) 500 u → (most : ℕ) → AtMost most u
+pub within-capacity : (t : List ℕ) (r n s m k : ℕ) (u v : List ℕ) → Projectable t r n
+    → v ≡ added (sumWithin (amountBy (cellIn t r n)) s m k) 500 u → (most : ℕ) → AtMost most u
     → AtMost (most + 1_000_000_000_000) v
 within-capacity t r n s m k u v w e most a j =
     omega (
       arith,
       ap (λ (l : List ℕ). getD l j 0) e,
-      added-most (sumWithin (amountBy (cellIn t r n)) s m k) 1_000_000_000_000 500 (λ i l. within-le (amountBy (cellIn t r n)) s m k i 1_000_000_000_000 (amount-le t r n w i l)) most u a j,
+      added-most (sumWithin (amountBy (cellIn t r n)) s m k) 1_000_000_000_000 500
+          (λ i l. within-le (amountBy (cellIn t r n)) s m k i 1_000_000_000_000 (amount-le t r n w i l)) most u a j,
     )
 
 -- What a run over the years from m on keeps in year k: the projection has come there, and the table u has become v.
 abbrev pub RunIn : List ℕ → ℕ → ℕ → ℕ → ℕ → ℕ → Cell → List ℕ → List ℕ → Type 0
-RunIn t r n s m k c u v = (m ≤ k) × (k ≤ 50) × ReachedIn t r n s k c × (v ≡ added (sumWithin (amountBy (cellIn t r n)) s m k) 500 u)
+RunIn t r n s m k c u v =
+    (m ≤ k) × (k ≤ 50) × ReachedIn t r n s k c × (v ≡ added (sumWithin (amountBy (cellIn t r n)) s m k) 500 u)
 
 module _ (t : List ℕ) (r n s m k : ℕ) (c : Cell) (u v : List ℕ) (run : RunIn t r n s m k c u v) where
   in-force : c .inforce ≡ inForce rounded (cellIn t r n s) k
   in-force = ap (λ (x : Cell). x .inforce) (run .2 .state) ∙ inforce-is t r n s k
 
-  -- the next year can be reckoned
+  -- the next year can be computed
   pub run-ready : Projectable t r n → k < 50 → Ready t c
   run-ready w h = rw (run .2 .state) (state-ready t r n s w k h)
 
-  -- and it is then reckoned
-  pub run-more : s < 5 → k < 50 → 0 < c .inforce → (c′ : Cell) (v′ : List ℕ) → c′ ≡ nextYear t s k c → v′ ≡ yearMore t s k c v → RunIn t r n s m (k + 1) c′ u v′
+  -- and it is then computed
+  pub run-more : s < 5 → k < 50 → 0 < c .inforce → (c′ : Cell) (v′ : List ℕ) → c′ ≡ nextYear t s k c
+      → v′ ≡ yearMore t s k c v → RunIn t r n s m (k + 1) c′ u v′
   run-more l h some c′ v′ ec ev = (
     omega (arith, run .0),
     omega (arith, h),
@@ -185,8 +203,12 @@ module _ (t : List ℕ) (r n s m k : ℕ) (c : Cell) (u v : List ℕ) (run : Run
       state = ec ∙ rw (run .2 .state) (state-next t r n s k);
       going = going-on (cellIn t r n s) k h (λ z. omega (arith, some, in-force, z)) (run .2 .going);
     },
-    added-join (sumWithin (amountBy (cellIn t r n)) s m k) (sumWithin (amountBy (cellIn t r n)) s k (k + 1)) _ 500 u v v′ (run .3)
-        (ev ∙ rw (run .2 .state) (year-added (amountBy (cellIn t r n)) s k l h v _ _ (premium-is t r n s k ∙ sym (amount-premium (cellIn t r n) k s l)) (claims-is t r n s k ∙ sym (amount-claims (cellIn t r n) k s l))))
+    added-join (sumWithin (amountBy (cellIn t r n)) s m k) (sumWithin (amountBy (cellIn t r n)) s k (k + 1)) _ 500 u v
+        v′ (run .3)
+        (ev ∙ rw (run .2 .state)
+        (year-added (amountBy (cellIn t r n)) s k l h v _ _
+        (premium-is t r n s k ∙ sym (amount-premium (cellIn t r n) k s l))
+        (claims-is t r n s k ∙ sym (amount-claims (cellIn t r n) k s l))))
         (λ j a. within-more _ s m k j (run .0)),
   )
 
@@ -200,4 +222,8 @@ module _ (t : List ℕ) (r n s m k : ℕ) (c : Cell) (u v : List ℕ) (run : Run
       }
 
   pub run-out : k ≡ 50 → ProjectedIn t r n s m k u v
-  run-out e = record { sums = run .3 ∙ ap (λ (x : ℕ). added (sumWithin (amountBy (cellIn t r n)) s m x) 500 u) e; years-are = going-out (cellIn t r n s) k e (run .2 .going) }
+  run-out e = record {
+    sums = run .3 ∙ ap (λ (x : ℕ). added (sumWithin (amountBy (cellIn t r n)) s m x) 500 u) e;
+    years-are = going-out
+        (cellIn t r n s) k e (run .2 .going);
+  }

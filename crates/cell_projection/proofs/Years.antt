@@ -28,19 +28,22 @@ added-later f (suc n) t j h =
     getD-set-other (added f n t) n j _ 0 (λ e. omega arith) ∙ added-later f n t j (omega arith)
 
 -- a number that the run has passed has f j more
-pub added-at : (f : ℕ → ℕ) (n : ℕ) (t : List ℕ) (j : ℕ) → j < n → j < length t → getD (added f n t) j 0 ≡ getD t j 0 + f j
+pub added-at : (f : ℕ → ℕ) (n : ℕ) (t : List ℕ) (j : ℕ) → j < n → j < length t
+    → getD (added f n t) j 0 ≡ getD t j 0 + f j
 unfolding added
 added-at f zero t j h l = absurd (omega arith)
 added-at f (suc n) t j h l =
     ⊎-elim
     (λ (e : j ≡ n).
     rw e
-    (getD-set-same (added f n t) n _ 0 (omega (arith, length-added f n t)) ∙ ap (λ (x : ℕ). x + f n) (added-later f n t n (omega arith))))
+    (getD-set-same (added f n t) n _ 0 (omega (arith, length-added f n t)) ∙ ap (λ (x : ℕ). x + f n)
+    (added-later f n t n (omega arith))))
     (λ (g : j < n). getD-set-other (added f n t) n j _ 0 (λ e. omega arith) ∙ added-at f n t j g l)
     (eq-or-lt-of-le (le-of-suc-le-suc h))
 
 -- one number more
-pub added-more : (f : ℕ → ℕ) (n : ℕ) (t u v : List ℕ) (x : ℕ) → u ≡ added f n t → v ≡ set u n (getD u n 0 + x) → x ≡ f n → v ≡ added f (n + 1) t
+pub added-more : (f : ℕ → ℕ) (n : ℕ) (t u v : List ℕ) (x : ℕ) → u ≡ added f n t → v ≡ set u n (getD u n 0 + x) → x ≡ f n
+    → v ≡ added f (n + 1) t
 unfolding added
 added-more f n t u v x e w h = w ∙ rw (add-one n) (cc)
 
@@ -53,7 +56,8 @@ set-le (x ∷ u) (suc n) v zero m p q = p
 set-le (x ∷ u) (suc n) v (suc j) m p q = set-le u n v j m p q
 
 -- what a run adds at most
-pub added-most : (f : ℕ → ℕ) (z n : ℕ) → ((j : ℕ) → j < n → f j ≤ z) → (m : ℕ) (t : List ℕ) → AtMost m t → AtMost (m + z) (added f n t)
+pub added-most : (f : ℕ → ℕ) (z n : ℕ) → ((j : ℕ) → j < n → f j ≤ z) → (m : ℕ) (t : List ℕ) → AtMost m t
+    → AtMost (m + z) (added f n t)
 unfolding added
 added-most f z zero h m t a j = omega (arith, a j)
 added-most f z (suc n) h m t a j =
@@ -61,7 +65,8 @@ added-most f z (suc n) h m t a j =
     (omega (arith, added-later f n t n (omega arith), a n, h n (omega arith)))
 
 -- numbers where f is 0 add nothing
-pub added-rest : (f : ℕ → ℕ) (n m : ℕ) (t : List ℕ) → ((j : ℕ) → n ≤ j → j < m + n → f j ≡ 0) → added f (m + n) t ≡ added f n t
+pub added-rest : (f : ℕ → ℕ) (n m : ℕ) (t : List ℕ) → ((j : ℕ) → n ≤ j → j < m + n → f j ≡ 0)
+    → added f (m + n) t ≡ added f n t
 unfolding added
 added-rest f n zero t h = ap (λ (x : ℕ). added f x t) (zero-add n)
 added-rest f n (suc m) t h =
@@ -84,7 +89,8 @@ unfolding added
 added-under g zero t i a h = refl
 added-under g (suc n) t i a h =
     let u = added g n t in
-    rw (added-under g n t i a (omega arith), getD-set-other u i n a 0 (λ q. omega arith)) (set-comm u i n a (getD u n 0 + g n) (λ q. omega arith))
+    rw (added-under g n t i a (omega arith), getD-set-other u i n a 0 (λ q. omega arith))
+    (set-comm u i n a (getD u n 0 + g n) (λ q. omega arith))
 
 -- two stores at one place
 twice : (t : List ℕ) (i a x : ℕ) → set (set t i a) i (getD (set t i a) i 0 + x) ≡ set t i (a + x)
@@ -99,11 +105,14 @@ added-both f g zero t = refl
 added-both f g (suc n) t =
     let u = added f n t in
     let w = added (λ j. f j + g j) n t in
-    let same : (getD u n 0 + f n) + g n ≡ getD w n 0 + (f n + g n) = omega (arith, added-later f n t n (omega arith), added-later (λ j. f j + g j) n t n (omega arith)) in
+    let same : (getD u n 0 + f n) + g n ≡ getD w n 0 + (f n + g n) =
+    omega (arith, added-later f n t n (omega arith), added-later (λ j. f j + g j) n t n (omega arith)) in
     ap (λ (l : List ℕ). set l n (getD l n 0 + g n)) (added-under g n u n (getD u n 0 + f n) (omega arith))
-    ∙ twice (added g n u) n (getD u n 0 + f n) (g n) ∙ ap (λ (l : List ℕ). set l n ((getD u n 0 + f n) + g n)) (added-both f g n t) ∙ ap (set w n) same
+    ∙ twice (added g n u) n (getD u n 0 + f n) (g n) ∙ ap (λ (l : List ℕ). set l n ((getD u n 0 + f n) + g n))
+    (added-both f g n t) ∙ ap (set w n) same
 
-pub added-join : (f g h : ℕ → ℕ) (n : ℕ) (t u v : List ℕ) → u ≡ added f n t → v ≡ added g n u → ((j : ℕ) → j < n → f j + g j ≡ h j) → v ≡ added h n t
+pub added-join : (f g h : ℕ → ℕ) (n : ℕ) (t u v : List ℕ) → u ≡ added f n t → v ≡ added g n u
+    → ((j : ℕ) → j < n → f j + g j ≡ h j) → v ≡ added h n t
 added-join f g h n t u v e w s = w ∙ ap (added g n) e ∙ added-both f g n t ∙ added-same _ h n t s
 
 -- f from number m on: nothing before, and all of f from there
@@ -131,7 +140,8 @@ late-join f m n t h =
     rw e at (late-on f m t (n - m))
 
 -- two numbers more
-pub two-added : (f : ℕ → ℕ) (n : ℕ) (t u : List ℕ) (x y : ℕ) → u ≡ added f n t → x ≡ f n → y ≡ f (n + 1) → twoMore u n x y ≡ added f (n + 2) t
+pub two-added : (f : ℕ → ℕ) (n : ℕ) (t u : List ℕ) (x y : ℕ) → u ≡ added f n t → x ≡ f n → y ≡ f (n + 1)
+    → twoMore u n x y ≡ added f (n + 2) t
 unfolding twoMore
 two-added f n t u x y e ex ey =
     let last : n + 1 + 1 ≡ n + 2 = omega arith in
@@ -140,7 +150,8 @@ two-added f n t u x y e ex ey =
 pub two-most : (u : List ℕ) (j x y m z : ℕ) → AtMost m u → x ≤ z → y ≤ z → AtMost (m + z) (twoMore u j x y)
 unfolding twoMore
 two-most u j x y m z a hx hy i =
-    let first : (k : ℕ) → getD (set u j (getD u j 0 + x)) k 0 ≤ m + z = λ k. set-le u j _ k (m + z) (omega (arith, a k)) (omega (arith, a j)) in
+    let first : (k : ℕ) → getD (set u j (getD u j 0 + x)) k 0 ≤ m + z =
+    λ k. set-le u j _ k (m + z) (omega (arith, a k)) (omega (arith, a j)) in
     set-le (set u j (getD u j 0 + x)) (j + 1) _ i (m + z) (first i)
     (omega (arith, getD-set-other u j (j + 1) (getD u j 0 + x) 0 (λ e. omega arith), a (j + 1)))
 
@@ -163,7 +174,8 @@ module _ (c : ℕ → Cell) (k s : ℕ) (h : s < 5) where
       rw (ne-eqb _ _ odd, projection, year)
 
 -- what holds of every number of the table
-pub amount-each : (P : ℕ → Type 0) (c : ℕ → Cell) (j : ℕ) → P (premiumBy (c (j % 10 / 2)) (j / 10)) → P (claimsBy (c (j % 10 / 2)) (j / 10)) → P (amountBy c j)
+pub amount-each : (P : ℕ → Type 0) (c : ℕ → Cell) (j : ℕ) → P (premiumBy (c (j % 10 / 2)) (j / 10))
+    → P (claimsBy (c (j % 10 / 2)) (j / 10)) → P (amountBy c j)
 unfolding amountBy
 amount-each P c j p q = by (eqb (j % 2) 0)
   where
@@ -171,12 +183,15 @@ amount-each P c j p q = by (eqb (j % 2) 0)
     by true = p
     by false = q
 
--- after one addition every number but its own is as it was, and has room
-pub capacity : (t u : List ℕ) (j i x y : ℕ) → u ≡ oneMore t j x → (i ≡ j → ⊥) → AtMost 4000000000000000 t → y ≤ 1000000000000 → getD u i 0 + y < 2 ^ 64
-capacity t u j i x y e o h l = omega (arith, ap (λ (v : List ℕ). getD v i 0) e, getD-set-other t j i (getD t j 0 + x) 0 o, h i)
+-- after one addition every number but its own is as it was, and has space
+pub capacity : (t u : List ℕ) (j i x y : ℕ) → u ≡ oneMore t j x → (i ≡ j → ⊥) → AtMost 4000000000000000 t
+    → y ≤ 1000000000000 → getD u i 0 + y < 2 ^ 64
+capacity t u j i x y e o h l =
+    omega (arith, ap (λ (v : List ℕ). getD v i 0) e, getD-set-other t j i (getD t j 0 + x) 0 o, h i)
 
 -- two additions
-pub both : (t u v : List ℕ) (j x y p q : ℕ) → u ≡ oneMore t j x → v ≡ oneMore u (j + 1) y → x ≡ p → y ≡ q → v ≡ twoMore t j p q
+pub both : (t u v : List ℕ) (j x y p q : ℕ) → u ≡ oneMore t j x → v ≡ oneMore u (j + 1) y → x ≡ p → y ≡ q
+    → v ≡ twoMore t j p q
 unfolding twoMore
 both t u v j x y p q e f g h = rw (f, e, g, h)
 
@@ -184,8 +199,10 @@ both t u v j x y p q e f g h = rw (f, e, g, h)
 pub from-start : (f : ℕ → ℕ) (n : ℕ) (u v : List ℕ) → v ≡ added (late 0 f) n u → v ≡ added f n u
 from-start f n u v e = e ∙ added-same (late 0 f) f n u (λ j l. late-high 0 f j (omega arith))
 
-pub joined : (f : ℕ → ℕ) (m n : ℕ) (u v w : List ℕ) → m ≤ n → v ≡ added (late 0 f) (10 * m) u → w ≡ added (late (10 * m) f) (10 * n) v
+pub joined : (f : ℕ → ℕ) (m n : ℕ) (u v w : List ℕ) → m ≤ n → v ≡ added (late 0 f) (10 * m) u
+    → w ≡ added (late (10 * m) f) (10 * n) v
     → w ≡ added (late 0 f) (10 * n) u
 joined f m n u v w h ev ew =
     ew ∙ ap (added (late (10 * m) f) (10 * n)) (from-start f (10 * m) u v ev)
-    ∙ late-join f (10 * m) (10 * n) u (omega arith) ∙ added-same f (late 0 f) (10 * n) u (λ j l. sym (late-high 0 f j (omega arith)))
+    ∙ late-join f (10 * m) (10 * n) u (omega arith) ∙ added-same f (late 0 f) (10 * n) u
+    (λ j l. sym (late-high 0 f j (omega arith)))

@@ -1,4 +1,4 @@
--- Where a cell's walk ends (W-203).
+-- Where a cell's projection ends (W-203).
 use mathlib.Core.Bool.{cond}
 use mathlib.Core.Path.{_≡_}
 use Prim.Native.Nat.{ℕ, zero, suc, _+_, _-_}
@@ -11,7 +11,8 @@ unfoldable pub firstZero : (ℕ → ℕ) → ℕ → ℕ → ℕ
 firstZero f k zero = k
 firstZero f k (suc left) = cond (eqb (f k) 0) k (firstZero f (k + 1) left)
 
--- how many years a walk of the cell reckons: the first k below 50 with nothing in force, or 50 where there is none
+-- how many years a projection of the cell computes: the first k below 50 with nothing in force, or 50 where there is
+-- none
 unfoldable pub yearsInForce : Cell → ℕ
 yearsInForce c = firstZero (inForce rounded c) 0 50
 

@@ -1,4 +1,5 @@
--- The states of a cell in the five projections side by side: those of settings 0 to 4, which serve the other settings too.
+-- The states of a cell in the five projections side by side: those of settings 0 to 4, which serve the other settings
+-- too.
 use mathlib.Core.List.{List}
 use Prim.Native.Nat.{ℕ, _+_, _*_, _<_}
 use Rattle.cell.specs.declared.Cell.{Cell}
@@ -51,7 +52,9 @@ yearMore t setting k c u = twoMore u (10 * k + 2 * setting) (premiumIn t c) (cla
 -- the same for all five
 unfoldable pub tenMore : List ℕ → ℕ → Five → List ℕ → List ℕ
 tenMore t k c u =
-    yearMore t 4 k (c .«lapse_down») (yearMore t 3 k (c .«lapse_up») (yearMore t 2 k (c .«mortality_down») (yearMore t 1 k (c .«mortality_up») (yearMore t 0 k (c .base) u))))
+    yearMore t 4 k (c .«lapse_down»)
+    (yearMore t 3 k (c .«lapse_up»)
+    (yearMore t 2 k (c .«mortality_down») (yearMore t 1 k (c .«mortality_up») (yearMore t 0 k (c .base) u))))
 
 -- x more at the place of each projection's premium in year 0, and y more at that of its claims
 unfoldable pub fiveTimesMore : List ℕ → ℕ → ℕ → List ℕ

@@ -1,4 +1,5 @@
--- What the walk of a cell makes of a table, in one projection and in all five, and how many years it reckons in each.
+-- What the projection of a cell makes of a table, in one projection and in all five, and how many years it computes in
+-- each.
 use mathlib.Core.List.{List}
 use mathlib.Core.Path.{_≡_}
 use Prim.Native.Nat.{ℕ, _*_, _<_, _≤_}
@@ -11,12 +12,14 @@ use Rattle.cell_projection.specs.declared.Counts.{Counts}
 use Rattle.cell_projection.specs.declared.Five.{Five}
 use Rattle.cell_projection.specs.declared.Stop.{Stop}
 
--- projection s of the cell that starts at row r of the table t with n contracts has come to year m, with something in force in all years before
+-- projection s of the cell that starts at row r of the table t with n contracts has come to year m, with something in
+-- force in all years before
 pub record ReachedIn (t : List ℕ) (r n s m : ℕ) (c : Cell) : Type 0 where
   pub state : c ≡ stateIn t r n s m
   pub going : Going (cellIn t r n s) m
 
--- from there on it makes this of the table u, up to its own first year with nothing in force: so many years it then has in all
+-- from there on it makes this of the table u, up to its own first year with nothing in force: so many years it then has
+-- in all
 pub record ProjectedIn (t : List ℕ) (r n s m years : ℕ) (u v : List ℕ) : Type 0 where
   pub sums : v ≡ added (sumWithin (amountBy (cellIn t r n)) s m 50) 500 u
   pub years-are : years ≡ yearsInForce (cellIn t r n s)

@@ -1,4 +1,5 @@
--- A table of five hundred numbers: for each of the fifty years ten, for each of the five projections premium and claims. What is added to one.
+-- A table of five hundred numbers: for each of the fifty years ten, for each of the five projections premium and
+-- claims. What is added to one.
 use mathlib.Core.Bool.{cond}
 use mathlib.Core.List.{List, [], _∷_}
 use mathlib.Core.Logic.{_⊎_}

@@ -1,5 +1,7 @@
-// The walk of a cell through the fifty years, in the five projections that serve all settings: those of settings 0 to 4. Each ends at its own first
-// year with nothing in force and hands back its years.
+// The projection of a cell through the fifty years, in the five projections that serve all
+// settings:
+// those of settings 0 to 4. Each ends at its own first year with nothing in force and returns
+// its years.
 // Internal: the functions ask for rows as `rows` reads them from an accepted book.
 ghost use mathlib.Core.Bool.{true};
 ghost use mathlib.Core.Path.{_≡_};
@@ -8,68 +10,93 @@ ghost use lib.ListN.{getD, set};
 ghost use Rattle.settings.specs.Settings.{columnsOf, fiveColumns};
 ghost use Rattle.cell.specs.States.{cellIn, premiumIn, claimsIn, nextYear, Ready, Projectable};
 ghost use Rattle.cell_projection.specs.Tables.{amountBy, added, chosen, AtMost, twoMore};
-ghost use Rattle.cell_projection.specs.Five.{FiveReady, startOf, nextFive, tenMore, fiveTimesMore, LeastInForce};
-ghost use Rattle.cell_projection.specs.Projected.{ReachedIn, ProjectedIn, Reached, ProjectedTo, Projected};
+ghost use Rattle.cell_projection.specs.Five.{FiveReady, startOf, nextFive, tenMore};
+ghost use Rattle.cell_projection.specs.Five.{fiveTimesMore, LeastInForce};
+ghost use Rattle.cell_projection.specs.Projected.{ReachedIn, ProjectedIn, Reached};
+ghost use Rattle.cell_projection.specs.Projected.{ProjectedTo, Projected};
 use cell::Cell;
+use rate_table::RateTable;
 use settings::Columns;
 use settings::FiveColumns;
 
 // In place of a projection: all five.
 pub const ALL: usize = 5;
 
+// For each of the fifty years premium and claims of the five projections.
+pub const YEARS: usize = 50;
+
+pub const A_YEAR: usize = 10;
+
+pub type YearSums = [u64; YEARS * A_YEAR];
+
 // Adds x to number j of the table.
-fn add_at(sums: &mut [u64; 500], j: usize, x: u64)
-    requires { ⌜ (j < 500) × (getD (now sums) j 0 + x < 2 ^ 64) ⌝ }
-    ensures { λ _. ⌜ now (sums .exit) ≡ set (now (sums .entry)) j (getD (now (sums .entry)) j 0 + x) ⌝ }
+fn add_at(sums: &mut YearSums, j: usize, x: u64)
+    requires { ⌜ (j < 500)
+        × (getD (now sums) j 0 + x < 2 ^ 64) ⌝ }
+    ensures { λ _. ⌜ now (sums .exit) ≡ set (now (sums .entry)) j (getD (now (sums .entry)) j 0 + x)
+        ⌝ }
 {
     sums[j] = sums[j] + x;
 }
 
-// Adds premium and claims of a cell in year k of a projection, and hands back its state a year later.
+// Adds premium and claims of a cell in year k of a projection, and returns its state a year
+// later.
 fn one_year(
-    rows: &[u64; 2720],
+    rows: &RateTable,
     cell: Cell,
     columns: Columns,
     setting: usize,
     k: usize,
-    sums: &mut [u64; 500],
+    sums: &mut YearSums,
 ) -> Cell
-    requires { ⌜ Ready (now rows) cell × (setting < 5) × (k < 50) × AtMost 4000000000000000 (now sums) × (columns ≡ columnsOf setting) ⌝ }
+    requires { ⌜ Ready (now rows) cell
+        × (setting < 5)
+        × (k < 50)
+        × AtMost 4000000000000000 (now sums)
+        × (columns ≡ columnsOf setting) ⌝ }
     ensures { λ r. ⌜ (r ≡ nextYear (now (rows .entry)) setting k cell)
-        × (now (sums .exit) ≡ twoMore (now (sums .entry)) (10 * k + 2 * setting) (premiumIn (now (rows .entry)) cell) (claimsIn (now (rows .entry)) cell)) ⌝ }
+        × (now (sums .exit) ≡ twoMore (now (sums .entry)) (10 * k + 2 * setting)
+        (premiumIn (now (rows .entry)) cell) (claimsIn (now (rows .entry)) cell)) ⌝ }
 {
-    let j = 10 * k + 2 * setting;
+    let j = A_YEAR * k + 2 * setting;
     add_at(sums, j, cell.premium(rows));
     add_at(sums, j + 1, cell.claims(rows));
     cell.next_year(rows, columns, k)
 }
 
-// The years from k on of one projection of the cell that starts at the row `own` with `count` contracts, until nothing is in force. Hands back how
-// many years the projection has in all.
+// The years from k on of one projection of the cell that starts at the row `own` with `count`
+// contracts, until nothing is in force. Returns how many years the projection has in all.
 fn alone(
-    rows: &[u64; 2720],
+    rows: &RateTable,
     own: usize,
     count: u64,
     columns: Columns,
     setting: usize,
     start: Cell,
     from: usize,
-    sums: &mut [u64; 500],
+    sums: &mut YearSums,
 ) -> usize
-    requires { ⌜ Projectable (now rows) own count × (setting < 5) × (from ≤ 50) × ReachedIn (now rows) own count setting from start
-        × AtMost 3000000000000000 (now sums) × (columns ≡ columnsOf setting) ⌝ }
-    ensures { λ years. ⌜ ProjectedIn (now (rows .entry)) own count setting from years (now (sums .entry)) (now (sums .exit)) ⌝ }
+    requires { ⌜ Projectable (now rows) own count
+        × (setting < 5)
+        × (from ≤ 50)
+        × ReachedIn (now rows) own count setting from start
+        × AtMost 3000000000000000 (now sums)
+        × (columns ≡ columnsOf setting) ⌝ }
+    ensures { λ years.
+        ⌜ ProjectedIn (now (rows .entry)) own count setting from years (now (sums .entry))
+        (now (sums .exit)) ⌝ }
 {
     let mut cell = start;
     let mut k = from;
-    while k < 50 && 0 < cell.inforce {
+    while k < YEARS && 0 < cell.inforce {
         cell = one_year(rows, cell, columns, setting, k, sums);
         k += 1;
     }
     k
 }
 
-// A cell in one year of the five projections: of the base, with more and fewer deaths, with more and fewer lapses.
+// A cell in one year of the five projections: of the base, with more and fewer deaths, with more
+// and fewer lapses.
 pub struct Five {
     pub base: Cell,
     pub mortality_up: Cell,
@@ -79,15 +106,13 @@ pub struct Five {
 }
 
 // One year of all five. None waits for another.
-fn year(
-    rows: &[u64; 2720],
-    cells: Five,
-    columns: FiveColumns,
-    k: usize,
-    sums: &mut [u64; 500],
-) -> Five
-    requires { ⌜ FiveReady (now rows) cells × (k < 50) × AtMost 3000000000000000 (now sums) × (columns ≡ fiveColumns) ⌝ }
-    ensures { λ r. ⌜ (r ≡ nextFive (now (rows .entry)) k cells) × (now (sums .exit) ≡ tenMore (now (rows .entry)) k cells (now (sums .entry))) ⌝ }
+fn year(rows: &RateTable, cells: Five, columns: FiveColumns, k: usize, sums: &mut YearSums) -> Five
+    requires { ⌜ FiveReady (now rows) cells
+        × (k < 50)
+        × AtMost 3000000000000000 (now sums)
+        × (columns ≡ fiveColumns) ⌝ }
+    ensures { λ r. ⌜ (r ≡ nextFive (now (rows .entry)) k cells)
+        × (now (sums .exit) ≡ tenMore (now (rows .entry)) k cells (now (sums .entry))) ⌝ }
 {
     let base = one_year(rows, cells.base, columns.base, 0, k, sums);
     let mortality_up = one_year(rows, cells.mortality_up, columns.mortality_up, 1, k, sums);
@@ -111,8 +136,11 @@ fn year(
 }
 
 // Adds x to number j of the table, and y to the next.
-fn add_two(sums: &mut [u64; 500], j: usize, x: u64, y: u64)
-    requires { ⌜ (j < 499) × (x ≤ 1000000000000) × (y ≤ 1000000000000) × AtMost 4000000000000000 (now sums) ⌝ }
+fn add_two(sums: &mut YearSums, j: usize, x: u64, y: u64)
+    requires { ⌜ (j < 499)
+        × (x ≤ 1000000000000)
+        × (y ≤ 1000000000000)
+        × AtMost 4000000000000000 (now sums) ⌝ }
     ensures { λ _. ⌜ now (sums .exit) ≡ twoMore (now (sums .entry)) j x y ⌝ }
 {
     add_at(sums, j, x);
@@ -120,8 +148,10 @@ fn add_two(sums: &mut [u64; 500], j: usize, x: u64, y: u64)
 }
 
 // Adds premium and claims to year 0 of each of the five.
-fn add_year_0(sums: &mut [u64; 500], premium: u64, claims: u64)
-    requires { ⌜ (premium ≤ 1000000000000) × (claims ≤ 1000000000000) × AtMost 2000000000000000 (now sums) ⌝ }
+fn add_year_0(sums: &mut YearSums, premium: u64, claims: u64)
+    requires { ⌜ (premium ≤ 1000000000000)
+        × (claims ≤ 1000000000000)
+        × AtMost 2000000000000000 (now sums) ⌝ }
     ensures { λ _. ⌜ now (sums .exit) ≡ fiveTimesMore (now (sums .entry)) premium claims ⌝ }
 {
     add_two(sums, 0, premium, claims);
@@ -131,18 +161,21 @@ fn add_year_0(sums: &mut [u64; 500], premium: u64, claims: u64)
     add_two(sums, 8, premium, claims);
 }
 
-// Year 0 of all five. A whole number of contracts is in force, so premium and claims are so many times those of one: no
-// share of them is taken.
+// Year 0 of all five. A whole number of contracts is in force, so premium and claims are so many
+// times those of one: no share of them is taken.
 fn year_0(
-    rows: &[u64; 2720],
+    rows: &RateTable,
     own: usize,
     count: u64,
     columns: FiveColumns,
-    sums: &mut [u64; 500],
+    sums: &mut YearSums,
 ) -> Five
-    requires { ⌜ Projectable (now rows) own count × AtMost 2000000000000000 (now sums) × (columns ≡ fiveColumns) ⌝ }
+    requires { ⌜ Projectable (now rows) own count
+        × AtMost 2000000000000000 (now sums)
+        × (columns ≡ fiveColumns) ⌝ }
     ensures { λ r. ⌜ (r ≡ nextFive (now (rows .entry)) 0 (startOf own count))
-        × (now (sums .exit) ≡ tenMore (now (rows .entry)) 0 (startOf own count) (now (sums .entry))) ⌝ }
+        × (now (sums .exit) ≡ tenMore (now (rows .entry)) 0 (startOf own count) (now (sums .entry)))
+        ⌝ }
 {
     let premium = count * rows[16 * own + 6 + 8];
     let claims = count * rows[16 * own + 7 + 8];
@@ -162,7 +195,8 @@ fn year_0(
     }
 }
 
-// Whether something is in force in the two that leave the least, with more deaths and with more lapses: then it is in all.
+// Whether something is in force in the two that leave the least, with more deaths and with more
+// lapses: then it is in all.
 fn all(cells: Five) -> bool
     ensures { λ r. ⌜ (r ≡ true → LeastInForce cells) ⌝ }
 {
@@ -175,21 +209,26 @@ pub struct Stop {
     pub cells: Five,
 }
 
-// The years of all five side by side, from one to before another, while all have something in force. The cell starts at the row `own` with `count`
-// contracts.
+// The years of all five side by side, from one to before another, while all have something in
+// force. The cell starts at the row `own` with `count` contracts.
 fn together(
-    rows: &[u64; 2720],
+    rows: &RateTable,
     own: usize,
     count: u64,
     columns: FiveColumns,
     start: Five,
     from: usize,
     to: usize,
-    sums: &mut [u64; 500],
+    sums: &mut YearSums,
 ) -> Stop
-    requires { ⌜ Projectable (now rows) own count × (from ≤ to) × (to ≤ 50) × Reached (now rows) own count from start × AtMost 2500000000000000 (now sums)
+    requires { ⌜ Projectable (now rows) own count
+        × (from ≤ to)
+        × (to ≤ 50)
+        × Reached (now rows) own count from start
+        × AtMost 2500000000000000 (now sums)
         × (columns ≡ fiveColumns) ⌝ }
-    ensures { λ r. ⌜ ProjectedTo (now (rows .entry)) own count from to r (now (sums .entry)) (now (sums .exit)) ⌝ }
+    ensures { λ r. ⌜ ProjectedTo (now (rows .entry)) own count from to r (now (sums .entry))
+        (now (sums .exit)) ⌝ }
 {
     let mut cells = start;
     let mut k = from;
@@ -200,17 +239,20 @@ fn together(
     Stop { k, cells }
 }
 
-// The same from year 0 on, which has a rule of its own. The first five years have a loop of their own: in the later ones
-// one set of weights holds.
+// The same from year 0 on, which has a rule of its own. The first five years have a loop of their
+// own: in the later ones one set of weights holds.
 fn side_by_side(
-    rows: &[u64; 2720],
+    rows: &RateTable,
     own: usize,
     count: u64,
     columns: FiveColumns,
-    sums: &mut [u64; 500],
+    sums: &mut YearSums,
 ) -> Stop
-    requires { ⌜ Projectable (now rows) own count × AtMost 2000000000000000 (now sums) × (columns ≡ fiveColumns) ⌝ }
-    ensures { λ r. ⌜ ProjectedTo (now (rows .entry)) own count 0 50 r (now (sums .entry)) (now (sums .exit)) ⌝ }
+    requires { ⌜ Projectable (now rows) own count
+        × AtMost 2000000000000000 (now sums)
+        × (columns ≡ fiveColumns) ⌝ }
+    ensures { λ r. ⌜ ProjectedTo (now (rows .entry)) own count 0 50 r (now (sums .entry))
+        (now (sums .exit)) ⌝ }
 {
     let cell = Cell::new(own, count);
     let start = Five {
@@ -226,7 +268,7 @@ fn side_by_side(
     let next = year_0(rows, own, count, columns, sums);
     let mut stop = together(rows, own, count, columns, next, 1, 5, sums);
     if stop.k == 5 {
-        stop = together(rows, own, count, columns, stop.cells, 5, 50, sums);
+        stop = together(rows, own, count, columns, stop.cells, 5, YEARS, sums);
     }
     stop
 }
@@ -240,16 +282,20 @@ pub struct Counts {
     pub lapse_down: usize,
 }
 
-// The walk of the cell that starts at the row `own` with `count` contracts: all five side by side, and then each alone.
+// The projection of the cell that starts at the row `own` with `count` contracts: all five side by
+// side, and then each alone.
 pub fn project(
-    rows: &[u64; 2720],
+    rows: &RateTable,
     own: usize,
     count: u64,
     columns: FiveColumns,
-    sums: &mut [u64; 500],
+    sums: &mut YearSums,
 ) -> Counts
-    requires { ⌜ Projectable (now rows) own count × AtMost 2000000000000000 (now sums) × (columns ≡ fiveColumns) ⌝ }
-    ensures { λ r. ⌜ Projected (now (rows .entry)) own count r (now (sums .entry)) (now (sums .exit)) ⌝ }
+    requires { ⌜ Projectable (now rows) own count
+        × AtMost 2000000000000000 (now sums)
+        × (columns ≡ fiveColumns) ⌝ }
+    ensures { λ r. ⌜ Projected (now (rows .entry)) own count r (now (sums .entry))
+        (now (sums .exit)) ⌝ }
 {
     let stop = side_by_side(rows, own, count, columns, sums);
     let k = stop.k;
@@ -304,34 +350,44 @@ pub fn project(
     }
 }
 
-// The walk in one projection.
+// The cell in one projection.
 pub fn project_in(
-    rows: &[u64; 2720],
+    rows: &RateTable,
     own: usize,
     count: u64,
     columns: Columns,
     setting: usize,
-    sums: &mut [u64; 500],
+    sums: &mut YearSums,
 ) -> usize
-    requires { ⌜ Projectable (now rows) own count × (setting < 5) × AtMost 2000000000000000 (now sums) × (columns ≡ columnsOf setting) ⌝ }
-    ensures { λ years. ⌜ ProjectedIn (now (rows .entry)) own count setting 0 years (now (sums .entry)) (now (sums .exit)) ⌝ }
+    requires { ⌜ Projectable (now rows) own count
+        × (setting < 5)
+        × AtMost 2000000000000000 (now sums)
+        × (columns ≡ columnsOf setting) ⌝ }
+    ensures { λ years.
+        ⌜ ProjectedIn (now (rows .entry)) own count setting 0 years (now (sums .entry))
+        (now (sums .exit)) ⌝ }
 {
     let start = Cell::new(own, count);
     alone(rows, own, count, columns, setting, start, 0, sums)
 }
 
-// The walk in one projection, or in all five.
+// The cell in one projection, or in all five.
 pub fn project_by(
-    rows: &[u64; 2720],
+    rows: &RateTable,
     own: usize,
     count: u64,
     five: FiveColumns,
     one: Columns,
     which: usize,
-    sums: &mut [u64; 500],
+    sums: &mut YearSums,
 )
-    requires { ⌜ Projectable (now rows) own count × (which ≤ 5) × AtMost 2000000000000000 (now sums) × (five ≡ fiveColumns) × (which < 5 → one ≡ columnsOf which) ⌝ }
-    ensures { λ _. ⌜ now (sums .exit) ≡ added (chosen which (amountBy (cellIn (now (rows .entry)) own count))) 500 (now (sums .entry)) ⌝ }
+    requires { ⌜ Projectable (now rows) own count
+        × (which ≤ 5)
+        × AtMost 2000000000000000 (now sums)
+        × (five ≡ fiveColumns)
+        × (which < 5 → one ≡ columnsOf which) ⌝ }
+    ensures { λ _. ⌜ now (sums .exit) ≡ added
+        (chosen which (amountBy (cellIn (now (rows .entry)) own count))) 500 (now (sums .entry)) ⌝ }
 {
     if which == ALL {
         project(rows, own, count, five, sums);

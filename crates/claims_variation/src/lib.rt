@@ -1,7 +1,8 @@
 // The spread of yearly claims (FINMA 5.2.4.2): mean and coefficient out of a five-number summary
 // and two sample factors, or what is refused of them.
 ghost use mathlib.Core.Path.{_≡_};
-ghost use Rattle.claims_variation.specs.Refusals.{rising, withinLimit, badFactor, checkSpread};
+ghost use Rattle.claims_variation.specs.Refusals.{rising, withinLimit, badFactor};
+ghost use Rattle.claims_variation.specs.Refusals.{checkSpread};
 ghost use Rattle.claims_variation.specs.Replies.{SpreadContract};
 use claims_estimates::SampleFactors;
 use claims_estimates::Summary;

@@ -17,15 +17,20 @@ pub struct Accounts {
 }
 
 pub fn figure(figures: [u64; 15], year: usize, group: usize) -> u64
-    requires { ⌜ (year < 3) × (group < 5) × Limited figures 15 ⌝ }
-    ensures { λ r. ⌜ (r ≡ figure figures year group) × (r ≤ 1000000000) ⌝ }
+    requires { ⌜ (year < 3)
+        × (group < 5)
+        × Limited figures 15 ⌝ }
+    ensures { λ r. ⌜ (r ≡ figure figures year group)
+        × (r ≤ 1000000000) ⌝ }
 {
     figures[5 * year + group]
 }
 
 pub fn year_sum(figures: [u64; 15], year: usize) -> u64
-    requires { ⌜ (year < 3) × Limited figures 15 ⌝ }
-    ensures { λ r. ⌜ (r ≡ yearSum figures year) × (r ≤ 5000000000) ⌝ }
+    requires { ⌜ (year < 3)
+        × Limited figures 15 ⌝ }
+    ensures { λ r. ⌜ (r ≡ yearSum figures year)
+        × (r ≤ 5000000000) ⌝ }
 {
     figure(figures, year, 0)
         + figure(figures, year, 1)
@@ -35,8 +40,10 @@ pub fn year_sum(figures: [u64; 15], year: usize) -> u64
 }
 
 fn lowered(expenses: [u64; 3], year: usize) -> u64
-    requires { ⌜ (year < 3) × Limited expenses 3 ⌝ }
-    ensures { λ r. ⌜ (r ≡ lowered expenses year) × (r ≤ 950000000) ⌝ }
+    requires { ⌜ (year < 3)
+        × Limited expenses 3 ⌝ }
+    ensures { λ r. ⌜ (r ≡ lowered expenses year)
+        × (r ≤ 950000000) ⌝ }
 {
     expenses[year] * 95 / 100
 }
@@ -46,7 +53,8 @@ fn share(expenses: [u64; 3], split: [u64; 15], year: usize, group: usize) -> u64
     requires { ⌜
         (year < 3) × (group < 5) × Limited expenses 3 × Limited split 15 × (0 < yearSum split year)
         ⌝ }
-    ensures { λ r. ⌜ (r ≡ share expenses split year group) × (r ≤ 950000000) ⌝ }
+    ensures { λ r. ⌜ (r ≡ share expenses split year group)
+        × (r ≤ 950000000) ⌝ }
 {
     lowered(expenses, year) * figure(split, year, group) / year_sum(split, year)
 }
@@ -57,7 +65,8 @@ fn year_rate(accounts: Accounts, year: usize, group: usize) -> u64
     requires { ⌜
         (year < 3) × (group < 5) × Usable accounts × (0 < figure (accounts .premium) year group)
         ⌝ }
-    ensures { λ r. ⌜ (r ≡ yearRate accounts year group) × (r ≤ 1900000000000000) ⌝ }
+    ensures { λ r. ⌜ (r ≡ yearRate accounts year group)
+        × (r ≤ 1900000000000000) ⌝ }
 {
     let expenses = accounts.expenses;
     let stock = accounts.stock;
@@ -68,7 +77,8 @@ fn year_rate(accounts: Accounts, year: usize, group: usize) -> u64
 }
 
 fn none_in(figures: [u64; 15], group: usize) -> bool
-    requires { ⌜ (group < 5) × Limited figures 15 ⌝ }
+    requires { ⌜ (group < 5)
+        × Limited figures 15 ⌝ }
     ensures { λ r. ⌜ r ≡ noneIn figures group ⌝ }
 {
     (figure(figures, 0, group) == 0)
@@ -77,7 +87,8 @@ fn none_in(figures: [u64; 15], group: usize) -> bool
 }
 
 pub fn is_empty(accounts: Accounts, group: usize) -> bool
-    requires { ⌜ (group < 5) × Bounded accounts ⌝ }
+    requires { ⌜ (group < 5)
+        × Bounded accounts ⌝ }
     ensures { λ r. ⌜ r ≡ isEmpty accounts group ⌝ }
 {
     let stock = accounts.stock;
@@ -87,7 +98,8 @@ pub fn is_empty(accounts: Accounts, group: usize) -> bool
 }
 
 fn rate(accounts: Accounts, group: usize) -> u64
-    requires { ⌜ (group < 5) × Usable accounts ⌝ }
+    requires { ⌜ (group < 5)
+        × Usable accounts ⌝ }
     ensures { λ r. ⌜ r ≡ accountsRate accounts group ⌝ }
 {
     if is_empty(accounts, group) {

@@ -6,7 +6,8 @@ ghost use lib.ListN.{length};
 ghost use Rattle.verdict.specs.declared.Verdict.the-variants.{Refused};
 ghost use Rattle.conditions.specs.Every.{every};
 ghost use Rattle.cost_rate_shares.specs.Usable.{Limited, Bounded};
-ghost use Rattle.cost_rates.specs.Refusals.{allAtMost, withinLimits, canSplit, isPaid, canCompute};
+ghost use Rattle.cost_rates.specs.Refusals.{allAtMost, withinLimits, canSplit, isPaid};
+ghost use Rattle.cost_rates.specs.Refusals.{canCompute};
 ghost use Rattle.cost_rates.specs.Replies.{ratesReplyFor, RatesContract};
 use cost_rate_shares::Accounts;
 use cost_rate_shares::figure;
@@ -68,7 +69,8 @@ fn can_split(split: [u64; 15]) -> bool
 
 // An empty group needs no premium, any other needs some in each of the three years.
 fn is_paid(accounts: Accounts, group: usize) -> bool
-    requires { ⌜ (group < 5) × Bounded accounts ⌝ }
+    requires { ⌜ (group < 5)
+        × Bounded accounts ⌝ }
     ensures { λ r. ⌜ r ≡ isPaid accounts group ⌝ }
 {
     let premium = accounts.premium;

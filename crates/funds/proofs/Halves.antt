@@ -1,4 +1,5 @@
--- Laws of the lent numbers and their halves: neither fund bears on the other, and what stands behind the halves stays.
+-- Laws of the caller's numbers and their halves: neither fund bears on the other, and what stands behind the halves
+-- stays.
 -- Assumes nothing.
 use mathlib.Core.Path.{_≡_, refl, sym, ap, _∙_}
 use mathlib.Core.Logic.{⊎-elim}
@@ -15,7 +16,8 @@ use Rattle.verdict.specs.declared.Verdict.the-variants.{Accepted, Refused}
 use Rattle.book.specs.Check.{checkBook}
 use Rattle.valuation.specs.Totals.{totalsOf, totalsFor, totalsReply}
 use Rattle.buffer.proofs.Digits.{le-or-lt}
-use Rattle.funds.specs.Funds.{joinedBook, checkLent, fundReply, halfFor, fundHalf, fundsReply, firstHalf, secondHalf, fundsNumbers, FirstApart, SecondApart}
+use Rattle.funds.specs.Funds.{joinedBook, checkLent, fundReply, halfFor, fundHalf, fundsReply, firstHalf}
+use Rattle.funds.specs.Funds.{secondHalf, fundsNumbers, FirstApart, SecondApart}
 use Rattle.funds.specs.Valued.{FundValued}
 use Rattle.funds.specs.declared.FundsReply.{FundsReply}
 
@@ -28,10 +30,12 @@ module _ (table fund : List ℕ) (at : ℕ) (before : List ℤ) where
   pub fund-refused : (reply : Verdict) → reply ≡ fundReply (length before) table fund
       → ((n : ℕ) → reply ≡ Accepted n → ⊥) → FundValued table fund at before before reply
   unfolding fundHalf
-  fund-refused reply reply-is never = record { reply-is = reply-is; numbers-are = sym (rw (← reply-is) (by reply never)) }
+  fund-refused reply reply-is never =
+      record { reply-is = reply-is; numbers-are = sym (rw (← reply-is) (by reply never)) }
     where
       by : (v : Verdict) → ((n : ℕ) → v ≡ Accepted n → ⊥)
-          → take at before ++ halfFor v (totalsReply (joinedBook table fund) .totals) (take 8 (drop at before)) ++ drop (at + 8) before
+          → take at before ++ halfFor v (totalsReply (joinedBook table fund) .totals) (take 8 (drop at before)) ++ drop
+          (at + 8) before
           ≡ before
       by (Accepted n) never = absurd (never n refl)
       by (Refused q p) never = put-back at before
@@ -43,7 +47,8 @@ module _ (table fund : List ℕ) (at : ℕ) (before : List ℤ) where
   fund-accepted n after reply-is numbers-are = record { reply-is = reply-is; numbers-are = rw (← reply-is) numbers-are }
 
 -- an accepted fund's half is its totals
-pub half-totals : (numbers : ℕ) (table fund : List ℕ) (n : ℕ) (half : List ℤ) → fundReply numbers table fund ≡ Accepted n
+pub half-totals : (numbers : ℕ) (table fund : List ℕ) (n : ℕ) (half : List ℤ)
+    → fundReply numbers table fund ≡ Accepted n
     → fundHalf numbers table fund half ≡ totalsReply (joinedBook table fund) .totals
 unfolding fundHalf
 half-totals numbers table fund n half e = rw e
@@ -116,11 +121,13 @@ module _ (table : List ℕ) (before : List ℤ) where
     unfolding fundsNumbers
     rest-is = drop-both first-after second-after (drop 16 before) first-eight second-eight
 
-    pub first-number : (i : ℕ) → i < 8 → getD (fundsNumbers table first second before) i (pos 0) ≡ getD first-after i (pos 0)
+    pub first-number : (i : ℕ) → i < 8
+        → getD (fundsNumbers table first second before) i (pos 0) ≡ getD first-after i (pos 0)
     unfolding fundsNumbers
     first-number = first-at first-after second-after (drop 16 before) first-eight second-eight
 
-    pub second-number : (i : ℕ) → i < 8 → getD (fundsNumbers table first second before) (8 + i) (pos 0) ≡ getD second-after i (pos 0)
+    pub second-number : (i : ℕ) → i < 8
+        → getD (fundsNumbers table first second before) (8 + i) (pos 0) ≡ getD second-after i (pos 0)
     unfolding fundsNumbers
     second-number = second-at first-after second-after (drop 16 before) first-eight second-eight
 
@@ -139,7 +146,8 @@ module _ (table : List ℕ) (before : List ℤ) where
 
   -- Apart: the second fund's file bears neither on the first's reply nor on its half, and the other way round.
   pub first-apart : (first second other : List ℕ)
-      → FirstApart table first before (fundsNumbers table first second before) (fundsReply (length before) table first second) other
+      → FirstApart table first before (fundsNumbers table first second before)
+      (fundsReply (length before) table first second) other
   unfolding fundsReply
   first-apart first second other = record {
     reply-alike = refl;
@@ -150,7 +158,8 @@ module _ (table : List ℕ) (before : List ℤ) where
   }
 
   pub second-apart : (first second other : List ℕ)
-      → SecondApart table second before (fundsNumbers table first second before) (fundsReply (length before) table first second) other
+      → SecondApart table second before (fundsNumbers table first second before)
+      (fundsReply (length before) table first second) other
   unfolding fundsReply
   second-apart first second other = record {
     reply-alike = refl;
@@ -163,7 +172,8 @@ module _ (table : List ℕ) (before : List ℤ) where
   -- numbers from 16 on are as they were
   pub later-kept : (first second : List ℕ) → drop 16 (fundsNumbers table first second before) ≡ drop 16 before
   later-kept first second =
-      ⊎-elim (λ capacity. rest-is first second capacity) (λ h. ap (drop 16) (short-kept first second h)) (le-or-lt 16 (length before))
+      ⊎-elim (λ capacity. rest-is first second capacity) (λ h. ap (drop 16) (short-kept first second h))
+      (le-or-lt 16 (length before))
 
 -- one fund after the other
 module _ (table first second : List ℕ) (before middle after : List ℤ) (x y : Verdict) (capacity : 16 ≤ length before)

@@ -40,7 +40,7 @@ module _ (table fund : List ℕ) (whole : frontSize ≤ length fund) where
   pub rest-whole : take (length fund - frontSize) (drop frontSize fund) ≡ drop frontSize fund
   rest-whole = take-all (length fund - frontSize) (drop frontSize fund) (omega (arith, length-drop frontSize fund))
 
-  -- written into a buffer with room for it, the joined book is read back
+  -- written into a buffer with space for it, the joined book is read back
   pub read-back : {e x : List ℕ} {r : ℕ} → Wrote e 0 (joinedBook table fund) x r → length fund + length table ≤ length e
       → (r ≤ length x) × (take r x ≡ joinedBook table fund)
   read-back {e} {x} {r} w capacity =
@@ -65,9 +65,10 @@ module _ (table fund : List ℕ) (whole : frontSize ≤ length fund) where
   joined-long long =
       book-long 1 (joinedBook table fund) (omega (arith, joined-length))
       ∙ rw joined-length
-      (header-same (joinedBook table fund) fund (λ p lo hi. joined-front p lo (omega arith)) 1 (length fund + length table))
+      (header-same (joinedBook table fund) fund (λ p lo hi. joined-front p lo (omega arith)) 1
+      (length fund + length table))
 
--- what Totals tells of a book is what the check says of it
+-- what Totals names a book is what the check says of it
 zero-accepts-checked : (b : List ℕ) → verdictIn (totalsReply b) ≡ checkBook 1 b
 unfolding totalsReply
 zero-accepts-checked b = by (checkBook 1 b) refl
@@ -79,7 +80,8 @@ zero-accepts-checked b = by (checkBook 1 b) refl
         rw (ne-eqb q 0 (λ z. never-accepted (sym e ∙ zero-accepted 1 b (rw e z))))
 
 -- an accepted reply of Totals
-pub zero-accepts-accepted : (reply : TotalsReply) (n : ℕ) → verdictIn reply ≡ Accepted n → (reply .refusal ≡ 0) × (reply .n ≡ n)
+pub zero-accepts-accepted : (reply : TotalsReply) (n : ℕ) → verdictIn reply ≡ Accepted n → (reply .refusal ≡ 0)
+    × (reply .n ≡ n)
 zero-accepts-accepted reply n = by (eqb (reply .refusal) 0) refl
   where
     by : (t : Bool) → eqb (reply .refusal) 0 ≡ t
@@ -103,7 +105,8 @@ arguments-bad numbers table fund q p e = rw e
 -- As-checked: after the tests of its own, a fund's reply is what the check says of its joined book.
 pub as-checked : (numbers : ℕ) (table fund : List ℕ)
     → fundReply numbers table fund
-    ≡ (checkLent numbers table andThen need (leb frontSize (length fund)) 1 (length fund) andThen checkBook 1 (joinedBook table fund))
+    ≡ (checkLent numbers table andThen need (leb frontSize (length fund)) 1 (length fund) andThen checkBook 1
+    (joinedBook table fund))
 unfolding fundReply
 as-checked numbers table fund = rw (zero-accepts-checked (joinedBook table fund))
 
@@ -112,7 +115,9 @@ pub fund-told : (numbers : ℕ) (table fund : List ℕ) → ZeroAccepts (fundRep
 unfolding ZeroAccepts checkLent
 fund-told numbers table fund =
     rw (as-checked numbers table fund)
-    (zero-accepts-then _ _ (zero-accepts-then _ _ (zero-accepts-then _ _ (zero-accepts-need _ 15 0) (zero-accepts-need _ 23 0)) (zero-accepts-need _ 0 _))
+    (zero-accepts-then _ _
+    (zero-accepts-then _ _ (zero-accepts-then _ _ (zero-accepts-need _ 15 0) (zero-accepts-need _ 23 0))
+    (zero-accepts-need _ 0 _))
     (zero-accepted 1 (joinedBook table fund)))
 
 -- a fund's reply where the buffer and the table file are as they should be
@@ -121,7 +126,8 @@ module _ (numbers : ℕ) (table fund : List ℕ) (capacity : 16 ≤ numbers) (si
   unfolding fundReply checkLent need _andThen_
   reply-short h = rw (le-leb _ _ capacity, eq-eqb _ _ sized, lt-leb _ _ h)
 
-  pub reply-joined : frontSize ≤ length fund → fundReply numbers table fund ≡ verdictIn (totalsReply (joinedBook table fund))
+  pub reply-joined : frontSize ≤ length fund
+      → fundReply numbers table fund ≡ verdictIn (totalsReply (joinedBook table fund))
   unfolding fundReply checkLent need _andThen_
   reply-joined h = rw (le-leb _ _ capacity, eq-eqb _ _ sized, le-leb _ _ h)
 
@@ -129,7 +135,8 @@ module _ (numbers : ℕ) (table fund : List ℕ) (capacity : 16 ≤ numbers) (si
   pub reply-long : frontSize ≤ length fund → mostSize < length fund + tableSize
       → fundReply numbers table fund ≡ checkHeader 1 (length fund + tableSize) fund
   reply-long h long =
-      reply-joined h ∙ zero-accepts-checked (joinedBook table fund) ∙ rw (← sized) (joined-long table fund h (omega arith))
+      reply-joined h ∙ zero-accepts-checked (joinedBook table fund) ∙ rw (← sized)
+      (joined-long table fund h (omega arith))
 
   -- and is not accepted
   pub never-long : mostSize < length fund + tableSize → (n : ℕ) → fundReply numbers table fund ≡ Accepted n → ⊥

@@ -1,5 +1,5 @@
 -- Two funds on the same tables (W-208): the book that a fund file and the table file make together, each fund's reply
--- and half, and the lent numbers afterwards. What is said of a joined book is what Totals says of it.
+-- and half, and the caller's numbers afterwards. What is said of a joined book is what Totals says of it.
 use mathlib.Core.Bool.{cond}
 use Prim.Native.Nat.{ℕ, _+_, _-_, _<_}
 use mathlib.Core.Path.{_≡_}
@@ -29,18 +29,18 @@ tableSize = headerSize - curvePlace
 unfoldable pub joinedBook : List ℕ → List ℕ → List ℕ
 joinedBook table fund = take frontSize fund ++ table ++ drop frontSize fund
 
--- what a reply of Totals tells: n, or the refusal
+-- what a reply of Totals says: n, or the refusal
 abbrev pub verdictIn : TotalsReply → Verdict
 verdictIn reply = cond (eqb (reply .refusal) 0) (Accepted (reply .n)) (Refused (reply .refusal) (reply .place))
 
--- for both funds, where so many numbers are lent: 16 under 16 of them, 24 a table file of another size
+-- for both funds, where so many numbers are passed: 16 under 16 of them, 24 a table file of another size
 unfoldable pub checkLent : ℕ → List ℕ → Verdict
 checkLent numbers table =
     need (leb 16 numbers) 16 0 andThen
     need (eqb (length table) tableSize) 24 0
 
 -- A fund's reply: that; 1 where its file ends before the records begin (place: the file's own length); then what Totals
--- tells of its joined book.
+-- names its joined book.
 unfoldable pub fundReply : ℕ → List ℕ → List ℕ → Verdict
 fundReply numbers table fund =
     checkLent numbers table andThen
@@ -63,32 +63,34 @@ fundsReply numbers table first second = record {
   second = fundReply numbers table second;
 }
 
--- the halves of the lent numbers: 0 to 7, and 8 to 15
+-- the halves of the caller's numbers: 0 to 7, and 8 to 15
 abbrev pub firstHalf : List ℤ → List ℤ
 firstHalf numbers = take 8 numbers
 
 abbrev pub secondHalf : List ℤ → List ℤ
 secondHalf numbers = take 8 (drop 8 numbers)
 
--- the lent numbers afterwards: each fund's half, then what stood there
+-- the caller's numbers afterwards: each fund's half, then what stood there
 unfoldable pub fundsNumbers : List ℕ → List ℕ → List ℕ → List ℤ → List ℤ
 fundsNumbers table first second before =
     fundHalf (length before) table first (firstHalf before) ++
     fundHalf (length before) table second (secondHalf before) ++
     drop 16 before
 
--- Neither fund bears on the other: with whatever other file in its place, and the same table file and lent numbers, the
--- call gives this fund the reply and the half that it gave.
-pub record FirstApart (table first : List ℕ) (before after : List ℤ) (reply : FundsReply) (other : List ℕ) : Type 0 where
+-- Neither fund bears on the other: with whatever other file in its place, and the same table file and caller's numbers,
+-- the call gives this fund the reply and the half that it gave.
+pub record FirstApart (table first : List ℕ) (before after : List ℤ) (reply : FundsReply) (other : List ℕ) : Type
+    0 where
   pub reply-alike : reply .first ≡ fundsReply (length before) table first other .first
   pub half-alike : firstHalf after ≡ firstHalf (fundsNumbers table first other before)
 
-pub record SecondApart (table second : List ℕ) (before after : List ℤ) (reply : FundsReply) (other : List ℕ) : Type 0 where
+pub record SecondApart (table second : List ℕ) (before after : List ℤ) (reply : FundsReply) (other : List ℕ) : Type
+    0 where
   pub reply-alike : reply .second ≡ fundsReply (length before) table other second .second
   pub half-alike : secondHalf after ≡ secondHalf (fundsNumbers table other second before)
 
--- What the call promises: replies and lent numbers equal their definitions; neither fund's reply and half depend on the
--- other's file; and, for each fund whose reply has no refusal, demand 3.
+-- What the call promises: replies and caller's numbers equal their definitions; neither fund's reply and half depend on
+-- the other's file; and, for each fund whose reply has no refusal, demand 3.
 pub record FundsContract (table first second : List ℕ) (before after : List ℤ) (reply : FundsReply) : Type 0 where
   pub reply-is : reply ≡ fundsReply (length before) table first second
   pub numbers-are : after ≡ fundsNumbers table first second before

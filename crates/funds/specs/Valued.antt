@@ -1,4 +1,4 @@
--- What reckoning one fund gives: its reply, and the lent numbers with its half from a place on.
+-- What valuing one fund gives: its reply, and the caller's numbers with its half from a place on.
 use Prim.Native.Nat.{ℕ, _+_}
 use mathlib.Core.Path.{_≡_}
 use mathlib.Core.List.{List, _++_}

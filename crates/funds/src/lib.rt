@@ -1,6 +1,7 @@
-// The call for two funds on the same tables: both replies, and both funds' eight totals in a lent buffer.
-// A fund is reckoned as the book that its file and the table file make together; neither fund's refusal holds back the
-// other.
+// The call for two funds on the same tables: both replies, and both funds' eight totals in the
+// caller's buffer.
+// A fund is computed as the book that its file and the table file make together; neither fund's
+// refusal holds back the other.
 ghost use mathlib.Core.Path.{_≡_};
 ghost use mathlib.Core.List.{_++_};
 ghost use Prim.Native.Nat.{_+_, _≤_};
@@ -8,7 +9,8 @@ ghost use lib.ListN.{length, take, drop};
 ghost use Rattle.book.specs.Layout.{mostSize};
 ghost use Rattle.valuation.specs.Totals.{TotalsContract};
 ghost use Rattle.buffer.specs.Text.{Wrote};
-ghost use Rattle.funds.specs.Funds.{frontSize, tableSize, joinedBook, checkLent, FundsContract};
+ghost use Rattle.funds.specs.Funds.{frontSize, tableSize, joinedBook, checkLent};
+ghost use Rattle.funds.specs.Funds.{FundsContract};
 ghost use Rattle.funds.specs.Valued.{FundValued};
 use book::CURVE_PLACE;
 use book::HEADER_SIZE;
@@ -29,11 +31,11 @@ pub struct FundsReply {
     pub second: Verdict,
 }
 
-// Writes a fund's joined book from the start of a lent buffer, and answers its length.
+// Writes a fund's joined book from the start of the caller's buffer, and answers its length.
 fn join(book: &mut [u8], table: &[u8], fund: &[u8]) -> usize
     requires { ⌜ frontSize ≤ length (now fund) ⌝ }
-    ensures { λ r. ⌜ Wrote (now (book .entry)) 0 (joinedBook (now (table .entry)) (now (fund .entry)))
-        (now (book .exit)) r ⌝ }
+    ensures { λ r. ⌜ Wrote (now (book .entry)) 0
+        (joinedBook (now (table .entry)) (now (fund .entry))) (now (book .exit)) r ⌝ }
 {
     let table_at = put_bytes(book, 0, &fund[..FRONT_SIZE]);
     let records_at = put_bytes(book, table_at, table);
@@ -42,7 +44,8 @@ fn join(book: &mut [u8], table: &[u8], fund: &[u8]) -> usize
 
 // Totals of a fund's joined book, where it is no longer than a book can be.
 fn joined_totals(table: &[u8], fund: &[u8]) -> TotalsReply
-    requires { ⌜ (frontSize ≤ length (now fund)) × (length (now fund) + length (now table) ≤ mostSize) ⌝ }
+    requires { ⌜ (frontSize ≤ length (now fund))
+        × (length (now fund) + length (now table) ≤ mostSize) ⌝ }
     ensures { λ r. ⌜ TotalsContract (joinedBook (now (table .entry)) (now (fund .entry))) r ⌝ }
 {
     let mut book = book::input_buffer();
@@ -63,7 +66,9 @@ fn put_totals(numbers: &mut [i64], at: usize, totals: [i64; 8])
 
 // One fund: its reply, and its half in the eight numbers from `at` on.
 fn value_fund(table: &[u8], fund: &[u8], numbers: &mut [i64], at: usize) -> Verdict
-    requires { ⌜ (16 ≤ length (now numbers)) × (length (now table) ≡ tableSize) × (at + 8 ≤ length (now numbers)) ⌝ }
+    requires { ⌜ (16 ≤ length (now numbers))
+        × (length (now table) ≡ tableSize)
+        × (at + 8 ≤ length (now numbers)) ⌝ }
     ensures { λ r. ⌜ FundValued (now (table .entry)) (now (fund .entry)) at (now (numbers .entry))
         (now (numbers .exit)) r ⌝ }
 {
@@ -91,7 +96,8 @@ fn check_arguments(count: usize, table: &[u8]) -> Verdict
     verdict::need(16 <= count, 16, 0).require(table.len() == TABLE_SIZE, 24, 0)
 }
 
-// The first fund's totals come in numbers 0 to 7, the second's in 8 to 15; a refused fund's stay as they were.
+// The first fund's totals come in numbers 0 to 7, the second's in 8 to 15; a refused fund's stay as
+// they were.
 pub fn funds(table: &[u8], first: &[u8], second: &[u8], numbers: &mut [i64]) -> FundsReply
     ensures { λ r. ⌜ FundsContract (now (table .entry)) (now (first .entry)) (now (second .entry))
         (now (numbers .entry)) (now (numbers .exit)) r ⌝ }

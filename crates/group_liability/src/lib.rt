@@ -1,6 +1,10 @@
 // The call Group: a product group's liability in a setting, its n, and its year table.
 ghost use mathlib.Core.Path.{_≡_};
 ghost use Rattle.valuation.specs.Replies.{groupCheck, GroupContract};
+use cell_projection::A_YEAR;
+use cell_projection::YEARS;
+use rate_table::COLUMNS;
+use rate_table::ROWS;
 use settings::Setting;
 use settings::Shifts;
 use valuation::GroupReply;
@@ -20,14 +24,15 @@ fn check_group(book: &[u8], setting: usize, group: usize, numbers: usize) -> Ver
 }
 
 pub fn group(book: &[u8], setting: usize, group: usize, table: &mut [u64]) -> GroupReply
-    ensures { λ r. ⌜ GroupContract (now (book .entry)) setting group (now (table .entry)) (now (table .exit)) r ⌝ }
+    ensures { λ r. ⌜ GroupContract (now (book .entry)) setting group (now (table .entry))
+        (now (table .exit)) r ⌝ }
 {
     let v = check_group(book, setting, group, table.len());
     if let Verdict::Refused(number, place) = v {
         return GroupReply::Refused(number, place);
     }
-    let mut rows = [0u64; 2720];
-    let mut numbers = [0u64; 500];
+    let mut rows = [0u64; ROWS * COLUMNS];
+    let mut numbers = [0u64; YEARS * A_YEAR];
     let s = Setting::new(setting);
     let w = Shifts::new(book);
     let n = group_projection::group_sums(book, w, group, s.projection, &mut rows, &mut numbers);

@@ -36,17 +36,29 @@ module _ (f : ℕ → ℕ → ℕ) where
   added-append (i ∷ l) m t = added-append l m (added (f i) 500 t)
 
   -- each year's number has the year's sum over the records added
-  sum-at : (l t : List ℕ) (k : ℕ) → k < 500 → k < length t → getD (addedAll f l t) k 0 ≡ getD t k 0 + sumOver (λ i. f i k) l
+  sum-at : (l t : List ℕ) (k : ℕ) → k < 500 → k < length t
+      → getD (addedAll f l t) k 0 ≡ getD t k 0 + sumOver (λ i. f i k) l
   unfolding addedAll sumOver
   sum-at [] t k h n = omega arith
   sum-at (i ∷ l) t k h n =
-      omega (arith, sum-at l (added (f i) 500 t) k h (omega (arith, length-added (f i) 500 t)), added-at (f i) 500 t k h n)
+      omega (
+        arith,
+        sum-at l (added (f i) 500 t) k h (omega (arith, length-added (f i) 500 t)),
+        added-at (f i) 500 t k h
+            n,
+      )
 
   -- from nothing, each year's number is the year's sum
-  pub sum-from-zero : (l t : List ℕ) → t ≡ addedAll f l (replicate 500 0) → (k : ℕ) → k < 500 → getD t k 0 ≡ sumOver (λ i. f i k) l
+  pub sum-from-zero : (l t : List ℕ) → t ≡ addedAll f l (replicate 500 0) → (k : ℕ) → k < 500
+      → getD t k 0 ≡ sumOver (λ i. f i k) l
   sum-from-zero l t e k h =
       ap (λ (u : List ℕ). getD u k 0) e
-      ∙ omega (arith, sum-at l (replicate 500 0) k h (omega (arith, length-replicate {A = ℕ} 500 0)), getD-replicate {A = ℕ} 500 k 0 0 h)
+      ∙ omega (
+        arith,
+        sum-at l (replicate 500 0) k h (omega (arith, length-replicate {A = ℕ} 500 0)),
+        getD-replicate
+            {A = ℕ} 500 k 0 0 h,
+      )
 
 -- sums of what agrees
 pub sum-same : (f g : ℕ → ℕ) → ((i : ℕ) → f i ≡ g i) → (l : List ℕ) → sumOver f l ≡ sumOver g l
@@ -54,19 +66,21 @@ unfolding sumOver
 sum-same f g h [] = refl
 sum-same f g h (i ∷ l) = rw (h i, sum-same f g h l)
 
--- the year sums of the reckoning are sums over the records
-pub premium-sum-is : (b : List ℕ) (w : Decrements) (k : ℕ) (l : List ℕ) → sumOver (λ i. premiumAt b w i k) l ≡ premiumSum rounded (cellsOf b w l) k
+-- the year sums of the valuation are sums over the records
+pub premium-sum-is : (b : List ℕ) (w : Decrements) (k : ℕ) (l : List ℕ)
+    → sumOver (λ i. premiumAt b w i k) l ≡ premiumSum rounded (cellsOf b w l) k
 unfolding sumOver premiumSum sumCells cellsOf premiumAt premiumBy
 premium-sum-is b w k [] = refl
 premium-sum-is b w k (i ∷ l) = rw (premium-sum-is b w k l)
 
-pub claims-sum-is : (b : List ℕ) (w : Decrements) (k : ℕ) (l : List ℕ) → sumOver (λ i. claimsAt b w i k) l ≡ claimsSum rounded (cellsOf b w l) k
+pub claims-sum-is : (b : List ℕ) (w : Decrements) (k : ℕ) (l : List ℕ)
+    → sumOver (λ i. claimsAt b w i k) l ≡ claimsSum rounded (cellsOf b w l) k
 unfolding sumOver claimsSum sumCells cellsOf claimsAt claimsBy
 claims-sum-is b w k [] = refl
 claims-sum-is b w k (i ∷ l) = rw (claims-sum-is b w k l)
 
--- What a run over a chain keeps, with `above` records after record i: the cells from i on, added to the table t, give what the whole chain
--- gives of t₀; and t is bounded.
+-- What a run over a chain keeps, with `above` records after record i: the cells from i on, added to the table t, give
+-- what the whole chain gives of t₀; and t is bounded.
 abbrev pub Carry : (ℕ → ℕ → ℕ) → List ℕ → ℕ → ℕ → List ℕ → ℕ → ℕ → List ℕ → Type 0
 Carry f b left head t₀ above i t =
     (addedAll f (counted b above i) t ≡ addedAll f (counted b left head) t₀)
@@ -76,21 +90,29 @@ module _ (f : ℕ → ℕ → ℕ) (b : List ℕ) (left head : ℕ) (t₀ : List
   pub carry-start : AtMost 1_000_000_000_000_000 t₀ → Carry f b left head t₀ left head t₀
   carry-start a = (refl, λ j. omega (arith, a j))
 
-  pub carry-more : (above rest i : ℕ) (t u : List ℕ) → above ≡ rest + 1 → above ≤ left → Carry f b left head t₀ above i t
+  pub carry-more : (above rest i : ℕ) (t u : List ℕ) → above ≡ rest + 1 → above ≤ left
+      → Carry f b left head t₀ above i t
       → ((k : ℕ) → f i k ≤ 1_000_000_000_000) → u ≡ added (f i) 500 t → Carry f b left head t₀ rest (nextOf b i) u
   unfolding counted addedAll
   carry-more above rest i t u s hi c le e =
       let p : above ≡ suc rest = s ∙ add-one rest in (
         rw e (rw p at (c .0)),
-        λ k. omega (arith, ap (λ (l : List ℕ). getD l k 0) e, added-most (f i) 1_000_000_000_000 500 (λ j l. le j) (1_000_000_000_000_000 + 1_000_000_000_000 * (left - above)) t (c .1) k),
+        λ k. omega (
+          arith,
+          ap (λ (l : List ℕ). getD l k 0) e,
+          added-most (f i) 1_000_000_000_000 500 (λ j l. le j)
+              (1_000_000_000_000_000 + 1_000_000_000_000 * (left - above)) t (c .1) k,
+        ),
       )
 
-  pub carry-end : (above i : ℕ) (t u : List ℕ) → above ≡ 0 → Carry f b left head t₀ above i t → u ≡ added (f i) 500 t → u ≡ addedAll f (counted b left head) t₀
+  pub carry-end : (above i : ℕ) (t u : List ℕ) → above ≡ 0 → Carry f b left head t₀ above i t → u ≡ added (f i) 500 t
+      → u ≡ addedAll f (counted b left head) t₀
   unfolding counted addedAll
   carry-end above i t u z c e = e ∙ (rw z at (c .0))
 
 -- n along a chain
-pub cells-more : (b : List ℕ) (n above rest i m : ℕ) → above ≡ rest + 1 → 0 < i → m ≡ holds b i → n + heldFrom b i (above + 1) ≡ (n + m) + heldFrom b (nextOf b i) (rest + 1)
+pub cells-more : (b : List ℕ) (n above rest i m : ℕ) → above ≡ rest + 1 → 0 < i → m ≡ holds b i
+    → n + heldFrom b i (above + 1) ≡ (n + m) + heldFrom b (nextOf b i) (rest + 1)
 unfolding heldFrom
 cells-more b n above rest i m s some e =
     rw (add-one above, s, add-one rest, after-some b i some, e) (omega arith)
@@ -100,14 +122,17 @@ unfolding heldFrom
 cells-end b n above i m z e = rw (z, e) (omega arith)
 
 -- the n of the records from record i on, of which there is at most one for each class
-pub chain-cells : (b : List ℕ) (w : Decrements) (k left i : ℕ) → ChainFrom b 120 k left i → left ≤ 120 → heldFrom b i (left + 1) ≡ heldFrom b i 121
+pub chain-cells : (b : List ℕ) (w : Decrements) (k left i : ℕ) → ChainFrom b 120 k left i → left ≤ 120
+    → heldFrom b i (left + 1) ≡ heldFrom b i 121
 chain-cells b w k left i c h =
     sym (held-links b w (left + 1) i)
-    ∙ ap (λ (l : List ℕ). held (cellsOf b w l)) (links-counted b k left i (left + 1) c (omega arith) ∙ sym (links-counted b k left i 121 c (omega arith)))
+    ∙ ap (λ (l : List ℕ). held (cellsOf b w l))
+    (links-counted b k left i (left + 1) c (omega arith) ∙ sym (links-counted b k left i 121 c (omega arith)))
     ∙ held-links b w 121 i
 
 -- the record after one below the last class is that of the next row
-pub row-next : (b : List ℕ) (k head own above i : ℕ) → ChainFrom b 120 k above i → 0 < above → i ≡ rowAt b head own → nextOf b i ≡ rowAt b head (own + 1)
+pub row-next : (b : List ℕ) (k head own above i : ℕ) → ChainFrom b 120 k above i → 0 < above → i ≡ rowAt b head own
+    → nextOf b i ≡ rowAt b head (own + 1)
 unfolding rowAt
 row-next b k head own above i c more e =
     let young : classOf b i < 120 = omega (arith, chain-class b 120 k above i c) in
@@ -122,7 +147,8 @@ pub cells-empty : (b : List ℕ) (k : ℕ) → headOf b k ≡ 0 → heldIn b 120
 unfolding heldIn
 cells-empty b k e = rw (e, held-none b 121)
 
-module _ (b : List ℕ) (v : ValidBook 1 b) (k : ℕ) (few : k < 14) (head class : ℕ) (head-is : head ≡ headOf b k) (some : head ≡ 0 → ⊥) (class-is : class ≡ classOf b head) where
+module _ (b : List ℕ) (v : ValidBook 1 b) (k : ℕ) (few : k < 14) (head class : ℕ) (head-is : head ≡ headOf b k)
+    (some : head ≡ 0 → ⊥) (class-is : class ≡ classOf b head) where
   pub head-chain : ChainFrom b 120 k (120 - class) head
   head-chain = rw (class-is, head-is) (v .chain k few (λ z. some (head-is ∙ z)))
 
@@ -138,15 +164,22 @@ module _ (f : ℕ → ℕ → ℕ) (b : List ℕ) (small : Small f b) (k : ℕ) 
       → AtMost (m + 1_000_000_000_000 * (left + 1)) (addedAll f (counted b left i) t)
   unfolding counted addedAll
   counted-most zero i m t h c a j =
-      omega (arith, added-most (f i) 1_000_000_000_000 500 (λ n l. small k i few (chain-standing b k 0 i c h) n) m t a j)
+      omega (
+        arith,
+        added-most (f i) 1_000_000_000_000 500 (λ n l. small k i few (chain-standing b k 0 i c h) n) m t a
+            j,
+      )
   counted-most (suc left) i m t h c a j =
       omega (
         arith,
-        counted-most left (nextOf b i) (m + 1_000_000_000_000) (added (f i) 500 t) (omega arith) (chain-next b 120 k (suc left) left i (omega arith) c)
-            (added-most (f i) 1_000_000_000_000 500 (λ n l. small k i few (chain-standing b k (suc left) i c h) n) m t a) j,
+        counted-most left (nextOf b i) (m + 1_000_000_000_000) (added (f i) 500 t) (omega arith)
+            (chain-next b 120 k (suc left) left i (omega arith) c)
+            (added-most (f i) 1_000_000_000_000 500 (λ n l. small k i few (chain-standing b k (suc left) i c h) n) m t
+            a) j,
       )
 
-  pub links-most : ValidBook 1 b → (m : ℕ) (t : List ℕ) → AtMost m t → AtMost (m + 121_000_000_000_000) (addedAll f (chainLinks b k) t)
+  pub links-most : ValidBook 1 b → (m : ℕ) (t : List ℕ) → AtMost m t
+      → AtMost (m + 121_000_000_000_000) (addedAll f (chainLinks b k) t)
   unfolding addedAll
   links-most v m t a j = by-head (eqb (headOf b k) 0) refl
     where
@@ -155,7 +188,11 @@ module _ (f : ℕ → ℕ → ℕ) (b : List ℕ) (small : Small f b) (k : ℕ) 
       by-head false e =
           let some : headOf b k ≡ 0 → ⊥ = eqb-false _ _ e in
           rw (head-links b v k few (headOf b k) _ refl some refl)
-          (omega (arith, counted-most (120 - classOf b (headOf b k)) (headOf b k) m t (omega arith) (head-chain b v k few (headOf b k) _ refl some refl) a j))
+          (omega (
+            arith,
+            counted-most (120 - classOf b (headOf b k)) (headOf b k) m t (omega arith)
+                (head-chain b v k few (headOf b k) _ refl some refl) a j,
+          ))
 
 -- What a run over the chains of a group keeps, before chain k of those up to `to`.
 abbrev pub Gather : (ℕ → ℕ → ℕ) → List ℕ → ℕ → ℕ → List ℕ → ℕ → List ℕ → Type 0
@@ -170,10 +207,16 @@ module _ (f : ℕ → ℕ → ℕ) (b : List ℕ) (small : Small f b) (v : Valid
   gather-more k t u g lo hi le e =
       let s : to - k ≡ suc (to - (k + 1)) = omega arith in (
         rw e (sym (added-append f (chainLinks b k) (linksOf b (k + 1) (to - (k + 1))) t) ∙ (rw s at (g .0))),
-        λ j. omega (arith, ap (λ (l : List ℕ). getD l j 0) e, links-most f b small k (omega arith) v (121_000_000_000_000 * (k - from)) t (g .1) j),
+        λ j. omega (
+          arith,
+          ap (λ (l : List ℕ). getD l j 0) e,
+          links-most f b small k (omega arith) v
+              (121_000_000_000_000 * (k - from)) t (g .1) j,
+        ),
       )
 
-  pub gather-end : (k : ℕ) (t : List ℕ) → k ≡ to → Gather f b from to t₀ k t → t ≡ addedAll f (linksOf b from (to - from)) t₀
+  pub gather-end : (k : ℕ) (t : List ℕ) → k ≡ to → Gather f b from to t₀ k t
+      → t ≡ addedAll f (linksOf b from (to - from)) t₀
   unfolding linksOf addedAll
   gather-end k t e g =
       let z : to - to ≡ 0 = omega arith in

@@ -10,7 +10,8 @@ use Rattle.valuation.specs.Steps.{premiumSum, claimsSum}
 use Rattle.valuation.specs.Portfolio.{groupCells}
 use Rattle.group_projection.specs.Added.{TableIn}
 
-module _ (b : List ℕ) (g setting s k : ℕ) (t : List ℕ) (e : TableIn b (projectionOf setting) g t) (known : setting < 8) (s-is : s ≡ projectionOf setting) (h : k < 50) where
+module _ (b : List ℕ) (g setting s k : ℕ) (t : List ℕ) (e : TableIn b (projectionOf setting) g t) (known : setting < 8)
+    (s-is : s ≡ projectionOf setting) (h : k < 50) where
   pub premium-served : getD t (10 * k + 2 * s) 0 ≡ premiumSum rounded (groupCells b (decrementsOf b setting) g) k
   premium-served = rw (← served b setting known, s-is) (e .premium-is k h)
 

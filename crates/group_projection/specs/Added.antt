@@ -25,8 +25,10 @@ pub record ChainAdded (b : List ℕ) (which k n : ℕ) (u v : List ℕ) : Type 0
 
 -- the table of product group g, ten numbers a year, has premium and claims of projection s
 pub record TableIn (b : List ℕ) (s g : ℕ) (t : List ℕ) : Type 0 where
-  pub premium-is : (k : ℕ) → k < 50 → getD t (10 * k + 2 * s) 0 ≡ premiumSum rounded (groupCells b (decrementsOf b s) g) k
-  pub claims-is : (k : ℕ) → k < 50 → getD t (10 * k + 2 * s + 1) 0 ≡ claimsSum rounded (groupCells b (decrementsOf b s) g) k
+  pub premium-is : (k : ℕ) → k < 50
+      → getD t (10 * k + 2 * s) 0 ≡ premiumSum rounded (groupCells b (decrementsOf b s) g) k
+  pub claims-is : (k : ℕ) → k < 50
+      → getD t (10 * k + 2 * s + 1) 0 ≡ claimsSum rounded (groupCells b (decrementsOf b s) g) k
   pub most : AtMost 726_000_000_000_000 t
 
 -- and those of all

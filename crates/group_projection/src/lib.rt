@@ -1,5 +1,7 @@
-// The year sums of a product group: the walks of the cells of its chains, added up, in the five projections that serve all settings.
-// Internal: the functions ask for an accepted book's rules, which the calls above have from the check.
+// The year sums of a product group: the projections of the cells of its chains, added up, in the
+// five projections that serve all settings.
+// Internal: the functions ask for an accepted book's rules, which the calls above have from the
+// check.
 ghost use mathlib.Core.Path.{_≡_};
 ghost use Prim.Native.Nat.{_+_, _*_, _<_, _≤_};
 ghost use lib.ListN.{replicate};
@@ -9,6 +11,8 @@ ghost use Rattle.settings.specs.Settings.{ShiftsOf, columnsOf};
 ghost use Rattle.rate_table.specs.Rows.{RowsOf};
 ghost use Rattle.cell_projection.specs.Tables.{AtMost};
 ghost use Rattle.group_projection.specs.Added.{CellsAdded, ChainAdded, SumsOf};
+use cell_projection::YearSums;
+use rate_table::RateTable;
 use settings::Columns;
 use settings::FiveColumns;
 use settings::Shifts;
@@ -18,13 +22,17 @@ pub const ALL: usize = cell_projection::ALL;
 
 // The first chain of a product group.
 fn first_chain(group: usize) -> usize
-    requires { ⌜ (1 ≤ group) × (group ≤ 5) ⌝ }
-    ensures { λ r. ⌜ (r ≡ firstChain group) × (r + chainsOf group ≡ 4 + 2 * group) × (4 + 2 * group ≤ r + 6) ⌝ }
+    requires { ⌜ (1 ≤ group)
+        × (group ≤ 5) ⌝ }
+    ensures { λ r. ⌜ (r ≡ firstChain group)
+        × (r + chainsOf group ≡ 4 + 2 * group)
+        × (4 + 2 * group ≤ r + 6) ⌝ }
 {
     if group == 1 { 0 } else { 2 * group + 2 }
 }
 
-// The columns of one projection. Where all are asked for, none is: then the compiler works these out.
+// The columns of one projection. Where all are asked for, none is: then the compiler works these
+// out.
 fn columns_in(which: usize) -> Columns
     requires { ⌜ which ≤ 5 ⌝ }
     ensures { λ r. ⌜ (which < 5 → r ≡ columnsOf which) ⌝ }
@@ -35,17 +43,23 @@ fn columns_in(which: usize) -> Columns
     Columns::new(which)
 }
 
-// Adds the cells of a chain, whose rows are read from its head on, to the table, and hands back how many of them hold contracts.
+// Adds the cells of a chain, whose rows are read from its head on, to the table, and returns how
+// many of them hold contracts.
 fn add_cells(
     book: &[u8],
     chain: usize,
     head: usize,
     which: usize,
-    rows: &[u64; 2720],
-    sums: &mut [u64; 500],
+    rows: &RateTable,
+    sums: &mut YearSums,
 ) -> u64
-    requires { ⌜ ValidBook 1 (now book) × Standing (now book) 120 chain head × RowsOf (now book) chain head (now rows) × (which ≤ 5) × AtMost 1000000000000000 (now sums) ⌝ }
-    ensures { λ n. ⌜ CellsAdded (now (book .entry)) which head n (now (sums .entry)) (now (sums .exit)) ⌝ }
+    requires { ⌜ ValidBook 1 (now book)
+        × Standing (now book) 120 chain head
+        × RowsOf (now book) chain head (now rows)
+        × (which ≤ 5)
+        × AtMost 1000000000000000 (now sums) ⌝ }
+    ensures { λ n. ⌜ CellsAdded (now (book .entry)) which head n (now (sums .entry))
+        (now (sums .exit)) ⌝ }
 {
     let five = FiveColumns::new();
     let one = columns_in(which);
@@ -66,17 +80,23 @@ fn add_cells(
     }
 }
 
-// Adds the cells of chain k to the table, and hands back how many of them hold contracts. The rows are room to work in.
+// Adds the cells of chain k to the table, and returns how many of them hold contracts. The rows
+// are working space.
 fn add_chain(
     book: &[u8],
     w: Shifts,
     k: usize,
     which: usize,
-    rows: &mut [u64; 2720],
-    sums: &mut [u64; 500],
+    rows: &mut RateTable,
+    sums: &mut YearSums,
 ) -> u64
-    requires { ⌜ ShiftsOf (now book) w × ValidBook 1 (now book) × (k < 14) × (which ≤ 5) × AtMost 1000000000000000 (now sums) ⌝ }
-    ensures { λ n. ⌜ ChainAdded (now (book .entry)) which k n (now (sums .entry)) (now (sums .exit)) ⌝ }
+    requires { ⌜ ShiftsOf (now book) w
+        × ValidBook 1 (now book)
+        × (k < 14)
+        × (which ≤ 5)
+        × AtMost 1000000000000000 (now sums) ⌝ }
+    ensures { λ n. ⌜ ChainAdded (now (book .entry)) which k n (now (sums .entry)) (now (sums .exit))
+        ⌝ }
 {
     let head = book::head_of(book, k);
     if head == 0 {
@@ -86,18 +106,24 @@ fn add_chain(
     add_cells(book, k, head, which, rows, sums)
 }
 
-// The year sums of a product group, over both sexes and, for PG1, its three subgroups: k = 0 to 49, before weights, costs and the cap. They are added
-// to a table of zeros: for each year ten numbers, for each of the settings 0 to 4 premium and claims; those of one of them, or of all. Hands back the group's n. The rows are room to
-// work in.
+// The year sums of a product group, over both sexes and, for PG1, its three subgroups: k = 0 to 49,
+// before weights, costs and the cap. They are added to a table of zeros: for each year ten numbers,
+// for each of the settings 0 to 4 premium and claims; those of one of them, or of all. Returns
+// the group's n. The rows are working space.
 pub fn group_sums(
     book: &[u8],
     w: Shifts,
     group: usize,
     which: usize,
-    rows: &mut [u64; 2720],
-    numbers: &mut [u64; 500],
+    rows: &mut RateTable,
+    numbers: &mut YearSums,
 ) -> u64
-    requires { ⌜ ShiftsOf (now book) w × ValidBook 1 (now book) × (1 ≤ group) × (group ≤ 5) × (which ≤ 5) × (now numbers ≡ replicate 500 0) ⌝ }
+    requires { ⌜ ShiftsOf (now book) w
+        × ValidBook 1 (now book)
+        × (1 ≤ group)
+        × (group ≤ 5)
+        × (which ≤ 5)
+        × (now numbers ≡ replicate 500 0) ⌝ }
     ensures { λ n. ⌜ SumsOf (now (book .entry)) which group n (now (numbers .exit)) ⌝ }
 {
     let mut n: u64 = 0;

@@ -1,4 +1,4 @@
--- Laws of numbers written from the front, one a year. Assumes nothing.
+-- Laws of numbers written from the start, one a year. Assumes nothing.
 use mathlib.Core.Path.{_≡_, refl, sym, _∙_}
 use mathlib.Core.List.{List, [], _∷_, _++_, append-assoc}
 use Prim.Native.Nat.{ℕ, zero, suc, _+_, _<_, _≤_}
@@ -14,7 +14,7 @@ module _ (f : ℕ → ℕ) where
   front-length zero = refl
   front-length (suc j) = rw length-append (omega (arith, front-length j))
 
-  -- the lent numbers keep their length
+  -- the caller's numbers keep their length
   pub years-length : (j : ℕ) (t u : List ℕ) → j ≤ length t → u ≡ firstYears f j ++ drop j t → length u ≡ length t
   years-length j t u fits e =
       rw e (omega (arith, length-append (firstYears f j) (drop j t), front-length j, length-drop j t))

@@ -1,4 +1,4 @@
--- What the refusals say, and that the promise follows from the reply and the lent numbers. Assumes nothing.
+-- What the refusals say, and that the promise follows from the reply and the caller's numbers. Assumes nothing.
 use mathlib.Core.Path.{_≡_, refl, sym, _∙_}
 use mathlib.Core.List.{List, _++_}
 use Prim.Native.Nat.{ℕ, _<_, _≤_}
@@ -85,13 +85,15 @@ module _ (b : List ℕ) (setting code sex class numbers : ℕ) where
         accepted-some
 
 -- refusal 0 is acceptance, of this call too
-in-force-told : (b : List ℕ) (setting code sex class numbers : ℕ) → ZeroAccepts (inForceCheck b setting code sex class numbers)
+in-force-told : (b : List ℕ) (setting code sex class numbers : ℕ)
+    → ZeroAccepts (inForceCheck b setting code sex class numbers)
 unfolding ZeroAccepts inForceCheck askedCheck
 in-force-told b setting code sex class numbers =
     zero-accepts-then _ _
     (zero-accepts-then _ _
     (zero-accepts-then _ _
-    (zero-accepts-then _ _ (zero-accepts-then _ _ (zero-accepts-need _ 13 0) (zero-accepts-need _ 24 0)) (zero-accepts-need _ 24 0))
+    (zero-accepts-then _ _ (zero-accepts-then _ _ (zero-accepts-need _ 13 0) (zero-accepts-need _ 24 0))
+    (zero-accepts-need _ 24 0))
     (zero-accepts-need _ 24 0))
     (zero-accepted 1 b))
     (zero-accepts-need _ 25 0)
@@ -99,7 +101,8 @@ in-force-told b setting code sex class numbers =
 -- the promise, of a call that refuses and of one that accepts
 module _ (b : List ℕ) (setting code sex class : ℕ) (before after : List ℕ) (reply : Verdict) where
   promised : reply ≡ inForceCheck b setting code sex class (length before)
-      → after ≡ inForceNumbers b setting code sex class before → InForceContract b setting code sex class before after reply
+      → after ≡ inForceNumbers b setting code sex class before
+      → InForceContract b setting code sex class before after reply
   unfolding ZeroAccepts
   promised reply-is numbers-are = record {
     reply-is = reply-is;

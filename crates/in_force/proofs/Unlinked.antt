@@ -1,4 +1,4 @@
--- Records that no chain links have no effect on the call, neither on its reply nor on the lent numbers.
+-- Records that no chain links have no effect on the call, neither on its reply nor on the caller's numbers.
 -- Assumes nothing.
 use mathlib.Core.Path.{_≡_, refl, sym, ap, _∙_}
 use mathlib.Core.Bool.{Bool, true, false, cond}
@@ -88,7 +88,8 @@ module _ (b b′ : List ℕ) (s : SameButUnlinked b b′) where
 
     -- the fifty numbers
     run-same : (numbers n : ℕ) → inForceCheck b setting code sex class numbers ≡ Accepted n
-        → inForceRun b setting (recordAtClass b code sex class) ≡ inForceRun b′ setting (recordAtClass b′ code sex class)
+        → inForceRun b setting (recordAtClass b code sex class) ≡ inForceRun b′ setting
+        (recordAtClass b′ code sex class)
     unfolding inForceRun recordAtClass
     run-same numbers n e =
         let asked = accepted-asked b setting code sex class numbers n e in

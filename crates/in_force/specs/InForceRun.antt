@@ -53,7 +53,7 @@ firstYears f (suc j) = firstYears f j ++ (f j ∷ [])
 unfoldable pub inForceRun : List ℕ → ℕ → ℕ → List ℕ
 inForceRun b setting i = firstYears (inForce rounded (cellOf b (decrementsOf b setting) i)) 50
 
--- the lent numbers afterwards: those of the fifty years, then what stood there; as they were where refused
+-- the caller's numbers afterwards: those of the fifty years, then what stood there; as they were where refused
 abbrev pub numbersFor : Verdict → List ℕ → List ℕ → List ℕ
 numbersFor (Accepted n) run before = run ++ drop 50 before
 numbersFor (Refused number place) run before = before
@@ -71,8 +71,8 @@ pub record OnlyOne (b : List ℕ) (code sex class i : ℕ) : Type 0 where
   pub only : (k j : ℕ) → k < chains → 0 < linkAt b k j → codeOf b (linkAt b k j) ≡ code → sexOf b (linkAt b k j) ≡ sex
       → classOf b (linkAt b k j) ≡ class → linkAt b k j ≡ i
 
--- What the call promises: its reply and the lent numbers equal their definitions; and, where the reply has no refusal,
--- the record is the one and only that was asked for.
+-- What the call promises: its reply and the caller's numbers equal their definitions; and, where the reply has no
+-- refusal, the record is the one and only that was asked for.
 pub record InForceContract (b : List ℕ) (setting code sex class : ℕ) (before after : List ℕ)
     (reply : Verdict) : Type 0 where
   pub reply-is : reply ≡ inForceCheck b setting code sex class (length before)

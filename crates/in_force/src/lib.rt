@@ -1,4 +1,5 @@
-// One cell on the screen: what is in force of the linked record of a subgroup code, sex and class, year by year.
+// One cell on the screen: what is in force of the linked record of a subgroup code, sex and class,
+// year by year.
 ghost use mathlib.Core.Path.{_≡_};
 ghost use mathlib.Core.List.{_++_};
 ghost use Prim.Native.Nat.{_<_, _≤_};
@@ -9,8 +10,12 @@ ghost use Rattle.cell.specs.States.{Ready, nextBy};
 ghost use Rattle.valuation.specs.Arithmetic.{rounded};
 ghost use Rattle.valuation.specs.Steps.{inForce};
 ghost use Rattle.valuation.specs.Portfolio.{cellOf, chainLinks};
-ghost use Rattle.in_force.specs.InForceRun.{chainOf, ofClass, askedCheck, firstYears, InForceContract};
+ghost use Rattle.in_force.specs.InForceRun.{chainOf, ofClass, askedCheck, firstYears};
+ghost use Rattle.in_force.specs.InForceRun.{InForceContract};
 use cell::Cell;
+use rate_table::COLUMNS;
+use rate_table::ROWS;
+use rate_table::RateTable;
 use settings::Columns;
 use settings::Shifts;
 use verdict::Verdict;
@@ -27,15 +32,19 @@ fn check_asked(setting: usize, code: usize, sex: usize, numbers: usize) -> Verdi
 
 // The chain of a subgroup code and a sex.
 fn chain_of(code: usize, sex: usize) -> usize
-    requires { ⌜ (1 ≤ code) × (code ≤ 7) × (sex ≤ 1) ⌝ }
-    ensures { λ r. ⌜ (r ≡ chainOf code sex) × (r < 14) ⌝ }
+    requires { ⌜ (1 ≤ code)
+        × (code ≤ 7)
+        × (sex ≤ 1) ⌝ }
+    ensures { λ r. ⌜ (r ≡ chainOf code sex)
+        × (r < 14) ⌝ }
 {
     2 * (code - 1) + sex
 }
 
 // The linked record of a class in chain k, 0 where it has none.
 fn record_of(book: &[u8], k: usize, class: usize) -> usize
-    requires { ⌜ ValidBook 1 (now book) × (k < 14) ⌝ }
+    requires { ⌜ ValidBook 1 (now book)
+        × (k < 14) ⌝ }
     ensures { λ r. ⌜ r ≡ ofClass (now (book .entry)) class (chainLinks (now (book .entry)) k) ⌝ }
 {
     let head = book::head_of(book, k);
@@ -57,9 +66,12 @@ fn record_of(book: &[u8], k: usize, class: usize) -> usize
     }
 }
 
-// The state a year after year k. Once nothing is in force nothing is computed further: there is nothing in any later year.
-fn year_later(rows: &[u64; 2720], cell: Cell, columns: Columns, k: usize) -> Cell
-    requires { ⌜ Ready (now rows) cell × (livesIn columns k ≤ 5) × (staysIn columns k ≤ 5) ⌝ }
+// The state a year after year k. Once nothing is in force nothing is computed further: there is
+// nothing in any later year.
+fn year_later(rows: &RateTable, cell: Cell, columns: Columns, k: usize) -> Cell
+    requires { ⌜ Ready (now rows) cell
+        × (livesIn columns k ≤ 5)
+        × (staysIn columns k ≤ 5) ⌝ }
     ensures { λ r. ⌜ r ≡ nextBy (now (rows .entry)) (livesIn columns k) (staysIn columns k) cell ⌝ }
 {
     if cell.inforce == 0 {
@@ -73,14 +85,17 @@ fn year_later(rows: &[u64; 2720], cell: Cell, columns: Columns, k: usize) -> Cel
 
 // Writes what is in force of the cell of record i in a setting, in the years k = 0 to 49.
 fn run(book: &[u8], setting: usize, chain: usize, i: usize, out: &mut [u64])
-    requires { ⌜ (setting < 8) × ValidBook 1 (now book) × (chain < 14) × Standing (now book) 120 chain i
+    requires { ⌜ (setting < 8)
+        × ValidBook 1 (now book)
+        × (chain < 14)
+        × Standing (now book) 120 chain i
         × (50 ≤ length (now out)) ⌝ }
-    ensures { λ _. ⌜ now (out .exit)
-        ≡ firstYears (inForce rounded (cellOf (now (book .entry)) (decrementsOf (now (book .entry)) setting) i)) 50
-        ++ drop 50 (now (out .entry)) ⌝ }
+    ensures { λ _. ⌜ now (out .exit) ≡ firstYears
+        (inForce rounded (cellOf (now (book .entry)) (decrementsOf (now (book .entry)) setting) i))
+        50 ++ drop 50 (now (out .entry)) ⌝ }
 {
     let columns = Columns::new(setting);
-    let mut rows = [0u64; 2720];
+    let mut rows = [0u64; ROWS * COLUMNS];
     rate_table::read_rows(book, Shifts::new(book), chain, i, &mut rows);
     let mut cell = Cell::new(0, book::field_of(book, i, book::COUNT_OFFSET));
     for k in 0usize..50 {
@@ -90,8 +105,8 @@ fn run(book: &[u8], setting: usize, chain: usize, i: usize, out: &mut [u64])
     }
 }
 
-// Refusal and place. Where accepted, the first fifty of the lent numbers become what is in force, in billionths of a
-// contract; else nothing is written.
+// Refusal and place. Where accepted, the first fifty of the caller's numbers become what is in
+// force, in billionths of a contract; else nothing is written.
 pub fn in_force(
     book: &[u8],
     setting: usize,
@@ -100,8 +115,8 @@ pub fn in_force(
     class: usize,
     out: &mut [u64],
 ) -> Verdict
-    ensures { λ r. ⌜ InForceContract (now (book .entry)) setting code sex class
-        (now (out .entry)) (now (out .exit)) r ⌝ }
+    ensures { λ r. ⌜ InForceContract (now (book .entry)) setting code sex class (now (out .entry))
+        (now (out .exit)) r ⌝ }
 {
     let asked = check_asked(setting, code, sex, out.len());
     let Verdict::Accepted(_) = asked else {

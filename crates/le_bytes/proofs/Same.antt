@@ -20,10 +20,13 @@ module _ (b b′ : List ℕ) (low high : ℕ) (same : Same b b′ low high) wher
   unfolding readU32
   u32-same at lo hi = rw (u16-same at lo (omega arith), u16-same (at + 2) (omega arith) (omega arith))
 
-  pub field-same : (number lift span at : ℕ) → low ≤ at → at + 4 ≤ high → checkField b number lift span at ≡ checkField b′ number lift span at
+  pub field-same : (number lift span at : ℕ) → low ≤ at → at + 4 ≤ high
+      → checkField b number lift span at ≡ checkField b′ number lift span at
   unfolding checkField
   field-same number lift span at lo hi = rw (u32-same at lo hi)
 
-  pub fields-same : (number lift span at count : ℕ) → low ≤ at → at + 4 * count ≤ high → checkFields b number lift span at count ≡ checkFields b′ number lift span at count
+  pub fields-same : (number lift span at count : ℕ) → low ≤ at → at + 4 * count ≤ high
+      → checkFields b number lift span at count ≡ checkFields b′ number lift span at count
   unfolding checkFields
-  fields-same number lift span at count lo hi = all-same _ _ count 0 (λ j l h. field-same number lift span (at + 4 * j) (omega arith) (omega arith))
+  fields-same number lift span at count lo hi =
+      all-same _ _ count 0 (λ j l h. field-same number lift span (at + 4 * j) (omega arith) (omega arith))

@@ -11,7 +11,8 @@ use Rattle.verdict.specs.declared.Verdict.{Verdict}
 unfoldable pub within : ℕ → ℕ → ℕ → Bool
 within low high x = cond (leb low x) (leb x high) false
 
--- A stored number of 32 bits raised by lift, in 32 bits. In two's complement this is how far the number stands above -lift.
+-- A stored number of 32 bits raised by lift, in 32 bits. In two's complement this is how far the number stands above
+-- -lift.
 abbrev pub raised : ℕ → ℕ → ℕ
 raised zero u = u
 raised (suc lift) u = (u + suc lift) % 4294967296

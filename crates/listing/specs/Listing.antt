@@ -26,8 +26,8 @@ listingText totals n = joined (lineOf totals n) 8
 unfoldable pub listingOf : List ℕ → List ℕ
 listingOf b = listingText (totalsReply b .totals) (totalsReply b .n)
 
--- What the call replies, given a buffer of `capacity` bytes: the listing's length, or the first refusal: the book's, and
--- then 20 where the buffer is shorter than the listing.
+-- What the call replies, given a buffer of `capacity` bytes: the listing's length, or the first refusal: the book's,
+-- and then 20 where the buffer is shorter than the listing.
 abbrev pub listingReply : List ℕ → ℕ → TextReply
 listingReply b capacity = textReply (checkBook 1 b) (listingOf b) capacity
 

@@ -113,7 +113,8 @@ pub practice-length : (start : ℕ) → length (practiceBook start) ≡ practice
 practice-length start = book-length (practiceContents start) ∙ drawn-size _
 
 -- The contents as they are drawn, part after part, each from the words that the one before it left.
-module _ (w : GeneratorState) {costs curves tables : GeneratorState} {cost mortality counts lapses premiums claims : List ℕ}
+module _ (w : GeneratorState) {costs curves tables : GeneratorState}
+    {cost mortality counts lapses premiums claims : List ℕ}
     {curve : List ℤ}
     (cost-is : cost ≡ each (λ (j : ℕ). drawnNumber mostRate (drawAt w j)) 5) (costs-are : costs ≡ stateAfter w 5)
     (curve-is : curve ≡ each (λ (j : ℕ). drawnRate (drawAt costs j)) 49) (curves-are : curves ≡ stateAfter costs 49)

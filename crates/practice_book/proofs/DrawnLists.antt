@@ -47,7 +47,8 @@ each-same f g zero h = refl
 each-same f g (suc n) h = rw (each-same f g n h, h n)
 
 -- a run of draws from words that are a draws on
-pub later-run : {A : Type 0} (g : ℕ → A) (w : GeneratorState) {words : GeneratorState} (a n : ℕ) (f h : ℕ → ℕ) → words ≡ stateAfter w a
+pub later-run : {A : Type 0} (g : ℕ → A) (w : GeneratorState) {words : GeneratorState} (a n : ℕ) (f h : ℕ → ℕ)
+    → words ≡ stateAfter w a
     → ((i : ℕ) → a + f i ≡ h i) → each (λ (i : ℕ). g (drawAt words (f i))) n ≡ each (λ (i : ℕ). g (drawAt w (h i))) n
 later-run g w a n f h e s =
     each-same _ _ n

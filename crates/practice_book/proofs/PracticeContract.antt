@@ -1,5 +1,5 @@
--- What the call promises follows from its reply and from the bytes that were written; and equal start numbers give equal
--- bytes. Assumes nothing.
+-- What the call promises follows from its reply and from the bytes that were written; and equal start numbers give
+-- equal bytes. Assumes nothing.
 use mathlib.Core.Path.{_≡_, refl, sym, ap, _∙_}
 use mathlib.Core.List.{List}
 use Prim.Native.Nat.{ℕ, _≤_}
@@ -16,7 +16,8 @@ use Rattle.book_contents.specs.Written.{bookSize}
 use Rattle.book_contents.specs.Contracts.{writeRefusal, writeLength, writeReplyFor, leftFor, writeReply, WriteContract}
 use Rattle.book_contents.proofs.Fit.{fit-good}
 use Rattle.generator.specs.Draws.{seeded}
-use Rattle.practice_book.specs.Practice.{practiceContents, practiceBook, practiceSize, checkPractice, practiceReply}
+use Rattle.practice_book.specs.Practice.{practiceContents, practiceBook, practiceSize, checkPractice}
+use Rattle.practice_book.specs.Practice.{practiceReply}
 use Rattle.practice_book.specs.Practice.{PracticeContract}
 use Rattle.practice_book.proofs.Drawn.{drawn-fit, drawn-size, practice-accepted, practice-length}
 
@@ -31,7 +32,7 @@ unfolding ZeroAccepts
 zero-accepts-reply (Accepted m) n told e = (refl, refl)
 zero-accepts-reply (Refused q p) n told e = let z : _≡_ {A = ℕ} 0 1 = cc (told e) in absurd (omega arith)
 
--- what was asked for stands at the front of a lent buffer
+-- what was asked for stands at the start of the caller's buffer
 front-is : (v : Verdict) (m : ℕ) (l entry : List ℕ) (n : ℕ) → v ≡ Accepted m → length l ≡ n
     → take n (leftFor v l entry) ≡ l
 front-is v m l entry n e size = rw e (take-at l (drop (length l) entry) n size)
@@ -56,8 +57,9 @@ module _ (start : ℕ) (entry exit : List ℕ) (r : WriteReply) (reply-is : r �
     accepted = λ none. rw (written none .0, written none .1, practice-accepted start) (refl, refl);
   }
 
--- what Write promises of the drawn contents is, with room and a start number above 0, what the call promises
-pub write-promised : (start n : ℕ) {entry exit : List ℕ} {r : WriteReply} → checkPractice start (length entry) ≡ Accepted n
+-- what Write promises of the drawn contents is, with space and a start number above 0, what the call promises
+pub write-promised : (start n : ℕ) {entry exit : List ℕ} {r : WriteReply}
+    → checkPractice start (length entry) ≡ Accepted n
     → WriteContract (practiceContents start) entry exit r → PracticeContract start entry exit r
 unfolding checkPractice practiceReply writeReply
 write-promised start n {entry} {exit} {r} e w =
@@ -65,7 +67,8 @@ write-promised start n {entry} {exit} {r} e w =
     let fits : bookSize (practiceContents start .values .first) ≤ length entry =
     omega (arith, drawn-size (seeded start)) in
     let good = fit-good (practiceContents start) (length entry) (drawn-fit _) fits in
-    promised start entry exit r (rw e (rw (good, practice-length start) at (w .reply-is))) (rw e (rw good at (w .bytes-are)))
+    promised start entry exit r (rw e (rw (good, practice-length start) at (w .reply-is)))
+    (rw e (rw good at (w .bytes-are)))
 
 -- Equal start numbers give equal bytes: two calls, with buffers of any length and content.
 pub equal-bytes : (start : ℕ) {entry exit entry′ exit′ : List ℕ} {r r′ : WriteReply}

@@ -78,7 +78,8 @@ checkPractice start capacity = need (leb practiceSize capacity) 16 0 andThen nee
 unfoldable pub practiceReply : ℕ → ℕ → WriteReply
 practiceReply start capacity = writeReplyFor (checkPractice start capacity) practiceSize
 
--- The call: of a start number, with the lent bytes from entry to exit. The book is a function of the start number alone:
+-- The call: of a start number, with the caller's bytes from entry to exit. The book is a function of the start number
+-- alone:
 -- two calls with the same start number write the same bytes, whatever the buffers held (`equal-bytes` of
 -- proofs/Promised).
 pub record PracticeContract (start : ℕ) (entry exit : List ℕ) (r : WriteReply) : Type 0 where

@@ -1,5 +1,5 @@
-// The call that writes a practice book: values and lists drawn from a start number, and Write's book of them. The draws
-// are walked once, in book order. The definitions are in specs/Practice.
+// The call that writes a practice book: values and lists drawn from a start number, and Write's
+// book of them. The draws are taken once, in book order. The definitions are in specs/Practice.
 ghost use mathlib.Core.Path.{_≡_};
 ghost use Prim.Native.Nat.{ℕ, _+_, _*_, _≤_, _<_};
 ghost use lib.IntN.{pos, _-ℤ_};
@@ -8,7 +8,8 @@ ghost use Rattle.book.specs.Layout.{mostCount, mostRate, mostAmount};
 ghost use Rattle.book_contents.specs.Reading.{each};
 ghost use Rattle.book_contents.specs.Contracts.{WriteContract};
 ghost use Rattle.generator.specs.Draws.{step, drawOf, stateAfter, drawAt};
-ghost use Rattle.practice_book.specs.Practice.{drawnNumber, drawnRate, practiceContents, PracticeContract};
+ghost use Rattle.practice_book.specs.Practice.{drawnNumber, drawnRate, practiceContents};
+ghost use Rattle.practice_book.specs.Practice.{PracticeContract};
 use book::CURVE_LIFT;
 use book::CURVE_SPAN;
 use book::MOST_AMOUNT;
@@ -27,13 +28,15 @@ const SIZE: usize = 41_876;
 // A field whose lowest value is 0, out of a draw.
 fn drawn_number(span: u64, draw: u64) -> u64
     requires { ⌜ span < 4294967296 ⌝ }
-    ensures { λ r. ⌜ (r ≡ drawnNumber span draw) × (r ≤ span) ⌝ }
+    ensures { λ r. ⌜ (r ≡ drawnNumber span draw)
+        × (r ≤ span) ⌝ }
 {
     draw % (span + 1)
 }
 
 fn less(x: u64, lift: u64) -> i64
-    requires { ⌜ (x < 4294967296) × (lift < 4294967296) ⌝ }
+    requires { ⌜ (x < 4294967296)
+        × (lift < 4294967296) ⌝ }
     ensures { λ r. ⌜ r ≡ (pos x -ℤ pos lift) ⌝ }
 {
     x as i64 - lift as i64
@@ -48,7 +51,8 @@ fn drawn_rate(draw: u64) -> i64
 
 // Puts the next draw's number into the list, and gives the words after it.
 fn put_number(list: &mut [u64], j: usize, words: GeneratorState, span: u64) -> GeneratorState
-    requires { ⌜ (j < length (now list)) × (span < 4294967296) ⌝ }
+    requires { ⌜ (j < length (now list))
+        × (span < 4294967296) ⌝ }
     ensures { λ r. ⌜ (r ≡ step words)
         × (now (list .exit) ≡ set (now (list .entry)) j (drawnNumber span (drawOf (step words)))) ⌝ }
 {
@@ -70,8 +74,9 @@ fn put_rate(curve: &mut [i64], j: usize, words: GeneratorState) -> GeneratorStat
 // Fills a table, a draw a number, and gives the words after it.
 fn fill_table(list: &mut [u64], from: GeneratorState, span: u64) -> GeneratorState
     requires { ⌜ span < 4294967296 ⌝ }
-    ensures { λ r. ⌜ (r ≡ stateAfter from (length (now (list .entry)))) × (now (list .exit)
-        ≡ each (λ (j : ℕ). drawnNumber span (drawAt from j)) (length (now (list .entry)))) ⌝ }
+    ensures { λ r. ⌜ (r ≡ stateAfter from (length (now (list .entry))))
+        × (now (list .exit) ≡ each (λ (j : ℕ). drawnNumber span (drawAt from j))
+        (length (now (list .entry)))) ⌝ }
 {
     let mut words = from;
     let mut j = 0;
@@ -83,8 +88,9 @@ fn fill_table(list: &mut [u64], from: GeneratorState, span: u64) -> GeneratorSta
 }
 
 fn fill_curve(curve: &mut [i64], from: GeneratorState) -> GeneratorState
-    ensures { λ r. ⌜ (r ≡ stateAfter from (length (now (curve .entry)))) × (now (curve .exit)
-        ≡ each (λ (j : ℕ). drawnRate (drawAt from j)) (length (now (curve .entry)))) ⌝ }
+    ensures { λ r. ⌜ (r ≡ stateAfter from (length (now (curve .entry))))
+        × (now (curve .exit) ≡ each (λ (j : ℕ). drawnRate (drawAt from j))
+        (length (now (curve .entry)))) ⌝ }
 {
     let mut words = from;
     let mut j = 0;
@@ -103,7 +109,9 @@ fn fill_lists(
     claims: &mut [u64],
     from: GeneratorState,
 )
-    requires { ⌜ (length (now counts) ≡ 1694) × (length (now lapses) ≡ 1694) × (length (now premiums) ≡ 1694)
+    requires { ⌜ (length (now counts) ≡ 1694)
+        × (length (now lapses) ≡ 1694)
+        × (length (now premiums) ≡ 1694)
         × (length (now claims) ≡ 1694) ⌝ }
     ensures { λ _. ⌜
         (now (counts .exit) ≡ each (λ (i : ℕ). drawnNumber mostCount (drawAt from (4 * i))) 1694)
@@ -158,8 +166,8 @@ fn write_drawn(start: u64, out: &mut [u8]) -> WriteReply
     book_write::write(values, &counts, &lapses, &premiums, &claims, out)
 }
 
-// Writes the practice book of a start number, and answers its length. Refused, with nothing written, where the buffer
-// is shorter than the book, and then where the start number is 0.
+// Writes the practice book of a start number, and answers its length. Refused, with nothing
+// written, where the buffer is shorter than the book, and then where the start number is 0.
 pub fn practice(start: u64, out: &mut [u8]) -> WriteReply
     ensures { λ r. ⌜ PracticeContract start (now (out .entry)) (now (out .exit)) r ⌝ }
 {

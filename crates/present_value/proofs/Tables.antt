@@ -16,7 +16,8 @@ use Rattle.cash_flow.proofs.CashFlow.{sum-more}
 use Rattle.present_value.specs.Outcome.{CurveOf, InYears, NoneFrom}
 
 -- what holds of each number before k, and of the one stored there, holds of each before k + 1
-pub stored : (P : ℕ → ℕ → Type 0) (table : List ℕ) (k x : ℕ) → k < length table → ((i : ℕ) → i < k → P i (getD table i 0)) → P k x
+pub stored : (P : ℕ → ℕ → Type 0) (table : List ℕ) (k x : ℕ) → k < length table
+    → ((i : ℕ) → i < k → P i (getD table i 0)) → P k x
     → (i : ℕ) → i < k + 1 → P i (getD (set table k x) i 0)
 stored P table k x l h p i lt =
     let le : i ≤ k = omega arith in
@@ -27,7 +28,8 @@ stored P table k x l h p i lt =
 pub in-none : (f : ℕ → ℕ) (m from : ℕ) → InYears f m from from (replicate 50 0)
 in-none f m from = record { are = λ k h l. absurd (omega arith); most = λ k h. omega (arith, zero-most 50 k) }
 
-pub in-more : (f : ℕ → ℕ) (m from k x : ℕ) (table : List ℕ) → k < length table → InYears f m from k table → x ≡ f k → x ≤ m
+pub in-more : (f : ℕ → ℕ) (m from k x : ℕ) (table : List ℕ) → k < length table → InYears f m from k table → x ≡ f k
+    → x ≤ m
     → InYears f m from (k + 1) (set table k x)
 in-more f m from k x table l h e small = record {
   are = stored (λ i y. from ≤ i → y ≡ f i) table k x l (h .are) (λ _. e);
@@ -38,9 +40,11 @@ pub curve-divisors : (b divisors fractions : List ℕ) → CurveOf b divisors fr
 curve-divisors b divisors fractions c k h = rw (c .divisors-are k h) (c .fractions-are k h)
 
 -- discounted each for its own number of years
-pub in-discounted : (b divisors fractions : List ℕ) (f g : ℕ → ℕ) (from j to : ℕ) (before after : List ℕ) → CurveOf b divisors fractions
+pub in-discounted : (b divisors fractions : List ℕ) (f g : ℕ → ℕ) (from j to : ℕ) (before after : List ℕ)
+    → CurveOf b divisors fractions
     → ((k : ℕ) → g k ≡ discounted rounded (divisorOf b k) k (f k)) → j + 1 ≡ to → to ≤ 50
-    → InYears f 4_000_000_000_000_000 from to before → DiscountedIn divisors j to before after → InYears g 9_000_000_000_000_000 from to after
+    → InYears f 4_000_000_000_000_000 from to before → DiscountedIn divisors j to before after
+    → InYears g 9_000_000_000_000_000 from to after
 in-discounted b divisors fractions f g from j to before after c e last few u d = record {
   are = λ k h l.
       let z : min j k ≡ k = omega arith in
@@ -55,15 +59,22 @@ discounted-none d zero = refl
 discounted-none d (suc j) = rw (discounted-none d j, zero-mul, zero-div)
 
 -- years that give nothing add nothing
-sum-none : (f : ℕ → ℕ) (n j : ℕ) → ((k : ℕ) → n ≤ k → k < n + j → f k ≡ 0) → sumYears rounded n f ≡ sumYears rounded (n + j) f
+sum-none : (f : ℕ → ℕ) (n j : ℕ) → ((k : ℕ) → n ≤ k → k < n + j → f k ≡ 0)
+    → sumYears rounded n f ≡ sumYears rounded (n + j) f
 sum-none f n zero h = let e : n + 0 ≡ n = omega arith in rw e refl
 sum-none f n (suc j) h =
     let e : n + suc j ≡ n + j + 1 = omega arith in
     let z : 0 ≡ f (n + j) = sym (h (n + j) (omega arith) (omega arith)) in
-    rw e (omega (arith, sum-none f n j (λ k l u. h k l (omega arith)), sum-more f (n + j) (sumYears rounded (n + j) f) 0 refl z))
+    rw e (omega (
+      arith,
+      sum-none f n j (λ k l u. h k l (omega arith)),
+      sum-more f (n + j) (sumYears rounded (n + j) f) 0
+          refl z,
+    ))
 
 -- so the years that have an amount give what all do
-pub sum-to-end : (D : ℕ → ℕ) (f g : ℕ → ℕ) (m from end to : ℕ) (table : List ℕ) → ((k : ℕ) → g k ≡ discounted rounded (D k) k (f k))
+pub sum-to-end : (D : ℕ → ℕ) (f g : ℕ → ℕ) (m from end to : ℕ) (table : List ℕ)
+    → ((k : ℕ) → g k ≡ discounted rounded (D k) k (f k))
     → InYears f m from to table → from ≤ end → end ≤ to → ((k : ℕ) → end ≤ k → k < to → getD table k 0 ≡ 0)
     → sumYears rounded end g ≡ sumYears rounded to g
 sum-to-end D f g m from end to table e y least most none =
@@ -73,19 +84,30 @@ sum-to-end D f g m from end to table e y least most none =
     e k ∙ rw z (discounted-none (D k) k)))
 
 -- fewer years
-pub in-fewer : (f : ℕ → ℕ) (m from end to : ℕ) (table : List ℕ) → end ≤ to → InYears f m from to table → InYears f m from end table
-in-fewer f m from end to table l y = record { are = λ k h. y .are k (omega arith); most = λ k h. y .most k (omega arith) }
+pub in-fewer : (f : ℕ → ℕ) (m from end to : ℕ) (table : List ℕ) → end ≤ to → InYears f m from to table
+    → InYears f m from end table
+in-fewer f m from end to table l y =
+    record { are = λ k h. y .are k (omega arith); most = λ k h. y .most k (omega arith) }
 
 -- no year looked at yet, and one more without an amount
 pub none-at-all : (premium outgo : List ℕ) (from to : ℕ) → from ≤ to → NoneFrom premium outgo from to to
 none-at-all premium outgo from to l =
-    record { least = l; most = omega arith; no-premium = λ k h u. absurd (omega arith); no-outgo = λ k h u. absurd (omega arith) }
+    record {
+      least = l;
+      most = omega arith;
+      no-premium = λ k h u. absurd (omega arith);
+      no-outgo = λ k h u. absurd
+          (omega arith);
+    }
 
-none-before : (table : List ℕ) (end to : ℕ) → getD table (end - 1) 0 ≡ 0 → ((k : ℕ) → end ≤ k → k < to → getD table k 0 ≡ 0)
+none-before : (table : List ℕ) (end to : ℕ) → getD table (end - 1) 0 ≡ 0
+    → ((k : ℕ) → end ≤ k → k < to → getD table k 0 ≡ 0)
     → (k : ℕ) → end - 1 ≤ k → k < to → getD table k 0 ≡ 0
-none-before table end to z h k l u = ⊎-elim (λ (q : end - 1 ≡ k). rw q at z) (λ (g : end - 1 < k). h k (omega arith) u) (eq-or-lt-of-le l)
+none-before table end to z h k l u =
+    ⊎-elim (λ (q : end - 1 ≡ k). rw q at z) (λ (g : end - 1 < k). h k (omega arith) u) (eq-or-lt-of-le l)
 
-pub none-sooner : (premium outgo : List ℕ) (from to end : ℕ) → NoneFrom premium outgo from to end → from < end → getD premium (end - 1) 0 ≡ 0
+pub none-sooner : (premium outgo : List ℕ) (from to end : ℕ) → NoneFrom premium outgo from to end → from < end
+    → getD premium (end - 1) 0 ≡ 0
     → getD outgo (end - 1) 0 ≡ 0 → NoneFrom premium outgo from to (end - 1)
 none-sooner premium outgo from to end h l p o = record {
   least = omega arith;

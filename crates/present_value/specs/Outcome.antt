@@ -1,4 +1,4 @@
--- What settling a product group gives.
+-- What valuing a product group gives.
 use mathlib.Core.Path.{_≡_}
 use mathlib.Core.List.{List, _++_}
 use Prim.Native.Nat.{ℕ, _+_, _*_, _<_, _≤_}
@@ -13,7 +13,7 @@ use Rattle.valuation.specs.Replies.{groupLiability, yearTable}
 use Rattle.cash_flow.specs.CashFlow.{Divisor}
 use Rattle.present_value.specs.declared.Amounts.{Amounts}
 
--- what settling a product group gives: its liability, and the lent table with the fifty years in front
+-- what valuing a product group gives: its liability, and the caller's table with the fifty years first
 pub record GroupValued (b : List ℕ) (setting g : ℕ) (before after : List ℕ) (r : ℤ) : Type 0 where
   pub liability-is : r ≡ groupLiability b setting g
   pub table-is : after ≡ yearTable (termsOf b setting g) (groupCells b (decrementsOf b setting) g) 50 ++ drop 200 before
@@ -58,7 +58,8 @@ yearPremium b setting g = discountedPremium rounded (termsOf b setting g) (group
 -- what the years from `from` to before `to` give: what those before `to` give, less those before `from`
 pub record AmountsIn (b : List ℕ) (setting g from to : ℕ) (r : Amounts) : Type 0 where
   pub outgo-is : sumYears rounded from (yearOutgo b setting g) + r .outgo ≡ sumYears rounded to (yearOutgo b setting g)
-  pub premium-is : sumYears rounded from (yearPremium b setting g) + r .premium ≡ sumYears rounded to (yearPremium b setting g)
+  pub premium-is : sumYears rounded from (yearPremium b setting g) + r .premium ≡ sumYears rounded to
+      (yearPremium b setting g)
   -- so that two of them can be added
   pub outgo-most : r .outgo ≤ 9_000_000_000_000_000 * to
   pub premium-most : r .premium ≤ 9_000_000_000_000_000 * to

@@ -1,4 +1,5 @@
-// The fifty years of a product group settled: its liability and its year table from its year sums, or what some years give.
+// The fifty years of a product group valued: its liability and its year table from its year sums,
+// or what some years give.
 // Internal: it asks for an accepted book, which the calls above have from the check.
 ghost use mathlib.Core.Path.{_≡_};
 ghost use Prim.Native.Nat.{_<_, _≤_};
@@ -6,11 +7,15 @@ ghost use lib.ListN.{length};
 ghost use Rattle.book.specs.Reading.{ValidBook};
 ghost use Rattle.settings.specs.Settings.{projectionOf, SettingOf};
 ghost use Rattle.group_projection.specs.Added.{TableIn};
-ghost use Rattle.present_value.specs.Outcome.{CurveOf, Undiscounted, NoneFrom, GroupValued, AmountsIn};
+ghost use Rattle.present_value.specs.Outcome.{CurveOf, Undiscounted, NoneFrom, GroupValued};
+ghost use Rattle.present_value.specs.Outcome.{AmountsIn};
 use cash_flow::Year;
+use cell_projection::A_YEAR;
+use cell_projection::YearSums;
 use settings::Setting;
 
-// The divisor of each year, and the fraction by which an amount goes a year back: the divisions, made once for all groups and settings.
+// The divisor of each year, and the fraction by which an amount goes a year back: the divisions,
+// made once for all groups and settings.
 pub struct Curve {
     pub divisors: [u64; 50],
     pub fractions: [u64; 50],
@@ -40,17 +45,25 @@ pub struct Years {
     pub outgo: [u64; 50],
 }
 
-// The years from `from` to before `to`, before discounting, in a setting: whoever settles many groups makes it once.
+// The years from `from` to before `to`, before discounting, in a setting: whoever values many
+// groups makes it once.
 pub fn undiscounted(
     book: &[u8],
     s: Setting,
     group: usize,
-    numbers: &[u64; 500],
+    numbers: &YearSums,
     from: usize,
     to: usize,
 ) -> Years
-    requires { ⌜ SettingOf s × (1 ≤ group) × (group ≤ 5) × (from ≤ to) × (to ≤ 50) × ValidBook 1 (now book) × TableIn (now book) (projectionOf (s .number)) group (now numbers) ⌝ }
-    ensures { λ r. ⌜ Undiscounted (now (book .entry)) (s .number) group from to (r .premium) (r .outgo) ⌝ }
+    requires { ⌜ SettingOf s
+        × (1 ≤ group)
+        × (group ≤ 5)
+        × (from ≤ to)
+        × (to ≤ 50)
+        × ValidBook 1 (now book)
+        × TableIn (now book) (projectionOf (s .number)) group (now numbers) ⌝ }
+    ensures { λ r. ⌜ Undiscounted (now (book .entry)) (s .number) group from to (r .premium)
+        (r .outgo) ⌝ }
 {
     let setting = s.number;
     let projection = s.projection;
@@ -59,7 +72,7 @@ pub fn undiscounted(
     let mut premium = [0u64; 50];
     let mut outgo = [0u64; 50];
     for k in from..to {
-        let j = 10 * k + 2 * projection;
+        let j = A_YEAR * k + 2 * projection;
         let due = numbers[j];
         let spent = cash_flow::outgo(w, k, rate, due, numbers[j + 1]);
         outgo[k] = spent;
@@ -68,16 +81,23 @@ pub fn undiscounted(
     Years { premium, outgo }
 }
 
-// The liability of a product group from its year sums; the first 200 numbers of the table become the fifty years'.
+// The liability of a product group from its year sums; the first 200 numbers of the table become
+// the fifty years'.
 pub fn value_group(
     book: &[u8],
     s: Setting,
     group: usize,
-    numbers: &[u64; 500],
+    numbers: &YearSums,
     table: &mut [u64],
 ) -> i64
-    requires { ⌜ SettingOf s × (1 ≤ group) × (group ≤ 5) × (200 ≤ length (now table)) × ValidBook 1 (now book) × TableIn (now book) (projectionOf (s .number)) group (now numbers) ⌝ }
-    ensures { λ r. ⌜ GroupValued (now (book .entry)) (s .number) group (now (table .entry)) (now (table .exit)) r ⌝ }
+    requires { ⌜ SettingOf s
+        × (1 ≤ group)
+        × (group ≤ 5)
+        × (200 ≤ length (now table))
+        × ValidBook 1 (now book)
+        × TableIn (now book) (projectionOf (s .number)) group (now numbers) ⌝ }
+    ensures { λ r. ⌜ GroupValued (now (book .entry)) (s .number) group (now (table .entry))
+        (now (table .exit)) r ⌝ }
 {
     let curve = curve_of(book);
     let divisors = curve.divisors;
@@ -111,9 +131,11 @@ pub struct Amounts {
     pub outgo: u64,
 }
 
-// The end of the years that have an amount, among those from `from` to before `to`: later ones have none, which no year's discounting changes.
+// The end of the years that have an amount, among those from `from` to before `to`: later ones have
+// none, which no year's discounting changes.
 fn end_of(premium: &[u64; 50], outgo: &[u64; 50], from: usize, to: usize) -> usize
-    requires { ⌜ (from ≤ to) × (to ≤ 50) ⌝ }
+    requires { ⌜ (from ≤ to)
+        × (to ≤ 50) ⌝ }
     ensures { λ r. ⌜ NoneFrom (now (premium .entry)) (now (outgo .entry)) from to r ⌝ }
 {
     let mut end = to;
@@ -130,11 +152,17 @@ pub fn amounts_in(
     fractions: &[u64; 50],
     s: Setting,
     group: usize,
-    numbers: &[u64; 500],
+    numbers: &YearSums,
     from: usize,
     to: usize,
 ) -> Amounts
-    requires { ⌜ SettingOf s × (1 ≤ group) × (group ≤ 5) × (from ≤ to) × (to ≤ 50) × ValidBook 1 (now book) × TableIn (now book) (projectionOf (s .number)) group (now numbers) ⌝ }
+    requires { ⌜ SettingOf s
+        × (1 ≤ group)
+        × (group ≤ 5)
+        × (from ≤ to)
+        × (to ≤ 50)
+        × ValidBook 1 (now book)
+        × TableIn (now book) (projectionOf (s .number)) group (now numbers) ⌝ }
     requires { ⌜ CurveOf (now book) (now divisors) (now fractions) ⌝ }
     ensures { λ r. ⌜ AmountsIn (now (book .entry)) (s .number) group from to r ⌝ }
 {

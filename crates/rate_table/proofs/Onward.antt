@@ -28,7 +28,8 @@ module _ (b : List ℕ) (chain i : ℕ) where
     unfolding rowAt
     next-is l = rw (add-one r, ← (h .row-is), lt-ltb (classOf b row) 120 (young l))
 
-    pub reached-next : (row′ class′ : ℕ) → class < 120 → row′ ≡ nextOf b row → class′ ≡ class + 1 → Reached b chain i (r + 1) row′ class′
+    pub reached-next : (row′ class′ : ℕ) → class < 120 → row′ ≡ nextOf b row → class′ ≡ class + 1
+        → Reached b chain i (r + 1) row′ class′
     reached-next row′ class′ l e f =
         rw e
         (record {
@@ -44,5 +45,7 @@ module _ (b : List ℕ) (chain i : ℕ) where
     unfolding rowAt
     same-is l = rw (add-one r, ← (h .row-is), le-ltb (classOf b row) 120 (old l))
 
-    pub reached-same : (row′ class′ : ℕ) → 120 ≤ class → row′ ≡ row → class′ ≡ class → Reached b chain i (r + 1) row′ class′
-    reached-same row′ class′ l e f = rw (e, f) (record { row-is = same-is l; class-is = h .class-is; standing = h .standing })
+    pub reached-same : (row′ class′ : ℕ) → 120 ≤ class → row′ ≡ row → class′ ≡ class
+        → Reached b chain i (r + 1) row′ class′
+    reached-same row′ class′ l e f =
+        rw (e, f) (record { row-is = same-is l; class-is = h .class-is; standing = h .standing })

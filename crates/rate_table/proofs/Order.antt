@@ -27,8 +27,11 @@ module _ (b : List ℕ) (sex i : ℕ) where
   pub row-ordered : (t : List ℕ) (r : ℕ) → RowOf b sex i t r → RowOrdered t r
   unfolding rateOf weightOf
   row-ordered t r h = record {
-    mortality-up = rw (h .rates 1 (omega arith), h .rates 0 (omega arith)) (less-left _ _ _ (heavier 0 1 (omega arith) (omega arith)));
-    mortality-down = rw (h .rates 0 (omega arith), h .rates 2 (omega arith)) (less-left _ _ _ (heavier 2 0 (omega arith) (omega arith)));
+    mortality-up = rw (h .rates 1 (omega arith), h .rates 0 (omega arith))
+        (less-left _ _ _ (heavier 0 1 (omega arith) (omega arith)));
+    mortality-down =
+        rw (h .rates 0 (omega arith), h .rates 2 (omega arith))
+        (less-left _ _ _ (heavier 2 0 (omega arith) (omega arith)));
     lapse-up = rw (h .rates 4 (omega arith), h .rates 3 (omega arith)) (less-left _ _ _ (omega arith));
     lapse-down = rw (h .rates 3 (omega arith), h .rates 5 (omega arith)) (less-left _ _ _ (omega arith));
   }

@@ -18,16 +18,19 @@ use Rattle.rate_table.specs.Rows.{rate, fraction, survivalAt, persistenc
 use Rattle.rate_table.specs.Puts.{Put, Holds, Filled, RowPut}
 
 -- two stores
-pub put-both : (t : List ℕ) (at f v : ℕ) → at + 8 < length t → IsFraction v 1_000_000_000 f → Put t (set (set t at f) (at + 8) v) at v
+pub put-both : (t : List ℕ) (at f v : ℕ) → at + 8 < length t → IsFraction v 1_000_000_000 f
+    → Put t (set (set t at f) (at + 8) v) at v
 put-both t at f v h e =
     record {
-      fraction-is = rw (getD-set-other (set t at f) (at + 8) at v 0 (λ q. omega arith), getD-set-same t at f 0 (omega arith)) e;
+      fraction-is = rw
+          (getD-set-other (set t at f) (at + 8) at v 0 (λ q. omega arith), getD-set-same t at f 0 (omega arith)) e;
       rate-is = getD-set-same (set t at f) (at + 8) v 0 (omega (arith, length-set t at f));
       kept = λ j p q. rw (getD-set-other (set t at f) (at + 8) j v 0 q, getD-set-other t at j f 0 p);
     }
 
 -- a column more
-pub filled-more : (rates : ℕ → ℕ) (before t u : List ℕ) (r n v : ℕ) → n < 8 → Filled rates before t r n → Put t u (16 * r + n) v → v ≡ rates n
+pub filled-more : (rates : ℕ → ℕ) (before t u : List ℕ) (r n v : ℕ) → n < 8 → Filled rates before t r n
+    → Put t u (16 * r + n) v → v ≡ rates n
     → v ≤ 1_000_000_000 → Filled rates before u r (n + 1)
 filled-more rates before t u r n v low f p e h =
     record {
@@ -47,21 +50,25 @@ pub filled-none : (rates : ℕ → ℕ) (t : List ℕ) (r : ℕ) → Filled rate
 filled-none rates t r = record { holds = λ c l. absurd (omega arith); kept = λ j l. refl }
 
 -- what lives on and what stays of record i, from the weights as they were read
-pub survival-is : (b : List ℕ) (sex i class m setting q : ℕ) (w : DecrementWeights) → class ≡ classOf b i → m ≡ mortalityOf b sex class
+pub survival-is : (b : List ℕ) (sex i class m setting q : ℕ) (w : DecrementWeights) → class ≡ classOf b i
+    → m ≡ mortalityOf b sex class
     → WeightsOf b setting w → q ≡ ofSex sex w → oneLess m q ≡ survivalAt b sex i setting
 survival-is b sex i class m setting q w e f o g = rw (f, e, g, o .are)
 
-pub persistency-is : (b : List ℕ) (i l setting : ℕ) (w : DecrementWeights) → l ≡ fieldOf b i lapseOffset → WeightsOf b setting w
+pub persistency-is : (b : List ℕ) (i l setting : ℕ) (w : DecrementWeights) → l ≡ fieldOf b i lapseOffset
+    → WeightsOf b setting w
     → oneLess l (w .lapse) ≡ persistencyAt b i setting
 persistency-is b i l setting w e o = rw (e, o .are)
 
 -- no weight of a sex is above 1,300
-pub sex-most : (b : List ℕ) (setting sex q : ℕ) (w : DecrementWeights) → WeightsOf b setting w → q ≡ ofSex sex w → q ≤ 1300
+pub sex-most : (b : List ℕ) (setting sex q : ℕ) (w : DecrementWeights) → WeightsOf b setting w → q ≡ ofSex sex w
+    → q ≤ 1300
 sex-most b setting sex q w o e = rw e (pick-le (eqb sex 0) 1300 (o .men) (o .women))
 
 module _ (b : List ℕ) (sex i : ℕ) where
   -- all eight columns are the record's row
-  pub row-filled : (chain : ℕ) → RecordRules b 120 chain i → (before t : List ℕ) (r : ℕ) → Filled (rateOf b sex i) before t r 8
+  pub row-filled : (chain : ℕ) → RecordRules b 120 chain i → (before t : List ℕ) (r : ℕ)
+      → Filled (rateOf b sex i) before t r 8
       → RowPut b sex i before t r
   unfolding rateOf
   row-filled chain k before t r f =
@@ -79,7 +86,8 @@ module _ (b : List ℕ) (sex i : ℕ) where
       }
 
   -- a row with the numbers of another, of the same table or one before
-  pub row-same : (t u : List ℕ) (r s : ℕ) → ((c : ℕ) → c < 8 → rate u s c ≡ rate t r c) → ((c : ℕ) → c < 8 → fraction u s c ≡ fraction t r c)
+  pub row-same : (t u : List ℕ) (r s : ℕ) → ((c : ℕ) → c < 8 → rate u s c ≡ rate t r c)
+      → ((c : ℕ) → c < 8 → fraction u s c ≡ fraction t r c)
       → RowOf b sex i t r → RowOf b sex i u s
   row-same t u r s same parts o =
       record {
@@ -93,11 +101,14 @@ module _ (b : List ℕ) (sex i : ℕ) where
       }
 
   -- a row among those kept
-  pub row-kept : (t u : List ℕ) (r n : ℕ) → r < n → ((j : ℕ) → j < 16 * n → getD u j 0 ≡ getD t j 0) → RowOf b sex i t r → RowOf b sex i u r
-  row-kept t u r n h k o = row-same t u r r (λ c l. k (16 * r + c + 8) (omega arith)) (λ c l. k (16 * r + c) (omega arith)) o
+  pub row-kept : (t u : List ℕ) (r n : ℕ) → r < n → ((j : ℕ) → j < 16 * n → getD u j 0 ≡ getD t j 0) → RowOf b sex i t r
+      → RowOf b sex i u r
+  row-kept t u r n h k o =
+      row-same t u r r (λ c l. k (16 * r + c + 8) (omega arith)) (λ c l. k (16 * r + c) (omega arith)) o
 
--- a row more: f tells the record of each row
+-- a row more: f says the record of each row
 pub rows-more : (b : List ℕ) (sex : ℕ) (f : ℕ → ℕ) (t u : List ℕ) (r row : ℕ) → row ≡ f r
     → ((j : ℕ) → j < r → RowOf b sex (f j) t j) → RowPut b sex row t u r → (j : ℕ) → j < r + 1 → RowOf b sex (f j) u j
 rows-more b sex f t u r row e h p =
-    below-more (λ j. RowOf b sex (f j) u j) r (λ j l. row-kept b sex (f j) t u j r l (p .kept) (h j l)) (rw (← e) (p .row))
+    below-more (λ j. RowOf b sex (f j) u j) r (λ j l. row-kept b sex (f j) t u j r l (p .kept) (h j l))
+    (rw (← e) (p .row))

@@ -24,11 +24,13 @@ repeated-none t from = record { kept = λ j l. refl; copied = λ j h l. absurd (
 pub repeated-more : (before t : List ℕ) (from j : ℕ) → 16 ≤ from → from ≤ j → j < length t → Repeated before t from j
     → Repeated before (set t j (getD t (j - 16) 0)) from (j + 1)
 repeated-more before t from j some late inside p =
-    let other : (k : ℕ) → k < j → getD (set t j (getD t (j - 16) 0)) k 0 ≡ getD t k 0 = λ k l. getD-set-other t j k _ 0 (λ q. omega arith) in
+    let other : (k : ℕ) → k < j → getD (set t j (getD t (j - 16) 0)) k 0 ≡ getD t k 0 =
+    λ k l. getD-set-other t j k _ 0 (λ q. omega arith) in
     record {
       kept = λ k l. other k (omega arith) ∙ p .kept k l;
       copied = λ k h l.
-          below-more (λ n. from ≤ n → getD (set t j (getD t (j - 16) 0)) n 0 ≡ getD (set t j (getD t (j - 16) 0)) (n - 16) 0) j
+          below-more (λ n. from ≤ n → getD (set t j (getD t (j - 16) 0)) n 0 ≡ getD (set t j (getD t (j - 16) 0))
+          (n - 16) 0) j
           (λ n g f. other n g ∙ p .copied n f g ∙ sym (other (n - 16) (omega arith)))
           (λ f. getD-set-same t j _ 0 inside ∙ sym (other (j - 16) (omega arith))) k l h;
     }
@@ -48,7 +50,8 @@ module _ (b : List ℕ) (chain i : ℕ) (s : Standing b 120 chain i) where
       read r l = row-kept b (chainSex chain) (rowAt b i r) t u r (121 - classOf b i) l (p .kept) (h r l)
 
       -- what stands a row later
-      again : (j k : ℕ) → j ≡ k + 16 → 16 * (121 - classOf b i) ≤ j → j < 16 * (170 - classOf b i) → getD u j 0 ≡ getD u k 0
+      again : (j k : ℕ) → j ≡ k + 16 → 16 * (121 - classOf b i) ≤ j → j < 16 * (170 - classOf b i)
+          → getD u j 0 ≡ getD u k 0
       again j k e g l =
           let back : k ≡ j - 16 = omega arith in
           rw back (p .copied j g l)
@@ -59,7 +62,8 @@ module _ (b : List ℕ) (chain i : ℕ) (s : Standing b 120 chain i) where
       onward r l o false e =
           let g : 121 - classOf b i ≤ suc r = ltb-false _ _ e in
           rw (persists r (omega arith))
-          (row-same b (chainSex chain) (rowAt b i r) u u r (suc r) (λ c k. again _ _ (omega arith) (omega arith) (omega arith))
+          (row-same b (chainSex chain) (rowAt b i r) u u r (suc r)
+          (λ c k. again _ _ (omega arith) (omega arith) (omega arith))
           (λ c k. again _ _ (omega arith) (omega arith) (omega arith)) o)
 
       each : (r : ℕ) → r < 170 - classOf b i → RowOf b (chainSex chain) (rowAt b i r) u r

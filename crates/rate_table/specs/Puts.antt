@@ -1,5 +1,5 @@
--- What is stored in a table of rows: a rate with its fraction, a row, the rows of a chain's records, the last of them again. All other numbers
--- that count stay as they were.
+-- What is stored in a table of rows: a rate with its fraction, a row, the rows of a chain's records, the last of them
+-- again. All other numbers that count stay as they were.
 use mathlib.Core.List.{List}
 use mathlib.Core.Path.{_≡_}
 use Prim.Native.Nat.{ℕ, _+_, _-_, _*_, _≤_, _<_}
@@ -28,7 +28,9 @@ pub record Filled (rates : ℕ → ℕ) (before t : List ℕ) (r n : ℕ) : Type
 
 -- three columns more, from column n on: one less a rate at three weights
 abbrev pub ThreeMore : List ℕ → List ℕ → ℕ → ℕ → ℕ → ℕ → ℕ → ℕ → Type 0
-ThreeMore t u r n v x y z = (rates : ℕ → ℕ) (before : List ℕ) → oneLess v x ≡ rates n → oneLess v y ≡ rates (n + 1) → oneLess v z ≡ rates (n + 2)
+ThreeMore t u r n v x y z =
+    (rates : ℕ → ℕ) (before : List ℕ) → oneLess v x ≡ rates n → oneLess v y ≡ rates (n + 1)
+    → oneLess v z ≡ rates (n + 2)
     → Filled rates before t r n → Filled rates before u r (n + 3)
 
 -- row r, of record i of a chain of a sex; the rows before it are kept

@@ -1,7 +1,9 @@
--- A chain's rates and amounts in a table, a row for each year that a cell of it can reach, and what a row holds of a record.
--- A row has sixteen numbers: the fractions of eight rates, then the eight rates. Columns: 0 what lives on in the base setting, 1 where mortality is
--- up, 2 where it is down; 3 what stays in the base setting, 4 where the lapse is up, 5 where it is down, all in billionths; 6 the premium, 7 the
--- claims of a contract, in centimes. Every setting has one of these in every year.
+-- A chain's rates and amounts in a table, a row for each year that a cell of it can reach, and what a row holds of a
+-- record.
+-- A row has sixteen numbers: the fractions of eight rates, then the eight rates. Columns: 0 what lives on in the base
+-- setting, 1 where mortality is up, 2 where it is down; 3 what stays in the base setting, 4 where the lapse is up, 5
+-- where it is down, all in billionths; 6 the premium, 7 the claims of a contract, in centimes. Every setting has one of
+-- these in every year.
 use mathlib.Core.Bool.{cond}
 use mathlib.Core.List.{List}
 use mathlib.Core.Path.{_≡_}
@@ -57,6 +59,7 @@ pub record RowOf (b : List ℕ) (sex i : ℕ) (t : List ℕ) (r : ℕ) : Type 0 
   pub ready : RowReady t r
   pub rates : (c : ℕ) → c < 8 → rate t r c ≡ rateOf b sex i c
 
--- the rows from record i of a chain on: row r holds what holds for the cell of i in year r, up to fifty years of the last class
+-- the rows from record i of a chain on: row r holds what holds for the cell of i in year r, up to fifty years of the
+-- last class
 abbrev pub RowsOf : List ℕ → ℕ → ℕ → List ℕ → Type 0
 RowsOf b chain i t = (r : ℕ) → r < 170 - classOf b i → RowOf b (chainSex chain) (rowAt b i r) t r

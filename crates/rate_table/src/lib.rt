@@ -1,6 +1,8 @@
-// The rows of a chain, read once for all settings: for each year that a cell can reach, what lives on and what stays at the weights that occur,
-// premium and claims, each with the fraction by which shares are taken without a division.
-// Internal: the functions ask for an accepted book's rules, which the calls above have from the check.
+// The rows of a chain, read once for all settings: for each year that a cell can reach, what lives
+// on and what stays at the weights that occur, premium and claims, each with the fraction by which
+// shares are taken without a division.
+// Internal: the functions ask for an accepted book's rules, which the calls above have from the
+// check.
 ghost use mathlib.Core.Path.{_≡_};
 ghost use Prim.Native.Nat.{_+_, _-_, _*_, _<_, _≤_};
 ghost use lib.ListN.{length};
@@ -14,10 +16,32 @@ ghost use Rattle.rate_table.specs.Rows.{RowsOf};
 ghost use Rattle.rate_table.specs.Puts.{Put, ThreeMore, RowPut, RowsBelow, Repeated};
 use settings::Shifts;
 
+// A row for each year that a cell can reach. Its columns: what survives at three weights and what
+// persists at three, premium and claims, as fractions; and in the same order, RATES columns
+// further, the rates.
+pub const ROWS: usize = 170;
+
+pub const COLUMNS: usize = 16;
+
+pub const RATES: usize = 8;
+
+pub const SURVIVAL: usize = 0;
+
+pub const PERSISTENCY: usize = 3;
+
+pub const PREMIUM: usize = 6;
+
+pub const CLAIMS: usize = 7;
+
+pub type RateTable = [u64; ROWS * COLUMNS];
+
 // The mortality of a sex and class, in millionths.
 fn mortality_of(book: &[u8], sex: usize, class: usize) -> u64
-    requires { ⌜ ValidBook 1 (now book) × (sex ≤ 1) × (class ≤ 120) ⌝ }
-    ensures { λ r. ⌜ (r ≡ mortalityOf (now (book .entry)) sex class) × (r ≤ 1000000) ⌝ }
+    requires { ⌜ ValidBook 1 (now book)
+        × (sex ≤ 1)
+        × (class ≤ 120) ⌝ }
+    ensures { λ r. ⌜ (r ≡ mortalityOf (now (book .entry)) sex class)
+        × (r ≤ 1000000) ⌝ }
 {
     le_bytes::read_u32(
         book,
@@ -25,10 +49,13 @@ fn mortality_of(book: &[u8], sex: usize, class: usize) -> u64
     )
 }
 
-// One less a rate in millionths at a weight in thousandths, in billionths: none where the weighted rate is one or more.
+// One less a rate in millionths at a weight in thousandths, in billionths: none where the weighted
+// rate is one or more.
 fn one_less(rate: u64, weight: u64) -> u64
-    requires { ⌜ (rate ≤ 1000000) × (weight ≤ 1300) ⌝ }
-    ensures { λ r. ⌜ (r ≡ oneLess rate weight) × (r ≤ 1000000000) ⌝ }
+    requires { ⌜ (rate ≤ 1000000)
+        × (weight ≤ 1300) ⌝ }
+    ensures { λ r. ⌜ (r ≡ oneLess rate weight)
+        × (r ≤ 1000000000) ⌝ }
 {
     let weighted = rate * weight;
     if weighted < 1_000_000_000 {
@@ -51,19 +78,25 @@ fn fraction_of(rate: u64) -> u64
 
 // Stores a rate and, eight places before it, its fraction.
 fn put(rows: &mut [u64], at: usize, rate: u64)
-    requires { ⌜ (at + 8 < length (now rows)) × (rate ≤ 1000000000) ⌝ }
+    requires { ⌜ (at + 8 < length (now rows))
+        × (rate ≤ 1000000000) ⌝ }
     ensures { λ _. ⌜ Put (now (rows .entry)) (now (rows .exit)) at rate ⌝ }
 {
     rows[at] = fraction_of(rate);
-    rows[at + 8] = rate;
+    rows[at + RATES] = rate;
 }
 
 // Stores three columns of row r from column n on: what a rate leaves at three weights.
-fn put_three(rows: &mut [u64; 2720], r: usize, n: usize, rate: u64, x: u64, y: u64, z: u64)
-    requires { ⌜ (r < 170) × (n ≤ 3) × (rate ≤ 1000000) × (x ≤ 1300) × (y ≤ 1300) × (z ≤ 1300) ⌝ }
+fn put_three(rows: &mut RateTable, r: usize, n: usize, rate: u64, x: u64, y: u64, z: u64)
+    requires { ⌜ (r < 170)
+        × (n ≤ 3)
+        × (rate ≤ 1000000)
+        × (x ≤ 1300)
+        × (y ≤ 1300)
+        × (z ≤ 1300) ⌝ }
     ensures { λ _. ⌜ ThreeMore (now (rows .entry)) (now (rows .exit)) r n rate x y z ⌝ }
 {
-    let at = 16 * r + n;
+    let at = COLUMNS * r + n;
     put(rows, at, one_less(rate, x));
     put(rows, at + 1, one_less(rate, y));
     put(rows, at + 2, one_less(rate, z));
@@ -77,22 +110,27 @@ fn put_row(
     class: usize,
     i: usize,
     r: usize,
-    rows: &mut [u64; 2720],
+    rows: &mut RateTable,
 )
-    requires { ⌜ ShiftsOf (now book) w × ValidBook 1 (now book) × RecordRules (now book) 120 chain i × (class ≡ classOf (now book) i) × (r < 170) ⌝ }
-    ensures { λ _. ⌜ RowPut (now (book .entry)) (chainSex chain) i (now (rows .entry)) (now (rows .exit)) r ⌝ }
+    requires { ⌜ ShiftsOf (now book) w
+        × ValidBook 1 (now book)
+        × RecordRules (now book) 120 chain i
+        × (class ≡ classOf (now book) i)
+        × (r < 170) ⌝ }
+    ensures { λ _. ⌜ RowPut (now (book .entry)) (chainSex chain) i (now (rows .entry))
+        (now (rows .exit)) r ⌝ }
 {
     let sex = chain % 2;
     let mortality = mortality_of(book, sex, class);
     let deaths = w.base.of_sex(sex);
     let more = w.mortality_up.of_sex(sex);
     let fewer = w.mortality_down.of_sex(sex);
-    put_three(rows, r, 0, mortality, deaths, more, fewer);
+    put_three(rows, r, SURVIVAL, mortality, deaths, more, fewer);
     let lapse = book::field_of(book, i, book::LAPSE_OFFSET);
     put_three(
         rows,
         r,
-        3,
+        PERSISTENCY,
         lapse,
         w.base.lapse,
         w.lapse_up.lapse,
@@ -100,20 +138,24 @@ fn put_row(
     );
     put(
         rows,
-        16 * r + 6,
+        COLUMNS * r + PREMIUM,
         book::field_of(book, i, book::PREMIUM_OFFSET),
     );
     put(
         rows,
-        16 * r + 7,
+        COLUMNS * r + CLAIMS,
         book::field_of(book, i, book::CLAIMS_OFFSET),
     );
 }
 
 // Reads the linked records from record i on, a row for each.
-fn read_links(book: &[u8], w: Shifts, chain: usize, i: usize, rows: &mut [u64; 2720])
-    requires { ⌜ ShiftsOf (now book) w × ValidBook 1 (now book) × (chain < 14) × Standing (now book) 120 chain i ⌝ }
-    ensures { λ _. ⌜ RowsBelow (now (book .entry)) chain i (now (rows .exit)) (121 - classOf (now (book .entry)) i) ⌝ }
+fn read_links(book: &[u8], w: Shifts, chain: usize, i: usize, rows: &mut RateTable)
+    requires { ⌜ ShiftsOf (now book) w
+        × ValidBook 1 (now book)
+        × (chain < 14)
+        × Standing (now book) 120 chain i ⌝ }
+    ensures { λ _. ⌜ RowsBelow (now (book .entry)) chain i (now (rows .exit))
+        (121 - classOf (now (book .entry)) i) ⌝ }
 {
     let mut row = i;
     let mut class = book::class_of(book, i);
@@ -129,20 +171,26 @@ fn read_links(book: &[u8], w: Shifts, chain: usize, i: usize, rows: &mut [u64; 2
 
 // Copies the row before row `from` to the rows up to before row `to`.
 fn repeat_row(rows: &mut [u64], from: usize, to: usize)
-    requires { ⌜ (1 ≤ from) × (from ≤ to) × (16 * to ≤ length (now rows)) ⌝ }
+    requires { ⌜ (1 ≤ from)
+        × (from ≤ to)
+        × (16 * to ≤ length (now rows)) ⌝ }
     ensures { λ _. ⌜ Repeated (now (rows .entry)) (now (rows .exit)) (16 * from) (16 * to) ⌝ }
 {
-    for j in 16 * from..16 * to {
-        rows[j] = rows[j - 16];
+    for j in COLUMNS * from..COLUMNS * to {
+        rows[j] = rows[j - COLUMNS];
     }
 }
 
-// Reads the chain from record i on into the table, row by row. At the last class the same record holds for all later years.
-pub fn read_rows(book: &[u8], w: Shifts, chain: usize, i: usize, rows: &mut [u64; 2720])
-    requires { ⌜ ShiftsOf (now book) w × ValidBook 1 (now book) × (chain < 14) × Standing (now book) 120 chain i ⌝ }
+// Reads the chain from record i on into the table, row by row. At the last class the same record
+// holds for all later years.
+pub fn read_rows(book: &[u8], w: Shifts, chain: usize, i: usize, rows: &mut RateTable)
+    requires { ⌜ ShiftsOf (now book) w
+        × ValidBook 1 (now book)
+        × (chain < 14)
+        × Standing (now book) 120 chain i ⌝ }
     ensures { λ _. ⌜ RowsOf (now (book .entry)) chain i (now (rows .exit)) ⌝ }
 {
     let class = book::class_of(book, i);
     read_links(book, w, chain, i, rows);
-    repeat_row(rows, 121 - class, 170 - class);
+    repeat_row(rows, 121 - class, ROWS - class);
 }

@@ -1,4 +1,4 @@
--- Laws of the looker: what is located is the record, and its bytes are the record's. Assumes nothing.
+-- Laws of the record view: what is located is the record, and its bytes are the record's. Assumes nothing.
 use mathlib.Core.Path.{_≡_, refl, _∙_}
 use mathlib.Core.List.{List}
 use Prim.Native.Nat.{ℕ, _+_, _-_, _≤_, zero-le}
@@ -35,11 +35,13 @@ module _ (b : List ℕ) (number : ℕ) where
   located-lies : (v : Verdict) → lookUp b number ≡ v → liesIn b (at v .start) (at v .len) ≡ true
   unfolding liesIn
   located-lies (Accepted m) e =
-      let h : recordAt number + 24 ≤ length b = omega (arith, look-valid b number m e .header .size, look-number b number m e) in
+      let h : recordAt number + 24 ≤ length b =
+      omega (arith, look-valid b number m e .header .size, look-number b number m e) in
       rw (le-leb (recordAt number) (length b) (omega arith), le-leb 24 (length b - recordAt number) (omega arith))
   located-lies (Refused q p) e = rw (le-leb 0 (length b) zero-le, le-leb 0 (length b - 0) zero-le)
 
-  located-bytes : (v : Verdict) → take (at v .len) (drop (at v .start) b) ≡ bytesOf v (take recordSize (drop (recordAt number) b))
+  located-bytes : (v : Verdict)
+      → take (at v .len) (drop (at v .start) b) ≡ bytesOf v (take recordSize (drop (recordAt number) b))
   located-bytes (Accepted m) = refl
   located-bytes (Refused q p) = refl
 
@@ -51,8 +53,9 @@ module _ (b : List ℕ) (number : ℕ) where
   located-place (Accepted m) = refl
   located-place (Refused q p) = refl
 
--- what is located, with the part that stands there, is what the looker shows
-pub shown : (book : RefT (List ℕ)) (number : ℕ) (r : Located) (t : RefT (List ℕ)) → r ≡ locatedIn (now book) number → PartOf book (r .start) (r .len) t
+-- what is located, with the part that stands there, is what the record view shows
+pub shown : (book : RefT (List ℕ)) (number : ℕ) (r : Located) (t : RefT (List ℕ)) → r ≡ locatedIn (now book) number
+    → PartOf book (r .start) (r .len) t
     → Shows book number (record { refusal = r .refusal; place = r .place; part = t })
 unfolding locatedIn recordBytes
 shown book number r t e f =

@@ -1,4 +1,4 @@
--- The looker: the 24 bytes of one record of an accepted book, linked or not.
+-- The record view: the 24 bytes of one record of an accepted book, linked or not.
 use Prim.Native.Nat.{ℕ, _+_, _-_}
 use mathlib.Core.Path.{_≡_}
 use mathlib.Core.List.{List, []}
@@ -39,16 +39,17 @@ recordBytes b number = bytesOf (lookUp b number) (take recordSize (drop (recordA
 unfoldable pub liesIn : List ℕ → ℕ → ℕ → Bool
 liesIn b start len = cond (leb start (length b)) (leb len (length b - start)) false
 
--- a part begins in the memory of a lent book, so many bytes behind the book's own beginning
+-- a part begins in the memory of the caller's book, so many bytes behind the book's own beginning
 abbrev pub StandsAt : RefT (List ℕ) → ℕ → RefT (List ℕ) → Type 0
 StandsAt book offset part = (part .ptr .0 ≡ book .ptr .0) × (part .ptr .1 ≡ book .ptr .1 + offset)
 
--- a part of a lent book: len bytes from start, where they stand in the book; none, at its beginning, where they run past its end
+-- a part of the caller's book: len bytes from start, where they stand in the book; none, at its beginning, where they
+-- run past its end
 pub record PartOf (book : RefT (List ℕ)) (start len : ℕ) (part : RefT (List ℕ)) : Type 0 where
   pub bytes : now part ≡ cond (liesIn (now book) start len) (take len (drop start (now book))) []
   pub stands : StandsAt book (cond (liesIn (now book) start len) start 0) part
 
--- what the looker hands back: the record's bytes, where they stand in the lent book
+-- what the record view returns: the record's bytes, where they stand in the caller's book
 pub record Shows (book : RefT (List ℕ)) (number : ℕ) (r : Shown) : Type 0 where
   pub refusal-is : r .refusal ≡ refusalOf (lookUp (now book) number)
   pub place-is : r .place ≡ placeOf (lookUp (now book) number)

@@ -1,10 +1,12 @@
-// The looker: the 24 bytes of a record as a part of the lent book.
-// `look` hands the part back in a struct. `locate` says where it stands, for callers that take no struct with a reference.
+// The record view: the 24 bytes of a record as a part of the caller's book.
+// `look` hands the part back in a struct. `locate` says where it stands, for callers that take no
+// struct with a reference.
 ghost use mathlib.Core.Path.{_≡_};
 ghost use Rattle.record_view.specs.Looker.{lookUp, locatedIn, PartOf, Shows};
 use verdict::Verdict;
 
-// The refusal and its place, 0 and 0 where there is none, and where the record's bytes stand, 0 and 0 where refused.
+// The refusal and its place, 0 and 0 where there is none, and where the record's bytes stand, 0 and
+// 0 where refused.
 #[repr(C)]
 pub struct Located {
     pub refusal: u64,

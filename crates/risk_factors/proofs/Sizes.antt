@@ -1,4 +1,4 @@
--- A scaled factor by its size and sign, and the room that it needs; factors that pass 30. Assumes nothing.
+-- A scaled factor by its size and sign, and the space that it needs; factors that pass 30. Assumes nothing.
 use mathlib.Core.Path.{_≡_, refl, sym, ap, _∙_}
 use Prim.Native.Nat.{ℕ, zero, suc, _+_, _*_, _/_, _≤_, _<_}
 use mathlib.Core.Bool.{true}

@@ -23,7 +23,9 @@ const MOST_FACTOR: u64 = 1_000_000;
 
 // A scaled factor. No step can pass 64 bits, whatever the difference.
 fn scaled(difference: Signed, coefficient: u64, span: u64) -> Signed
-    requires { ⌜ (coefficient ≤ 1000000) × (50 ≤ span) × (span ≤ 600) ⌝ }
+    requires { ⌜ (coefficient ≤ 1000000)
+        × (50 ≤ span)
+        × (span ≤ 600) ⌝ }
     ensures { λ r. ⌜ r .number ≡ scaledOf (difference .number) coefficient span ⌝ }
 {
     let thousands = difference.size() / 100_000;

@@ -2,7 +2,8 @@
 // rules that they keep.
 ghost use mathlib.Core.Path.{_≡_};
 ghost use Prim.Native.Nat.{_<_};
-ghost use Rattle.risk_model.specs.Model.{coefficientsRight, rightAt, correlationRight, modelValid};
+ghost use Rattle.risk_model.specs.Model.{coefficientsRight, rightAt, correlationRight};
+ghost use Rattle.risk_model.specs.Model.{modelValid};
 use signed::Signed;
 use signed::of_sixteen;
 
@@ -28,7 +29,8 @@ fn coefficients_valid(coefficients: &[u64; 4]) -> bool
 }
 
 fn valid_at(correlation: &[i64; 16], i: usize, j: usize) -> bool
-    requires { ⌜ (i < 4) × (j < 4) ⌝ }
+    requires { ⌜ (i < 4)
+        × (j < 4) ⌝ }
     ensures { λ r. ⌜ r ≡ rightAt (now (correlation .entry)) i j ⌝ }
 {
     let x = of_sixteen(correlation, 4 * i + j);

@@ -4,17 +4,21 @@ use mathlib.Core.Bool.{Bool, true, false, _&&_, cond}
 use Prim.Native.Nat.{ℕ, _≤_}
 use native.Mathlib.Omega.{arith}
 use lib.Dec.{ltb, eqb}
-use Rattle.settings.specs.Settings.{weightIn, weightOf, sameMortality, livingColumn, stayingColumn, columnsOf, livesIn, staysIn}
+use Rattle.settings.specs.Settings.{weightIn, weightOf, sameMortality, livingColumn, stayingColumn, columnsOf}
+use Rattle.settings.specs.Settings.{livesIn, staysIn}
 use Rattle.settings.proofs.Weights.{pick-le}
 
 module _ (setting k : ℕ) where
   pub survival-low : livingColumn setting k ≤ 2
   unfolding livingColumn
-  survival-low = pick-le (sameMortality setting k 0) 2 (omega arith) (pick-le (sameMortality setting k 1) 2 (omega arith) (omega arith))
+  survival-low = pick-le (sameMortality setting k 0) 2 (omega arith)
+      (pick-le (sameMortality setting k 1) 2 (omega arith) (omega arith))
 
   pub persistency-low : stayingColumn setting k ≤ 5
   unfolding stayingColumn
-  persistency-low = pick-le (eqb (weightOf setting 2 k) (weightOf 0 2 0)) 5 (omega arith) (pick-le (eqb (weightOf setting 2 k) (weightOf 3 2 0)) 5 (omega arith) (omega arith))
+  persistency-low =
+      pick-le (eqb (weightOf setting 2 k) (weightOf 0 2 0)) 5 (omega arith)
+      (pick-le (eqb (weightOf setting 2 k) (weightOf 3 2 0)) 5 (omega arith) (omega arith))
 
   pub survives-is : livesIn (columnsOf setting) k ≡ livingColumn setting k
   unfolding columnsOf livingColumn sameMortality weightOf

@@ -1,4 +1,5 @@
--- Every setting is served by one of the five projections, and the later years of a setting by those of another. Assumes nothing.
+-- Every setting is served by one of the five projections, and the later years of a setting by those of another. Assumes
+-- nothing.
 use mathlib.Core.Path.{_≡_, refl, sym, _∙_}
 use mathlib.Core.Bool.{Bool, true, false, _&&_, true≢false}
 use mathlib.Core.List.{List}
@@ -6,15 +7,18 @@ use Prim.Native.Nat.{ℕ, _<_, _≤_}
 use native.Mathlib.Omega.{arith}
 use lib.Dec.{eqb}
 use borrow.Author.Tests.{eqb-true}
-use Rattle.settings.specs.Settings.{weightOf, mortalityWeight, sameMortality, livingColumn, stayingColumn, columnsOf, sameColumns}
+use Rattle.settings.specs.Settings.{weightOf, mortalityWeight, sameMortality, livingColumn, stayingColumn}
+use Rattle.settings.specs.Settings.{columnsOf, sameColumns}
 use Rattle.settings.specs.Settings.{decrementsOf, outgoingsOf, projectionOf, SettingOf, laterAs}
 use Rattle.settings.specs.declared.Setting.{Setting}
 use Rattle.settings.proofs.Weights.{pick-le, each-setting}
 
 -- a setting has the weights of mortality and lapse of the projection that serves it
 pub served : (b : List ℕ) (setting : ℕ) → setting < 8 → decrementsOf b (projectionOf setting) ≡ decrementsOf b setting
-unfolding projectionOf sameColumns columnsOf livingColumn sameMortality stayingColumn decrementsOf mortalityWeight weightOf
-served b = each-setting (λ s. decrementsOf b (projectionOf s) ≡ decrementsOf b s) refl refl refl refl refl refl refl refl
+unfolding projectionOf sameColumns columnsOf livingColumn sameMortality stayingColumn decrementsOf mortalityWeight
+    weightOf
+served b = each-setting (λ s. decrementsOf b (projectionOf s) ≡ decrementsOf b s) refl refl refl refl refl refl refl
+    refl
 
 pub projection-low : (setting : ℕ) → projectionOf setting < 5
 unfolding projectionOf
@@ -30,9 +34,11 @@ both : (p q : Bool) → (p && q) ≡ true → (p ≡ true) × (q ≡ true)
 both true q e = (refl, e)
 both false q e = absurd (true≢false (cc))
 
--- a setting whose later years are another's has its weights of mortality and lapse, and its later weights of costs and claims
+-- a setting whose later years are another's has its weights of mortality and lapse, and its later weights of costs and
+-- claims
 module _ (s t : Setting) (hs : SettingOf s) (ht : SettingOf t) (same : laterAs s t ≡ true) where
-  tests : ((s .projection ≡ t .projection) × (s .outgo .later .costs ≡ t .outgo .later .costs)) × (s .outgo .later .claims ≡ t .outgo .later .claims)
+  tests : ((s .projection ≡ t .projection) × (s .outgo .later .costs ≡ t .outgo .later .costs))
+      × (s .outgo .later .claims ≡ t .outgo .later .claims)
   tests =
       let p = eqb (s .projection) (t .projection) in
       let q = eqb (s .outgo .later .costs) (t .outgo .later .costs) in

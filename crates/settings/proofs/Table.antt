@@ -25,9 +25,11 @@ abbrev pub everyEntry : (ℕ → ℕ → Bool) → ℕ → List ℕ → Bool
 everyEntry f i [] = true
 everyEntry f i (x ∷ xs) = both (f i x) (everyEntry f (suc i) xs)
 
-from : (f : ℕ → ℕ → Bool) (xs : List ℕ) (i : ℕ) → T (everyEntry f i xs) → (k : ℕ) → k < length xs → T (f (i + k) (getD xs k 0))
+from : (f : ℕ → ℕ → Bool) (xs : List ℕ) (i : ℕ) → T (everyEntry f i xs) → (k : ℕ) → k < length xs
+    → T (f (i + k) (getD xs k 0))
 from f [] i t k h = absurd (not-suc-le-zero h)
-from f (x ∷ xs) i t zero h = subst (λ (m : ℕ). T (f m x)) (sym (add-zero i)) (both-left (f i x) (everyEntry f (suc i) xs) t)
+from f (x ∷ xs) i t zero h =
+    subst (λ (m : ℕ). T (f m x)) (sym (add-zero i)) (both-left (f i x) (everyEntry f (suc i) xs) t)
 from f (x ∷ xs) i t (suc k) h =
     subst (λ (m : ℕ). T (f m (getD xs k 0))) (suc-add i k ∙ sym (add-suc i k))
     (from f xs (suc i) (both-right (f i x) (everyEntry f (suc i) xs) t) k (le-of-suc-le-suc h))

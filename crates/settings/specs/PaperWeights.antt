@@ -1,4 +1,5 @@
--- The paper's weights as figures, and in which years each holds: one proposition on the weights that the reckoning takes.
+-- The paper's weights as figures, and in which years each holds: one proposition on the weights that the valuation
+-- takes.
 use mathlib.Core.Path.{_≡_}
 use mathlib.Core.List.{List}
 use Prim.Native.Nat.{ℕ, _*_, _<_, _≤_}
@@ -13,7 +14,7 @@ pub record YearWeights : Type 0 where
   pub costs : ℕ
   pub claims : ℕ
 
--- those that the reckoning of a book takes in a setting and the year k
+-- those that the valuation of a book takes in a setting and the year k
 abbrev pub weightsAt : List ℕ → ℕ → ℕ → YearWeights
 weightsAt b setting k = record {
   men = mortalityIn (decrementsOf b setting) 0 k;

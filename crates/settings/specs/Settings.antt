@@ -1,6 +1,7 @@
 -- The weights of the eight settings, in thousandths (paper, section Settings). Assumes nothing.
 -- Setting is document 01's term for a scenario: 0 is the base, 1 to 7 shift one of its weights (FINMA 5.2.2).
--- Kinds: 0 mortality of men, 1 mortality of women, 2 lapse, 3 costs, 4 claims. A weight of mortality is so much for each percent of it.
+-- Kinds: 0 mortality of men, 1 mortality of women, 2 lapse, 3 costs, 4 claims. A weight of mortality is so much for
+-- each percent of it.
 use mathlib.Core.Bool.{Bool, _&&_, cond}
 use mathlib.Core.List.{List}
 use mathlib.Core.Path.{_≡_}
@@ -40,11 +41,13 @@ weightIn early setting kind = baseWeight kind * shiftIn early setting kind / 100
 unfoldable pub weightOf : ℕ → ℕ → ℕ → ℕ
 weightOf setting kind k = weightIn (ltb k 5) setting kind
 
--- the mortality percentage of a sex, 0 men, 1 women: 87 and 86 (FINMA 4.4.3), unless the book is of edition 2 and carries its own
+-- the mortality percentage of a sex, 0 men, 1 women: 87 and 86 (FINMA 4.4.3), unless the book is of edition 2 and
+-- carries its own
 unfoldable pub percentOf : List ℕ → ℕ → ℕ
 percentOf b sex = cond (eqb (edition b) 2) (percentAt b sex) (cond (eqb sex 0) 87 86)
 
--- the weight of the mortality of a sex in the year k: ten times its percentage, twelve or eight times where a setting shifts it
+-- the weight of the mortality of a sex in the year k: ten times its percentage, twelve or eight times where a setting
+-- shifts it
 unfoldable pub mortalityWeight : List ℕ → ℕ → ℕ → ℕ → ℕ
 mortalityWeight b setting sex k = percentOf b sex * weightOf setting sex k
 
@@ -65,7 +68,8 @@ outgoAt setting k = record { costs = weightOf setting 3 k; claims = weightOf set
 unfoldable pub outgoingsOf : ℕ → Outgoings
 outgoingsOf setting = record { first = outgoAt setting 0; later = outgoAt setting 5 }
 
--- What is read here for a year is the weight of that year: laws `mortality-is`, `lapse-is`, `costs-is`, `claims-is` (proofs/Laws).
+-- What is read here for a year is the weight of that year: laws `mortality-is`, `lapse-is`, `costs-is`, `claims-is`
+-- (proofs/Laws).
 -- of the weights of a year, that of the mortality of a sex
 abbrev pub ofSex : ℕ → DecrementWeights → ℕ
 ofSex sex w = cond (eqb sex 0) (w .men) (w .women)
@@ -119,7 +123,8 @@ livingColumn setting k = cond (sameMortality setting k 0) 0 (cond (sameMortality
 
 -- the column of the weight of the lapse: 3 the base's, 4 of more lapses, 5 of fewer
 unfoldable pub stayingColumn : ℕ → ℕ → ℕ
-stayingColumn setting k = cond (eqb (weightOf setting 2 k) (weightOf 0 2 0)) 3 (cond (eqb (weightOf setting 2 k) (weightOf 3 2 0)) 4 5)
+stayingColumn setting k =
+    cond (eqb (weightOf setting 2 k) (weightOf 0 2 0)) 3 (cond (eqb (weightOf setting 2 k) (weightOf 3 2 0)) 4 5)
 
 -- both for the first five years and for the later ones
 unfoldable pub columnsOf : ℕ → Columns

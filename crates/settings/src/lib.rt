@@ -1,14 +1,21 @@
-// The weights of the eight settings, in thousandths: one table, from which structs by value are read outside the loops.
-// Internal: what reads the book's mortality percentages asks for an accepted book's rules, which the calls above have from the check.
+// The weights of the eight settings, in thousandths: one table, from which structs by value are
+// read outside the loops.
+// Internal: what reads the book's mortality percentages asks for an accepted book's rules, which
+// the calls above have from the check.
 ghost use mathlib.Core.Path.{_≡_};
 ghost use Prim.Native.Nat.{_<_, _≤_};
 ghost use Rattle.book.specs.Reading.{ValidBook};
-ghost use Rattle.settings.specs.Settings.{weightOf, percentOf, mortalityWeight, decrementsAt, outgoAt, outgoingsOf};
-ghost use Rattle.settings.specs.Settings.{livingColumn, stayingColumn, columnsOf, livesIn, staysIn, fiveColumns};
-ghost use Rattle.settings.specs.Settings.{ofSex, costsIn, claimsWeightIn, ShiftsOf, OutgoWeighed};
-ghost use Rattle.settings.specs.Settings.{sameMortality, sameColumns, projectionOf, SettingOf, laterAs};
+ghost use Rattle.settings.specs.Settings.{weightOf, percentOf, mortalityWeight, decrementsAt};
+ghost use Rattle.settings.specs.Settings.{outgoAt, outgoingsOf};
+ghost use Rattle.settings.specs.Settings.{livingColumn, stayingColumn, columnsOf, livesIn};
+ghost use Rattle.settings.specs.Settings.{staysIn, fiveColumns};
+ghost use Rattle.settings.specs.Settings.{ofSex, costsIn, claimsWeightIn, ShiftsOf};
+ghost use Rattle.settings.specs.Settings.{OutgoWeighed};
+ghost use Rattle.settings.specs.Settings.{sameMortality, sameColumns, projectionOf};
+ghost use Rattle.settings.specs.Settings.{SettingOf, laterAs};
 
-// The kinds of weight. Mortality has the number of its sex, and its weight is so much for each percent.
+// The kinds of weight. Mortality has the number of its sex, and its weight is so much for each
+// percent.
 const MEN: usize = 0;
 
 const WOMEN: usize = 1;
@@ -121,8 +128,10 @@ const WEIGHTS: [u64; 80] = [
 
 // The weight of a kind in the year k.
 fn weight(setting: usize, kind: usize, k: usize) -> u64
-    requires { ⌜ (setting < 8) × (kind < 5) ⌝ }
-    ensures { λ r. ⌜ (r ≡ weightOf setting kind k) × (r ≤ 1300) ⌝ }
+    requires { ⌜ (setting < 8)
+        × (kind < 5) ⌝ }
+    ensures { λ r. ⌜ (r ≡ weightOf setting kind k)
+        × (r ≤ 1300) ⌝ }
 {
     if k < 5 {
         WEIGHTS[10 * setting + kind]
@@ -133,8 +142,10 @@ fn weight(setting: usize, kind: usize, k: usize) -> u64
 
 // The mortality percentage of a sex: 0 men, 1 women. Edition 2 of the book carries its own.
 fn percent_of(book: &[u8], sex: usize) -> u64
-    requires { ⌜ (sex ≤ 1) × ValidBook 1 (now book) ⌝ }
-    ensures { λ r. ⌜ (r ≡ percentOf (now (book .entry)) sex) × (r ≤ 100) ⌝ }
+    requires { ⌜ (sex ≤ 1)
+        × ValidBook 1 (now book) ⌝ }
+    ensures { λ r. ⌜ (r ≡ percentOf (now (book .entry)) sex)
+        × (r ≤ 100) ⌝ }
 {
     if book::edition(book) == 2 {
         return book::percent_at(book, sex) as u64;
@@ -144,8 +155,11 @@ fn percent_of(book: &[u8], sex: usize) -> u64
 
 // The weight of the mortality of a sex: 0 men, 1 women.
 fn mortality_weight(book: &[u8], setting: usize, sex: usize, k: usize) -> u64
-    requires { ⌜ (setting < 8) × (sex ≤ 1) × ValidBook 1 (now book) ⌝ }
-    ensures { λ r. ⌜ (r ≡ mortalityWeight (now (book .entry)) setting sex k) × (r ≤ 1300) ⌝ }
+    requires { ⌜ (setting < 8)
+        × (sex ≤ 1)
+        × ValidBook 1 (now book) ⌝ }
+    ensures { λ r. ⌜ (r ≡ mortalityWeight (now (book .entry)) setting sex k)
+        × (r ≤ 1300) ⌝ }
 {
     percent_of(book, sex) * weight(setting, sex, k)
 }
@@ -159,8 +173,12 @@ pub struct DecrementWeights {
 
 impl DecrementWeights {
     fn new(book: &[u8], setting: usize, k: usize) -> DecrementWeights
-        requires { ⌜ (setting < 8) × ValidBook 1 (now book) ⌝ }
-        ensures { λ r. ⌜ (r ≡ decrementsAt (now (book .entry)) setting k) × (r .men ≤ 1300) × (r .women ≤ 1300) × (r .lapse ≤ 1300) ⌝ }
+        requires { ⌜ (setting < 8)
+            × ValidBook 1 (now book) ⌝ }
+        ensures { λ r. ⌜ (r ≡ decrementsAt (now (book .entry)) setting k)
+            × (r .men ≤ 1300)
+            × (r .women ≤ 1300)
+            × (r .lapse ≤ 1300) ⌝ }
     {
         DecrementWeights {
             men: mortality_weight(book, setting, 0, k),
@@ -177,14 +195,15 @@ impl DecrementWeights {
     }
 }
 
-// The weights of mortality and lapse of a setting: in the years k = 0 to 4, and in the later ones. The definitions speak of them.
+// The weights of mortality and lapse of a setting: in the years k = 0 to 4, and in the later ones.
+// The definitions speak of them.
 pub struct Decrements {
     pub first: DecrementWeights,
     pub later: DecrementWeights,
 }
 
-// The weights of mortality and lapse in year 0, of the base and of the four settings that shift them: no other weights hold in any year of any
-// setting.
+// The weights of mortality and lapse in year 0, of the base and of the four settings that shift
+// them: no other weights hold in any year of any setting.
 pub struct Shifts {
     pub base: DecrementWeights,
     pub mortality_up: DecrementWeights,
@@ -222,7 +241,9 @@ pub struct OutgoWeights {
 impl OutgoWeights {
     fn new(setting: usize, k: usize) -> OutgoWeights
         requires { ⌜ setting < 8 ⌝ }
-        ensures { λ r. ⌜ (r ≡ outgoAt setting k) × (r .costs ≤ 1200) × (r .claims ≤ 1050) ⌝ }
+        ensures { λ r. ⌜ (r ≡ outgoAt setting k)
+            × (r .costs ≤ 1200)
+            × (r .claims ≤ 1050) ⌝ }
     {
         OutgoWeights {
             costs: weight(setting, COSTS, k),
@@ -240,7 +261,8 @@ pub struct Outgoings {
 impl Outgoings {
     pub fn new(setting: usize) -> Outgoings
         requires { ⌜ setting < 8 ⌝ }
-        ensures { λ r. ⌜ (r ≡ outgoingsOf setting) × OutgoWeighed r ⌝ }
+        ensures { λ r. ⌜ (r ≡ outgoingsOf setting)
+            × OutgoWeighed r ⌝ }
     {
         let first = OutgoWeights::new(setting, 0);
         let later = OutgoWeights::new(setting, 5);
@@ -250,7 +272,8 @@ impl Outgoings {
     // The weight of the costs in the year k.
     pub fn cost_weight(self, k: usize) -> u64
         requires { ⌜ OutgoWeighed self ⌝ }
-        ensures { λ r. ⌜ (r ≡ costsIn self k) × (r ≤ 1200) ⌝ }
+        ensures { λ r. ⌜ (r ≡ costsIn self k)
+            × (r ≤ 1200) ⌝ }
     {
         if k < 5 {
             self.first.costs
@@ -262,7 +285,8 @@ impl Outgoings {
     // The weight of the claims in the year k.
     pub fn claims_weight(self, k: usize) -> u64
         requires { ⌜ OutgoWeighed self ⌝ }
-        ensures { λ r. ⌜ (r ≡ claimsWeightIn self k) × (r ≤ 1050) ⌝ }
+        ensures { λ r. ⌜ (r ≡ claimsWeightIn self k)
+            × (r ≤ 1050) ⌝ }
     {
         if k < 5 {
             self.first.claims
@@ -272,17 +296,19 @@ impl Outgoings {
     }
 }
 
-// Whether in year k of a setting the weights of mortality, of men and of women, are those of year 0 of another.
+// Whether in year k of a setting the weights of mortality, of men and of women, are those of year 0
+// of another.
 fn same_mortality(setting: usize, k: usize, other: usize) -> bool
-    requires { ⌜ (setting < 8) × (other < 8) ⌝ }
+    requires { ⌜ (setting < 8)
+        × (other < 8) ⌝ }
     ensures { λ r. ⌜ r ≡ sameMortality setting k other ⌝ }
 {
     (weight(setting, MEN, k) == weight(other, MEN, 0))
         & (weight(setting, WOMEN, k) == weight(other, WOMEN, 0))
 }
 
-// Of the columns of a chain's rows, the one of what lives on in year k of a setting: that of the weights which hold, 0 the
-// base's, 1 of more deaths, 2 of fewer.
+// Of the columns of a chain's rows, the one of what lives on in year k of a setting: that of the
+// weights which hold, 0 the base's, 1 of more deaths, 2 of fewer.
 fn survival_column(setting: usize, k: usize) -> usize
     requires { ⌜ setting < 8 ⌝ }
     ensures { λ r. ⌜ r ≡ livingColumn setting k ⌝ }
@@ -307,7 +333,8 @@ fn persistency_column(setting: usize, k: usize) -> usize
     if held == more { 4 } else { 5 }
 }
 
-// The columns of a setting, of what lives on and of what stays: in the years k = 0 to 4, and in the later ones.
+// The columns of a setting, of what lives on and of what stays: in the years k = 0 to 4, and in the
+// later ones.
 pub struct Columns {
     pub firstlives: usize,
     pub firststays: usize,
@@ -391,10 +418,12 @@ impl FiveColumns {
     }
 }
 
-// Of the five projections, those of the settings 0 to 4, the one that serves a setting: it has the setting's columns.
+// Of the five projections, those of the settings 0 to 4, the one that serves a setting: it has the
+// setting's columns.
 pub fn projection_of(setting: usize) -> usize
     requires { ⌜ setting < 8 ⌝ }
-    ensures { λ r. ⌜ (r ≡ projectionOf setting) × (r < 5) ⌝ }
+    ensures { λ r. ⌜ (r ≡ projectionOf setting)
+        × (r < 5) ⌝ }
 {
     let own = Columns::new(setting);
     if own.are_of(0) {
@@ -409,8 +438,8 @@ pub fn projection_of(setting: usize) -> usize
     if own.are_of(3) { 3 } else { 4 }
 }
 
-// A setting as the years of a group are valued in it: its number, the projection that serves it, its weights of costs
-// and claims.
+// A setting as the years of a group are valued in it: its number, the projection that serves it,
+// its weights of costs and claims.
 pub struct Setting {
     pub number: usize,
     pub projection: usize,
@@ -420,7 +449,8 @@ pub struct Setting {
 impl Setting {
     pub fn new(number: usize) -> Setting
         requires { ⌜ number < 8 ⌝ }
-        ensures { λ r. ⌜ (r .number ≡ number) × SettingOf r ⌝ }
+        ensures { λ r. ⌜ (r .number ≡ number)
+            × SettingOf r ⌝ }
     {
         let projection = projection_of(number);
         let outgo = Outgoings::new(number);
@@ -431,8 +461,8 @@ impl Setting {
         }
     }
 
-    // Whether its years from k = 5 on are those of another setting: the same projection, and the same weights of costs
-    // and claims.
+    // Whether its years from k = 5 on are those of another setting: the same projection, and the
+    // same weights of costs and claims.
     pub fn later_as(self, other: Setting) -> bool
         ensures { λ r. ⌜ r ≡ laterAs self other ⌝ }
     {

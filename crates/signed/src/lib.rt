@@ -32,7 +32,8 @@ impl Signed {
     // Without the sign. A number below zero is turned round one step off, since the lowest has no
     // opposite.
     pub fn size(self) -> u64
-        ensures { λ r. ⌜ (r ≡ natAbs (self .number)) × (r ≤ 9223372036854775808) ⌝ }
+        ensures { λ r. ⌜ (r ≡ natAbs (self .number))
+            × (r ≤ 9223372036854775808) ⌝ }
     {
         let x = self.number;
         if x < 0 { (-1 - x) as u64 + 1 } else { x as u64 }

@@ -3,7 +3,8 @@ ghost use Rattle.standard_deviation.specs.Deviation.{DeviationContract};
 use risk_factors::DeviationReply;
 use risk_model::RiskModel;
 
-// The deviation in thousand francs, or the first refusal: the book's as Totals gives them, then those of the model.
+// The deviation in thousand francs, or the first refusal: the book's as Totals gives them, then
+// those of the model.
 pub fn deviation(book: &[u8], model: RiskModel) -> DeviationReply
     ensures { λ r. ⌜ DeviationContract (now (book .entry)) model r ⌝ }
 {

@@ -1,9 +1,15 @@
-// The walk on a stream: each entry is a setting and a chain in eight bytes each, the book's length in four, and the book.
-// A line has how many years the walk of the chain's first cell reckons, or the word none where there is no such cell.
+// The projection on a stream: each entry is a setting and a chain in eight bytes each, the book's
+// length in four, and the book.
+// A line has how many years the projection of the chain's first cell computes, or the word none
+// where there is no such cell.
 ghost use Prim.Native.Nat.{_<_};
+use cell_projection::A_YEAR;
 use cell_projection::Counts;
+use cell_projection::YEARS;
 use libc::STDIN_FILENO;
 use libc::STDOUT_FILENO;
+use rate_table::COLUMNS;
+use rate_table::ROWS;
 use settings::FiveColumns;
 use settings::Shifts;
 use verdict::Verdict;
@@ -33,7 +39,7 @@ fn years_of(counts: Counts, setting: usize) -> usize
     counts.base
 }
 
-// The walk of the first cell of a chain of an accepted book.
+// The projection of the first cell of a chain of an accepted book.
 fn first_projection(book: &[u8], setting: usize, chain: usize) -> Years {
     if 7 < setting {
         return Years::NoCell;
@@ -49,8 +55,8 @@ fn first_projection(book: &[u8], setting: usize, chain: usize) -> Years {
     if head == 0 {
         return Years::NoCell;
     }
-    let mut rows = [0u64; 2720];
-    let mut sums = [0u64; 500];
+    let mut rows = [0u64; ROWS * COLUMNS];
+    let mut sums = [0u64; YEARS * A_YEAR];
     rate_table::read_rows(book, Shifts::new(book), chain, head, &mut rows);
     let count = book::field_of(book, head, book::COUNT_OFFSET);
     let counts = cell_projection::project(&rows, 0, count, FiveColumns::new(), &mut sums);

@@ -1,4 +1,5 @@
-// The check on a stream of books: each book follows its length in four bytes, and each verdict is a line.
+// The check on a stream of books: each book follows its length in four bytes, and each verdict is a
+// line.
 use libc::STDOUT_FILENO;
 use test_stream::Next;
 use verdict::Verdict;

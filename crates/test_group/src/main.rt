@@ -1,5 +1,7 @@
-// Group on a stream: each entry is a setting and a product group in eight bytes each, the table's length in four, the book's length in four, and the book.
-// A line has refusal, place, liability and n; where accepted the table's 200 numbers; and how many numbers of the table are as they were.
+// Group on a stream: each entry is a setting and a product group in eight bytes each, the table's
+// length in four, the book's length in four, and the book.
+// A line has refusal, place, liability and n; where accepted the table's 200 numbers; and how many
+// numbers of the table are as they were.
 ghost use mathlib.Core.Path.{_≡_};
 ghost use Prim.Native.Nat.{_≤_};
 ghost use lib.ListN.{length};
@@ -87,7 +89,8 @@ fn write_reply(book: &[u8], setting: usize, group: usize, numbers: &mut [u64])
     }
 }
 
-// Answers a call on a book of so many bytes, with a table of so many numbers; false where the stream ends before.
+// Answers a call on a book of so many bytes, with a table of so many numbers; false where the
+// stream ends before.
 fn answer(setting: usize, group: usize, count: u64, size: u64) -> bool {
     if 300 < count {
         return false;

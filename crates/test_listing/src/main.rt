@@ -1,5 +1,6 @@
-// Totals and the listing on a stream of books: each book follows its length in four bytes. For each book a line has refusal, place, n, the
-// eight totals and the four differences, and the listing follows.
+// Totals and the listing on a stream of books: each book follows its length in four bytes. For each
+// book a line has refusal, place, n, the eight totals and the four differences, and the listing
+// follows.
 use buffer::TextReply;
 use libc::STDOUT_FILENO;
 use test_stream::Next;

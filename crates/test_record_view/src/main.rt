@@ -1,6 +1,6 @@
-// The looker on a stream: each entry is a record number in eight bytes, the book's length in four,
-// and the book. A line has the refusal, its place, the number of bytes shown and, where there are
-// any, those bytes in hexadecimal.
+// The record view on a stream: each entry is a record number in eight bytes, the book's length in
+// four, and the book. A line has the refusal, its place, the number of bytes shown and, where there
+// are any, those bytes in hexadecimal.
 use libc::STDOUT_FILENO;
 use test_stream::Next;
 

@@ -36,7 +36,8 @@ pub fn next_u64() -> Next {
     Next::Number(read_u64(&bytes, 0))
 }
 
-// Reads so many bytes to the start of a buffer, and answers how many came: none where the buffer is too short.
+// Reads so many bytes to the start of a buffer, and answers how many came: none where the buffer is
+// too short.
 pub fn next_bytes(buffer: &mut [u8], size: u64) -> usize
     ensures { λ r. ⌜ Counts r (now (buffer .exit)) ⌝ }
 {

@@ -1,4 +1,5 @@
--- Laws of sums and differences with a sign, of the eight totals group by group, and of years that settings share. Assumes nothing.
+-- Laws of sums and differences with a sign, of the eight totals group by group, and of years that settings share.
+-- Assumes nothing.
 use mathlib.Core.Path.{_≡_, refl, ap, _∙_}
 use mathlib.Core.List.{List, [], _∷_}
 use mathlib.Core.Bool.{Bool, true, false, cond}
@@ -50,7 +51,8 @@ pub minus-mag : (a b : ℤ) → mag (a -ℤ b) ≤ mag a + mag b + 2
 minus-mag a b = omega (arith, plus-mag a (negℤ b), neg-mag b)
 
 -- one group more
-pub sum-more : (f : ℕ → ℤ) (n : ℕ) (x y z : ℤ) → x ≡ sumGroups f n → y ≡ f (n + 1) → z ≡ x +ℤ y → z ≡ sumGroups f (n + 1)
+pub sum-more : (f : ℕ → ℤ) (n : ℕ) (x y z : ℤ) → x ≡ sumGroups f n → y ≡ f (n + 1) → z ≡ x +ℤ y
+    → z ≡ sumGroups f (n + 1)
 unfolding sumGroups
 sum-more f n x y z ex ey ez = ez ∙ ap (λ (t : ℤ). t +ℤ y) ex ∙ ap (λ (t : ℤ). sumGroups f n +ℤ t) ey ∙ rw (add-one n)
 
@@ -73,10 +75,12 @@ year-more f n = refl
 pub parts-most : (b : List ℕ) (s g : ℕ) (f l : Amounts) → AmountsIn b s g 0 5 f → AmountsIn b s g 5 50 l
     → mag (pos (f .outgo + l .outgo) -ℤ pos (f .premium + l .premium)) ≤ 495_000_000_000_000_000
 parts-most b s g f l hf hl =
-    less-mag (f .outgo + l .outgo) (f .premium + l .premium) 495_000_000_000_000_000 (omega (arith, hf .outgo-most, hl .outgo-most)) (omega (arith, hf .premium-most, hl .premium-most))
+    less-mag (f .outgo + l .outgo) (f .premium + l .premium) 495_000_000_000_000_000
+    (omega (arith, hf .outgo-most, hl .outgo-most)) (omega (arith, hf .premium-most, hl .premium-most))
 
 -- what is the same from year 5 on adds the same from there
-same-from : (f g : ℕ → ℕ) → ((k : ℕ) → 5 ≤ k → f k ≡ g k) → (m : ℕ) → sumYears rounded (m + 5) f + sumYears rounded 5 g ≡ sumYears rounded (m + 5) g + sumYears rounded 5 f
+same-from : (f g : ℕ → ℕ) → ((k : ℕ) → 5 ≤ k → f k ≡ g k) → (m : ℕ)
+    → sumYears rounded (m + 5) f + sumYears rounded 5 g ≡ sumYears rounded (m + 5) g + sumYears rounded 5 f
 same-from f g h zero = omega arith
 same-from f g h (suc m) = rw (suc-add m 5) (more (m + 5) (omega arith) (same-from f g h m))
   where
@@ -85,7 +89,8 @@ same-from f g h (suc m) = rw (suc-add m 5) (more (m + 5) (omega arith) (same-fro
     more n l e = omega (arith, h n l, e, year-more f n, year-more g n)
 
 -- settings with the same weights of mortality and lapse, and the same weights of costs and claims from year 5 on
-module _ (b : List ℕ) (o s : ℕ) (same : decrementsOf b o ≡ decrementsOf b s) (weights : outgoingsOf o .later ≡ outgoingsOf s .later) (g : ℕ) where
+module _ (b : List ℕ) (o s : ℕ) (same : decrementsOf b o ≡ decrementsOf b s)
+    (weights : outgoingsOf o .later ≡ outgoingsOf s .later) (g : ℕ) where
   outgo-same : (k : ℕ) → 5 ≤ k → yearOutgo b o g k ≡ yearOutgo b s g k
   unfolding discountedOutgo outgo termsOf
   outgo-same k h = rw (le-ltb k 5 h, same, weights)
@@ -111,7 +116,8 @@ pub record Liability (b : List ℕ) (setting g : ℕ) (z : ℤ) : Type 0 where
   pub is : z ≡ groupLiability b setting g
   pub most : mag z ≤ 495_000_000_000_000_000
 
-pub liability-read : (b : List ℕ) (setting g : ℕ) (r : ℤ) → mag r < 2 ^ hbits w64 → (r ≡ groupLiability b setting g) × (mag r ≤ 495_000_000_000_000_000)
+pub liability-read : (b : List ℕ) (setting g : ℕ) (r : ℤ) → mag r < 2 ^ hbits w64 → (r ≡ groupLiability b setting g)
+    × (mag r ≤ 495_000_000_000_000_000)
     → Liability b setting g (toZ w64 (ofZ w64 r))
 liability-read b setting g r ok h = rw (read-back r ok) (record { is = h .0; most = h .1 })
 
@@ -124,7 +130,8 @@ pub sum-read : (b : List ℕ) (setting n : ℕ) (z : ℤ) → n ≤ 5 → Sum b 
 sum-read b setting n z h p = rw (read-back z (omega (arith, p .most))) p
 
 -- a sum with one group more, as it is stored
-pub sum-stored : (b : List ℕ) (setting g : ℕ) (x y z : ℤ) → 1 ≤ g → mag z < 2 ^ hbits w64 → Sum b setting (g - 1) x → Liability b setting g y
+pub sum-stored : (b : List ℕ) (setting g : ℕ) (x y z : ℤ) → 1 ≤ g → mag z < 2 ^ hbits w64 → Sum b setting (g - 1) x
+    → Liability b setting g y
     → (z ≡ x +ℤ y) × (mag z ≤ mag x + mag y + 1) → Sum b setting g (toZ w64 (ofZ w64 z))
 sum-stored b setting g x y z low ok p l h =
     let e : g - 1 + 1 ≡ g = omega arith in
@@ -134,7 +141,8 @@ sum-stored b setting g x y z low ok p l h =
     })
 
 -- so both can be added
-pub sum-capacity : (b : List ℕ) (setting g : ℕ) (x y : ℤ) → 1 ≤ g → g ≤ 5 → Sum b setting (g - 1) x → Liability b setting g y → mag x + mag y < 9223372036854775807
+pub sum-capacity : (b : List ℕ) (setting g : ℕ) (x y : ℤ) → 1 ≤ g → g ≤ 5 → Sum b setting (g - 1) x
+    → Liability b setting g y → mag x + mag y < 9223372036854775807
 sum-capacity b setting g x y low high p l = omega (arith, p .most, l .most)
 
 -- no group yet
@@ -150,13 +158,15 @@ pub record Growing (b : List ℕ) (g j : ℕ) (totals : List ℤ) : Type 0 where
 pub growing-start : (b : List ℕ) (g : ℕ) (totals : List ℤ) → Sums b (g - 1) totals → Growing b g 0 totals
 growing-start b g totals s = record { size = s .size; done = λ i h. absurd (omega arith); due = λ i l h. s .each i h }
 
-pub growing-more : (b : List ℕ) (g j : ℕ) (totals : List ℤ) (z : ℤ) → j < 8 → Growing b g j totals → Sum b j g z → Growing b g (j + 1) (set totals j z)
+pub growing-more : (b : List ℕ) (g j : ℕ) (totals : List ℤ) (z : ℤ) → j < 8 → Growing b g j totals → Sum b j g z
+    → Growing b g (j + 1) (set totals j z)
 growing-more b g j totals z few s h = record {
   size = length-set totals j z ∙ s .size;
   done = λ i l.
       let le : i ≤ j = omega arith in
       ⊎-elim (λ (q : i ≡ j). rw (q, getD-set-same totals j z (pos 0) (omega (arith, s .size))) h)
-      (λ (q : i < j). rw (getD-set-other totals j i z (pos 0) (λ e. omega (arith, e))) (s .done i q)) (eq-or-lt-of-le le);
+      (λ (q : i < j). rw (getD-set-other totals j i z (pos 0) (λ e. omega (arith, e))) (s .done i q))
+      (eq-or-lt-of-le le);
   due = λ i l u. rw (getD-set-other totals j i z (pos 0) (λ e. omega (arith, e))) (s .due i (omega arith) u);
 }
 
@@ -173,12 +183,15 @@ eight b t s = (
   where
     sizes : (j : ℕ) (low : Bool) → ltb j 8 ≡ low → mag (getD t j (pos 0)) ≤ 2_475_000_000_000_000_005
     sizes j true e = omega (arith, s .each j (ltb-true j 8 e) .most)
-    sizes j false e = rw (List·getD-eq-default t (pos 0) {n = j} (omega (arith, s .size, ltb-false j 8 e))) (omega arith)
+    sizes j false e =
+        rw (List·getD-eq-default t (pos 0) {n = j} (omega (arith, s .size, ltb-false j 8 e))) (omega arith)
 
     at : (i : ℕ) → i < 8 → getD t i (pos 0) ≡ getD (totalsOf b) i (pos 0)
     at = each-setting (λ i. getD t i (pos 0) ≡ getD (totalsOf b) i (pos 0))
-        (s .each 0 (omega arith) .is) (s .each 1 (omega arith) .is) (s .each 2 (omega arith) .is) (s .each 3 (omega arith) .is)
-        (s .each 4 (omega arith) .is) (s .each 5 (omega arith) .is) (s .each 6 (omega arith) .is) (s .each 7 (omega arith) .is)
+        (s .each 0 (omega arith) .is) (s .each 1 (omega arith) .is) (s .each 2 (omega arith) .is)
+        (s .each 3 (omega arith) .is)
+        (s .each 4 (omega arith) .is) (s .each 5 (omega arith) .is) (s .each 6 (omega arith) .is)
+        (s .each 7 (omega arith) .is)
 
 -- one of them, read from the row
 module _ (b : List ℕ) (t : List ℤ) (h : (t ≡ totalsOf b) × Sizes t) (j : ℕ) where

@@ -25,7 +25,8 @@ abbrev none : OutgoWeights
 none = record { costs = 0; claims = 0 }
 
 abbrev pub numbered : List Setting → ℕ → Setting
-numbered settings j = getD settings j (record { number = 0; projection = 0; outgo = record { first = none; later = none } })
+numbered settings j =
+    getD settings j (record { number = 0; projection = 0; outgo = record { first = none; later = none } })
 
 pub record Numbered (settings : List Setting) (j : ℕ) : Type 0 where
   pub number-is : numbered settings j .number ≡ j

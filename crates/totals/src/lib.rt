@@ -7,11 +7,17 @@ ghost use lib.Signed.{mag};
 ghost use Rattle.verdict.specs.declared.Verdict.the-variants.{Accepted, Refused};
 ghost use Rattle.book.specs.Reading.{ValidBook};
 ghost use Rattle.settings.specs.Settings.{SettingOf};
-ghost use Rattle.valuation.specs.Totals.{totalOf, totalsOf, differencesOf, totalsFor, TotalsContract};
+ghost use Rattle.valuation.specs.Totals.{totalOf, totalsOf, differencesOf, totalsFor};
+ghost use Rattle.valuation.specs.Totals.{TotalsContract};
 ghost use Rattle.valuation.specs.Replies.{groupLiability};
 ghost use Rattle.present_value.specs.Outcome.{CurveOf, AmountsIn};
 ghost use Rattle.totals.specs.Sums.{EightSettings, GroupTable, Sums, Sizes};
+use cell_projection::A_YEAR;
+use cell_projection::YEARS;
+use cell_projection::YearSums;
 use present_value::Amounts;
+use rate_table::COLUMNS;
+use rate_table::ROWS;
 use settings::Setting;
 use settings::Shifts;
 use valuation::TotalsReply;
@@ -19,7 +25,8 @@ use verdict::Verdict;
 
 fn plus(a: i64, b: i64) -> i64
     requires { ⌜ mag a + mag b < 9223372036854775807 ⌝ }
-    ensures { λ r. ⌜ (r ≡ a +ℤ b) × (mag r ≤ mag a + mag b + 1) ⌝ }
+    ensures { λ r. ⌜ (r ≡ a +ℤ b)
+        × (mag r ≤ mag a + mag b + 1) ⌝ }
 {
     a + b
 }
@@ -47,19 +54,22 @@ fn eight_settings() -> [Setting; 8]
     ]
 }
 
-// What the years from k = 5 on give to a product group in a setting. Those of the base are at hand: they serve every
-// setting whose later years are the base's.
+// What the years from k = 5 on give to a product group in a setting. Those of the base are at hand:
+// they serve every setting whose later years are the base's.
 fn later_years(
     book: &[u8],
     divisors: &[u64; 50],
     fractions: &[u64; 50],
     s: Setting,
     group: usize,
-    numbers: &[u64; 500],
+    numbers: &YearSums,
     base: Setting,
     shared: Amounts,
 ) -> Amounts
-    requires { ⌜ SettingOf s × SettingOf base × GroupTable (now book) group (now numbers) × CurveOf (now book) (now divisors) (now fractions)
+    requires { ⌜ SettingOf s
+        × SettingOf base
+        × GroupTable (now book) group (now numbers)
+        × CurveOf (now book) (now divisors) (now fractions)
         × AmountsIn (now book) (base .number) group 5 50 shared ⌝ }
     ensures { λ r. ⌜ AmountsIn (now (book .entry)) (s .number) group 5 50 r ⌝ }
 {
@@ -76,30 +86,37 @@ fn liability_of(
     fractions: &[u64; 50],
     s: Setting,
     group: usize,
-    numbers: &[u64; 500],
+    numbers: &YearSums,
     base: Setting,
     shared: Amounts,
 ) -> i64
-    requires { ⌜ SettingOf s × SettingOf base × GroupTable (now book) group (now numbers) × CurveOf (now book) (now divisors) (now fractions)
+    requires { ⌜ SettingOf s
+        × SettingOf base
+        × GroupTable (now book) group (now numbers)
+        × CurveOf (now book) (now divisors) (now fractions)
         × AmountsIn (now book) (base .number) group 5 50 shared ⌝ }
-    ensures { λ r. ⌜ (r ≡ groupLiability (now (book .entry)) (s .number) group) × (mag r ≤ 495000000000000000) ⌝ }
+    ensures { λ r. ⌜ (r ≡ groupLiability (now (book .entry)) (s .number) group)
+        × (mag r ≤ 495000000000000000) ⌝ }
 {
     let first = present_value::amounts_in(book, divisors, fractions, s, group, numbers, 0, 5);
     let later = later_years(book, divisors, fractions, s, group, numbers, base, shared);
     cash_flow::less(first.outgo + later.outgo, first.premium + later.premium)
 }
 
-// Adds a product group's liabilities to the eight totals. The later years of the base are settled once.
+// Adds a product group's liabilities to the eight totals. The later years of the base are valued
+// once.
 fn add_group(
     book: &[u8],
     divisors: &[u64; 50],
     fractions: &[u64; 50],
     settings: [Setting; 8],
     group: usize,
-    numbers: &[u64; 500],
+    numbers: &YearSums,
     totals: &mut [i64; 8],
 )
-    requires { ⌜ EightSettings settings × GroupTable (now book) group (now numbers) × CurveOf (now book) (now divisors) (now fractions)
+    requires { ⌜ EightSettings settings
+        × GroupTable (now book) group (now numbers)
+        × CurveOf (now book) (now divisors) (now fractions)
         × Sums (now book) (group - 1) (now totals) ⌝ }
     ensures { λ _. ⌜ Sums (now (book .entry)) group (now (totals .exit)) ⌝ }
 {
@@ -112,21 +129,22 @@ fn add_group(
     }
 }
 
-// The eight totals, group by group. The curve and the weights are read once for all groups, which work in the same rows
-// and in the same table of sums.
+// The eight totals, group by group. The curve and the weights are read once for all groups, which
+// work in the same rows and in the same table of sums.
 fn all_totals(book: &[u8]) -> [i64; 8]
     requires { ⌜ ValidBook 1 (now book) ⌝ }
-    ensures { λ a. ⌜ (a ≡ totalsOf (now (book .entry))) × Sizes a ⌝ }
+    ensures { λ a. ⌜ (a ≡ totalsOf (now (book .entry)))
+        × Sizes a ⌝ }
 {
     let curve = present_value::curve_of(book);
     let divisors = curve.divisors;
     let fractions = curve.fractions;
     let w = Shifts::new(book);
     let settings = eight_settings();
-    let mut rows = [0u64; 2720];
+    let mut rows = [0u64; ROWS * COLUMNS];
     let mut totals = [0i64; 8];
     for group in 1usize..6 {
-        let mut numbers = [0u64; 500];
+        let mut numbers = [0u64; YEARS * A_YEAR];
         group_projection::group_sums(
             book,
             w,
@@ -151,7 +169,8 @@ fn all_totals(book: &[u8]) -> [i64; 8]
 // The reply of an accepted book.
 fn computed(book: &[u8], n: u64) -> TotalsReply
     requires { ⌜ ValidBook 1 (now book) ⌝ }
-    ensures { λ r. ⌜ r ≡ totalsFor (Accepted n) n (totalsOf (now (book .entry))) (differencesOf (now (book .entry))) ⌝ }
+    ensures { λ r. ⌜ r ≡ totalsFor (Accepted n) n (totalsOf (now (book .entry)))
+        (differencesOf (now (book .entry))) ⌝ }
 {
     let totals = all_totals(book);
     TotalsReply {
@@ -181,7 +200,7 @@ fn refused(number: u64, place: usize) -> TotalsReply
     }
 }
 
-// The call Totals: the book is checked once, and then reckoned in all eight settings.
+// The call Totals: the book is checked once, and then computed in all eight settings.
 pub fn totals(book: &[u8]) -> TotalsReply
     ensures { λ r. ⌜ TotalsContract (now (book .entry)) r ⌝ }
 {

@@ -1,4 +1,5 @@
--- What acceptance says: the group's number, the book, and the ranges of terms and cells that the distance asks. Assumes nothing.
+-- What acceptance says: the group's number, the book, and the ranges of terms and cells that the distance asks. Assumes
+-- nothing.
 use mathlib.Core.Path.{_≡_, refl}
 use mathlib.Core.List.{List, [], _∷_, _++_}
 use mathlib.Core.Bool.{Bool, true, false, cond}
@@ -18,7 +19,8 @@ use Rattle.settings.specs.declared.Decrements.{Decrements}
 use Rattle.settings.proofs.Weights.{costs-most, claims-most}
 use Rattle.valuation.specs.Steps.{Cell}
 use Rattle.valuation.specs.Bounds.{GoodCell, GoodCells, GoodTerms}
-use Rattle.valuation.specs.Portfolio.{mortalityOf, costRateOf, divisorOf, NoRateBelowZero, oneLess, cellOf, linksFrom, chainLinks, linksOf, cellsOf, groupCells, termsOf}
+use Rattle.valuation.specs.Portfolio.{mortalityOf, costRateOf, divisorOf, NoRateBelowZero, oneLess, cellOf}
+use Rattle.valuation.specs.Portfolio.{linksFrom, chainLinks, linksOf, cellsOf, groupCells, termsOf}
 use Rattle.valuation.specs.Replies.{groupCheck}
 use Rattle.valuation.proofs.Rows.{chain-standing, row-standing}
 use Rattle.valuation.proofs.Members.{counted, links-counted, cells-append}
@@ -50,7 +52,8 @@ module _ (b : List ℕ) (v : ValidBook 1 b) where
   unfolding divisorOf
   divisor-range k year =
       let rate = v .tables .curve (k - 1) (omega arith) in
-      pick-each (λ d. (990_000 ≤ d) × (d ≤ 1_200_000)) (eqb k 0) _ _ (omega arith, omega arith) (omega arith, omega arith)
+      pick-each (λ d. (990_000 ≤ d) × (d ≤ 1_200_000)) (eqb k 0) _ _ (omega arith, omega arith)
+      (omega arith, omega arith)
 
   pub divisor-low : (k : ℕ) → k < 50 → 990_000 ≤ divisorOf b k
   divisor-low k year = divisor-range k year .0
@@ -87,7 +90,8 @@ module _ (b : List ℕ) (v : ValidBook 1 b) where
       rw place (v .tables .mortality (121 * sex + class) (omega arith))
 
 -- the terms, with no divisor below D
-pub good-terms : (D : ℕ) (b : List ℕ) (setting g : ℕ) → ValidBook 1 b → 1 ≤ g → g ≤ 5 → ((k : ℕ) → k < 50 → D ≤ divisorOf b k)
+pub good-terms : (D : ℕ) (b : List ℕ) (setting g : ℕ) → ValidBook 1 b → 1 ≤ g → g ≤ 5
+    → ((k : ℕ) → k < 50 → D ≤ divisorOf b k)
     → GoodTerms D (termsOf b setting g)
 unfolding termsOf
 good-terms D b setting g v lo hi least = record {
@@ -123,7 +127,8 @@ module _ (b : List ℕ) (w : Decrements) where
     claims-most = λ j year. row-standing b k i s _ .0 .claims;
   }
 
-  counted-good : (k left i : ℕ) → ChainFrom b (lastClass 1) k left i → left ≤ lastClass 1 → GoodCells (cellsOf b w (counted b left i))
+  counted-good : (k left i : ℕ) → ChainFrom b (lastClass 1) k left i → left ≤ lastClass 1
+      → GoodCells (cellsOf b w (counted b left i))
   unfolding cellsOf counted
   counted-good k zero i h fits = (good-cell k i (chain-standing b k zero i h fits), tt)
   counted-good k (suc left) i h fits = (
@@ -140,14 +145,16 @@ module _ (b : List ℕ) (w : Decrements) where
         by-head true e = rw (eqb-true (headOf b k) 0 e) tt
         by-head false e =
             let h = v .chain k few (eqb-false _ _ e) in
-            rw (links-counted b k _ (headOf b k) (lastClass 1 + 1) h (omega arith)) (counted-good k _ (headOf b k) h (omega arith))
+            rw (links-counted b k _ (headOf b k) (lastClass 1 + 1) h (omega arith))
+            (counted-good k _ (headOf b k) h (omega arith))
 
     chains-good : (left k : ℕ) → k + left ≤ chains → GoodCells (cellsOf b w (linksOf b k left))
     unfolding cellsOf linksOf
     chains-good zero k few = tt
     chains-good (suc left) k few =
         rw (cells-append b w (chainLinks b k) (linksOf b (k + 1) left))
-        (good-append (cellsOf b w (chainLinks b k)) (cellsOf b w (linksOf b (k + 1) left)) (chain-good k (omega arith)) (chains-good left (k + 1) (omega arith)))
+        (good-append (cellsOf b w (chainLinks b k)) (cellsOf b w (linksOf b (k + 1) left)) (chain-good k (omega arith))
+        (chains-good left (k + 1) (omega arith)))
 
   pub good-cells : (g : ℕ) → ValidBook 1 b → 1 ≤ g → g ≤ 5 → GoodCells (groupCells b w g)
   good-cells g v lo hi = chains-good v (chainsOf g) (firstChain g) (chains-few g hi)

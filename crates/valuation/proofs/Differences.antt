@@ -33,8 +33,10 @@ diff-neg (negsuc n) a b h = omega arith
 
 pub diff-plus : (z w : ℤ) (a b c d : ℕ) → IsDiff z a b → IsDiff w c d → IsDiff (z +ℤ w) (a + c) (b + d)
 diff-plus (pos n) (pos m) a b c d h k = omega arith
-diff-plus (pos n) (negsuc m) a b c d h k = diff-same (subℕ n (suc m)) n (suc m) (a + c) (b + d) (omega arith) (diff-sub n (suc m))
-diff-plus (negsuc n) (pos m) a b c d h k = diff-same (subℕ m (suc n)) m (suc n) (a + c) (b + d) (omega arith) (diff-sub m (suc n))
+diff-plus (pos n) (negsuc m) a b c d h k =
+    diff-same (subℕ n (suc m)) n (suc m) (a + c) (b + d) (omega arith) (diff-sub n (suc m))
+diff-plus (negsuc n) (pos m) a b c d h k =
+    diff-same (subℕ m (suc n)) m (suc n) (a + c) (b + d) (omega arith) (diff-sub m (suc n))
 diff-plus (negsuc n) (negsuc m) a b c d h k = omega arith
 
 pub diff-minus : (z w : ℤ) (a b c d : ℕ) → IsDiff z a b → IsDiff w c d → IsDiff (z -ℤ w) (a + d) (b + c)
@@ -42,7 +44,9 @@ diff-minus z w a b c d h k = diff-plus z (negℤ w) a b d c h (diff-neg w c d k)
 
 -- of two whole numbers
 pub diff-less : (a b : ℕ) → IsDiff (pos a -ℤ pos b) a b
-diff-less a b = diff-same (pos a -ℤ pos b) (a + 0) (0 + b) a b (omega arith) (diff-minus (pos a) (pos b) a 0 b 0 (diff-pos a) (diff-pos b))
+diff-less a b =
+    diff-same (pos a -ℤ pos b) (a + 0) (0 + b) a b (omega arith)
+    (diff-minus (pos a) (pos b) a 0 b 0 (diff-pos a) (diff-pos b))
 
 pub diff-times : (z : ℤ) (a b d : ℕ) → IsDiff z a b → IsDiff (z *ℤ pos d) (a * d) (b * d)
 diff-times (pos n) a b d h = omega (arith, ap (λ (x : ℕ). x * d) h)

@@ -37,17 +37,23 @@ pub at-most : (n : ℕ) (E F : Err) → E .each ≤ F .each → E .flat ≤ F .f
 at-most n E F p q = omega (arith, mul-le-mul-right n p)
 
 module _ (n : ℕ) where
-  pub near-plus-err : {r s : ℕ} {x y : Fraction} (E F : Err) → Near r x (at E n) → Near s y (at F n) → Near (r + s) (plusFraction x y) (at (plusErr E F) n)
+  pub near-plus-err : {r s : ℕ} {x y : Fraction} (E F : Err) → Near r x (at E n) → Near s y (at F n)
+      → Near (r + s) (plusFraction x y) (at (plusErr E F) n)
   near-plus-err E F p q = near-more (omega arith) (near-plus p q)
 
   -- w is at most W, and d at least D
-  pub near-part-err : {r : ℕ} {x : Fraction} (E : Err) (w d W D : ℕ) → w ≤ W → 0 < D → D ≤ d → Near r x (at E n) → Near (r * w / d) (partFraction x w d) (at (partErr E W D) n)
+  pub near-part-err : {r : ℕ} {x : Fraction} (E : Err) (w d W D : ℕ) → w ≤ W → 0 < D → D ≤ d → Near r x (at E n)
+      → Near (r * w / d) (partFraction x w d) (at (partErr E W D) n)
   near-part-err E w d W D hw hD hd p =
       near-more (omega arith) (near-part w d (up (E .each) W D * n + up (E .flat) W D) (omega arith) scaled p)
     where
       scaled : at E n * w ≤ (up (E .each) W D * n + up (E .flat) W D) * d
-      scaled = le-trans (mul-le-mul-left (at E n) hw) (le-trans (omega (arith, mul-le-mul-right n (up-most (E .each) W D hD), up-most (E .flat) W D hD)) (mul-le-mul-left (up (E .each) W D * n + up (E .flat) W D) hd))
+      scaled = le-trans (mul-le-mul-left (at E n) hw)
+          (le-trans (omega (arith, mul-le-mul-right n (up-most (E .each) W D hD), up-most (E .flat) W D hD))
+          (mul-le-mul-left (up (E .each) W D * n + up (E .flat) W D) hd))
 
-  pub near-lesser-err : {r s : ℕ} {x y : Fraction} (E F : Err) → Near r x (at E n) → Near s y (at F n) → Near (Prim.Native.Nat.min r s) (lesserFraction x y) (at (maxErr E F) n)
+  pub near-lesser-err : {r s : ℕ} {x y : Fraction} (E F : Err) → Near r x (at E n) → Near s y (at F n)
+      → Near (Prim.Native.Nat.min r s) (lesserFraction x y) (at (maxErr E F) n)
   near-lesser-err E F p q =
-      near-lesser (at (maxErr E F) n) (at-most n E (maxErr E F) (le-max-left _ _) (le-max-left _ _)) (at-most n F (maxErr E F) (le-max-right _ _) (le-max-right _ _)) p q
+      near-lesser (at (maxErr E F) n) (at-most n E (maxErr E F) (le-max-left _ _) (le-max-left _ _))
+      (at-most n F (maxErr E F) (le-max-right _ _) (le-max-right _ _)) p q

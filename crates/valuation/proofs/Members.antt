@@ -1,4 +1,5 @@
--- The linked records of a chain, by 'next' and by counting classes, are the same list; and the cells of a group that hold contracts are n. Assumes nothing.
+-- The linked records of a chain, by 'next' and by counting classes, are the same list; and the cells of a group that
+-- hold contracts are n. Assumes nothing.
 use mathlib.Core.Path.{_≡_, refl, ap}
 use mathlib.Core.List.{List, [], _∷_, _++_}
 use mathlib.Core.Bool.{Bool, true, false, cond}
@@ -30,15 +31,21 @@ links-some : (b : List ℕ) (i m : ℕ) → 0 < i → linksFrom b i (suc m) ≡ 
 unfolding linksFrom
 links-some b i m some = rw (ne-eqb i 0 (λ z. absurd (omega arith)))
 
-pub links-counted : (b : List ℕ) (k left i m : ℕ) → ChainFrom b (lastClass 1) k left i → left < m → linksFrom b i m ≡ counted b left i
+pub links-counted : (b : List ℕ) (k left i m : ℕ) → ChainFrom b (lastClass 1) k left i → left < m
+    → linksFrom b i m ≡ counted b left i
 unfolding counted
 links-counted b k left i zero h fits = absurd (omega arith)
 links-counted b k zero i (suc m) h fits =
-    rw (links-some b i m (chain-here b (lastClass 1) k zero i h .first), chain-end b (lastClass 1) k zero i refl h, links-none b m)
+    rw (
+      links-some b i m (chain-here b (lastClass 1) k zero i h .first),
+      chain-end b (lastClass 1) k zero i refl h,
+      links-none b m,
+    )
 links-counted b k (suc left) i (suc m) h fits =
     rw (
       links-some b i m (chain-here b (lastClass 1) k (suc left) i h .first),
-      links-counted b k left (nextOf b i) m (chain-next b (lastClass 1) k (suc left) left i (omega arith) h) (omega arith),
+      links-counted b k left (nextOf b i) m (chain-next b (lastClass 1) k (suc left) left i (omega arith) h)
+          (omega arith),
     )
 
 pub held-append : (cs ds : List Cell) → held (cs ++ ds) ≡ held cs + held ds
@@ -72,7 +79,13 @@ module _ (b : List ℕ) (w : Decrements) where
   unfolding held cellsOf linksOf sumOf heldIn
   held-chains zero k = refl
   held-chains (suc left) k =
-      rw (cells-append (chainLinks b k) (linksOf b (k + 1) left), held-append, held-links _ (headOf b k), held-chains left (k + 1))
+      rw (
+        cells-append (chainLinks b k) (linksOf b (k + 1) left),
+        held-append,
+        held-links _ (headOf b k),
+        held-chains
+            left (k + 1),
+      )
 
   pub held-group : (g : ℕ) → held (groupCells b w g) ≡ heldOfGroup b (lastClass 1) g
   unfolding heldOfGroup

@@ -39,7 +39,8 @@ module _ (b : List ℕ) (chain : ℕ) where
       omega (arith, onward-class (rowAt b i k) (row-standing b chain i s k), class-reached i s k)
 
   -- so its deaths are those of that class
-  pub survival-reached : (w : Decrements) (i : ℕ) → Standing b (lastClass 1) chain i → (k : ℕ) → (cellOf b w i) .survival k
+  pub survival-reached : (w : Decrements) (i : ℕ) → Standing b (lastClass 1) chain i → (k : ℕ)
+      → (cellOf b w i) .survival k
       ≡ oneLess (mortalityOf b (sexOf b i) (classAfter (classOf b i) k)) (mortalityIn w (sexOf b i) k)
   unfolding cellOf
   survival-reached w i s k = rw (class-reached i s k)

@@ -12,7 +12,8 @@ use Rattle.book.proofs.Valid.{chain-here, chain-class, chain-next}
 use Rattle.valuation.specs.Portfolio.{onward, rowAt}
 
 module _ (b : List ℕ) (k : ℕ) where
-  pub chain-standing : (left i : ℕ) → ChainFrom b (lastClass 1) k left i → left ≤ lastClass 1 → Standing b (lastClass 1) k i
+  pub chain-standing : (left i : ℕ) → ChainFrom b (lastClass 1) k left i → left ≤ lastClass 1
+      → Standing b (lastClass 1) k i
   chain-standing left i h fits =
       let same : left ≡ lastClass 1 - classOf b i = omega (arith, chain-class b (lastClass 1) k left i h) in
       (chain-here b (lastClass 1) k left i h, rw same at h)

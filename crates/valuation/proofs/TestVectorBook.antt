@@ -45,8 +45,10 @@ unfolding each
 each-means f zero k e h = absurd (omega arith)
 each-means f (suc n) k e h = by-test (f n) refl e (λ rest early. each-means f n k rest early)
   where
-    by-test : (t : Bool) → f n ≡ t → cond t (each f n) false ≡ true → (each f n ≡ true → k < n → f k ≡ true) → f k ≡ true
-    by-test true here rest more = ⊎-elim (λ (same : k ≡ n). rw same here) (λ (early : k < n). more rest early) (eq-or-lt-of-le (omega arith))
+    by-test : (t : Bool) → f n ≡ t → cond t (each f n) false ≡ true → (each f n ≡ true → k < n → f k ≡ true)
+        → f k ≡ true
+    by-test true here rest more =
+        ⊎-elim (λ (same : k ≡ n). rw same here) (λ (early : k < n). more rest early) (eq-or-lt-of-le (omega arith))
     by-test false here rest more = cc
 
 -- the cell of record 1 comes to record 3 in its third year, and stays there
@@ -56,7 +58,8 @@ module _ (b : List ℕ) (third : rowAt b 1 2 ≡ 3) (last : onward b 3 ≡ 3) wh
   rows zero = third
   rows (suc k) = rw (rows k) last
 
-  lapses : (lapse : ℕ) → fieldOf b (rowAt b 1 0) lapseOffset ≡ lapse → fieldOf b (rowAt b 1 1) lapseOffset ≡ lapse → fieldOf b 3 lapseOffset ≡ lapse
+  lapses : (lapse : ℕ) → fieldOf b (rowAt b 1 0) lapseOffset ≡ lapse → fieldOf b (rowAt b 1 1) lapseOffset ≡ lapse
+      → fieldOf b 3 lapseOffset ≡ lapse
       → (k : ℕ) → fieldOf b (rowAt b 1 k) lapseOffset ≡ lapse
   lapses lapse l₁ l₂ l₃ zero = l₁
   lapses lapse l₁ l₂ l₃ (suc zero) = l₂
@@ -73,7 +76,8 @@ deadly-man = record {
   man = refl;
   young = lit≤ tt;
   ages = refl;
-  dies = λ class old. eqb-true _ _ (each-means (λ c. eqb (mortalityOf deadly 0 c) 1_000_000) 121 class refl (omega arith));
+  dies = λ class old. eqb-true _ _
+      (each-means (λ c. eqb (mortalityOf deadly 0 c) 1_000_000) 121 class refl (omega arith));
   leaves = lapses deadly refl refl 0 refl refl refl;
 }
 

@@ -19,7 +19,8 @@ module _ (b : List ℕ) (i mortality lapse : ℕ) (o : OneMan b i mortality laps
   young-row : (k : ℕ) → k < 2 → classOf b (rowAt b i k) < lastClass 1
   unfolding rowAt
   young-row zero two = omega (arith, o .young)
-  young-row (suc zero) two = rw (lt-ltb (classOf b i) (lastClass 1) (omega (arith, o .young))) (omega (arith, o .young, o .ages))
+  young-row (suc zero) two =
+      rw (lt-ltb (classOf b i) (lastClass 1) (omega (arith, o .young))) (omega (arith, o .young, o .ages))
   young-row (suc (suc k)) two = absurd (omega arith)
 
   survival-is : (k : ℕ) → k < 2 → (cellOf b w i) .survival k ≡ oneLess mortality (w .first .men)
@@ -33,11 +34,13 @@ module _ (b : List ℕ) (i mortality lapse : ℕ) (o : OneMan b i mortality laps
   persistency-is k two = rw (o .leaves k, lt-ltb k 5 (omega arith))
 
   year : (k f : ℕ) → k < 2 → inForce rounded (cellOf b w i) k ≡ f
-      → inForce rounded (cellOf b w i) (suc k) ≡ f * oneLess mortality (w .first .men) / 1_000_000_000 * oneLess lapse (w .first .lapse) / 1_000_000_000
+      → inForce rounded (cellOf b w i) (suc k) ≡ f * oneLess mortality (w .first .men) / 1_000_000_000 * oneLess lapse
+      (w .first .lapse) / 1_000_000_000
   unfolding inForce
   year k f two e = rw (e, survival-is k two, persistency-is k two)
 
-  first : inForce rounded (cellOf b w i) 1 ≡ 1_000_000_000 * oneLess mortality (w .first .men) / 1_000_000_000 * oneLess lapse (w .first .lapse) / 1_000_000_000
+  first : inForce rounded (cellOf b w i) 1 ≡ 1_000_000_000 * oneLess mortality (w .first .men) / 1_000_000_000 * oneLess
+      lapse (w .first .lapse) / 1_000_000_000
   unfolding inForce cellOf
   first = year 0 1_000_000_000 (omega arith) (rw (o .one))
 

@@ -1,4 +1,5 @@
--- The distance of a total: distances add, so the five groups' liabilities together keep 500 n + 14,250, and 250 n + 7,125 where no rate is below zero.
+-- The distance of a total: distances add, so the five groups' liabilities together keep 500 n + 14,250, and 250 n +
+-- 7,125 where no rate is below zero.
 -- And what Totals promises. Assumes nothing.
 use mathlib.Core.Path.{_≡_, refl, sym, ap, _∙_}
 use mathlib.Core.List.{List}
@@ -20,31 +21,40 @@ use Rattle.book.proofs.Valid.{valid}
 use Rattle.valuation.specs.Steps.{SignedFraction}
 use Rattle.valuation.specs.Portfolio.{NoRateBelowZero}
 use Rattle.valuation.specs.Bounds.{Within}
-use Rattle.valuation.specs.Contracts.{eachCell, eachGroup, allGroups, totalDistanceOf, halfCell, halfGroup, halfAllGroups, halfTotalDistanceOf}
+use Rattle.valuation.specs.Contracts.{eachCell, eachGroup, allGroups, totalDistanceOf, halfCell, halfGroup}
+use Rattle.valuation.specs.Contracts.{halfAllGroups, halfTotalDistanceOf}
 use Rattle.valuation.specs.Replies.{groupLiability, exactGroupLiability}
-use Rattle.valuation.specs.Totals.{sumGroups, totalOf, plusSigned, exactSumGroups, exactTotalOf, totalsOf, totalsFor, totalsReply, TotalsContract}
+use Rattle.valuation.specs.Totals.{sumGroups, totalOf, plusSigned, exactSumGroups, exactTotalOf, totalsOf}
+use Rattle.valuation.specs.Totals.{totalsFor, totalsReply, TotalsContract}
 use Rattle.valuation.specs.declared.TotalsReply.{TotalsReply}
-use Rattle.valuation.proofs.Differences.{above, below, diff-self, diff-plus, diff-minus, diff-times, diff-abs, abs-diff}
+use Rattle.valuation.proofs.Differences.{above, below, diff-self, diff-plus, diff-minus, diff-times, diff-abs}
+use Rattle.valuation.proofs.Differences.{abs-diff}
 use Rattle.valuation.proofs.GroupContract.{group-distance, group-half-distance}
 
 within-more : {b c : ℕ} {z : ℤ} {x : SignedFraction} → b ≤ c → Within b z x → Within c z x
-within-more {b} {c} {z} {x} h p = record { under-positive = p .under-positive; distance = omega (arith, mul-le-mul-right (x .under) h, p .distance) }
+within-more {b} {c} {z} {x} h p =
+    record { under-positive = p .under-positive; distance = omega (arith, mul-le-mul-right (x .under) h, p .distance) }
 
 -- the same without signs
 apart : {b : ℕ} {z : ℤ} {x : SignedFraction} → Within b z x
-    → (above z * x .under + below (x .over) ≤ below z * x .under + above (x .over) + b * x .under) × (below z * x .under + above (x .over) ≤ above z * x .under + below (x .over) + b * x .under)
+    → (above z * x .under + below (x .over) ≤ below z * x .under + above (x .over) + b * x .under)
+    × (below z * x .under + above (x .over) ≤ above z * x .under + below (x .over) + b * x .under)
 apart {b} {z} {x} p =
     abs-diff (z *ℤ pos (x .under) -ℤ x .over) _ _ (b * x .under)
-    (diff-minus (z *ℤ pos (x .under)) (x .over) _ _ _ _ (diff-times z _ _ (x .under) (diff-self z)) (diff-self (x .over))) (p .distance)
+    (diff-minus (z *ℤ pos (x .under)) (x .over) _ _ _ _ (diff-times z _ _ (x .under) (diff-self z))
+    (diff-self (x .over))) (p .distance)
 
-within-plus : {b c : ℕ} {z w : ℤ} {x y : SignedFraction} → Within b z x → Within c w y → Within (b + c) (z +ℤ w) (plusSigned x y)
+within-plus : {b c : ℕ} {z w : ℤ} {x y : SignedFraction} → Within b z x → Within c w y
+    → Within (b + c) (z +ℤ w) (plusSigned x y)
 within-plus {b} {c} {z} {w} {x} {y} p q = record {
   under-positive = mul-pos (p .under-positive) (q .under-positive);
   distance =
       diff-abs ((z +ℤ w) *ℤ pos d -ℤ (x .over *ℤ pos (y .under) +ℤ y .over *ℤ pos (x .under))) _ _ ((b + c) * d)
       (diff-minus ((z +ℤ w) *ℤ pos d) (x .over *ℤ pos (y .under) +ℤ y .over *ℤ pos (x .under)) _ _ _ _
       (diff-times (z +ℤ w) _ _ d (diff-plus z w _ _ _ _ (diff-self z) (diff-self w)))
-      (diff-plus (x .over *ℤ pos (y .under)) (y .over *ℤ pos (x .under)) _ _ _ _ (diff-times (x .over) _ _ (y .under) (diff-self (x .over))) (diff-times (y .over) _ _ (x .under) (diff-self (y .over)))))
+      (diff-plus (x .over *ℤ pos (y .under)) (y .over *ℤ pos (x .under)) _ _ _ _
+      (diff-times (x .over) _ _ (y .under) (diff-self (x .over)))
+      (diff-times (y .over) _ _ (x .under) (diff-self (y .over)))))
       (omega (arith, mul-le-mul-right (y .under) (apart p .0), mul-le-mul-right (x .under) (apart q .0)))
       (omega (arith, mul-le-mul-right (y .under) (apart p .1), mul-le-mul-right (x .under) (apart q .1)));
 }
@@ -68,7 +78,8 @@ unfolding sumGroups exactSumGroups sumFirst
 groups-within each flat n l x zero near = within-more (omega arith) within-none
 groups-within each flat n l x (suc j) near =
     within-more (omega arith)
-    (within-plus (groups-within each flat n l x j (λ g lo hi. near g lo (omega arith))) (near (suc j) (omega arith) (omega arith)))
+    (within-plus (groups-within each flat n l x j (λ g lo hi. near g lo (omega arith)))
+    (near (suc j) (omega arith) (omega arith)))
 
 module _ (b : List ℕ) where
   first-cells : sumFirst (heldOfGroup b (lastClass 1)) 5 ≡ heldInAll b (lastClass 1)
@@ -76,20 +87,25 @@ module _ (b : List ℕ) where
   first-cells = omega (arith, groups-held b (lastClass 1))
 
   total-within : (each flat all setting : ℕ) → flat * 5 ≤ all
-      → ((g : ℕ) → 1 ≤ g → g ≤ 5 → Within (each * heldOfGroup b (lastClass 1) g + flat) (groupLiability b setting g) (exactGroupLiability b setting g))
+      → ((g : ℕ) → 1 ≤ g → g ≤ 5 → Within (each * heldOfGroup b (lastClass 1) g + flat) (groupLiability b setting g)
+      (exactGroupLiability b setting g))
       → Within (each * heldInAll b (lastClass 1) + all) (totalOf b setting) (exactTotalOf b setting)
   unfolding totalOf exactTotalOf
   total-within each flat all setting fits near =
       within-more (rw first-cells (omega arith))
-      (groups-within each flat (heldOfGroup b (lastClass 1)) (groupLiability b setting) (exactGroupLiability b setting) 5 near)
+      (groups-within each flat (heldOfGroup b (lastClass 1)) (groupLiability b setting) (exactGroupLiability b setting)
+      5 near)
 
-  pub total-distance : (setting : ℕ) → ValidBook 1 b → Within (totalDistanceOf (heldInAll b (lastClass 1))) (totalOf b setting) (exactTotalOf b setting)
-  total-distance setting v = total-within eachCell eachGroup allGroups setting (omega arith) (λ g lo hi. group-distance b setting g v (lo, hi))
+  pub total-distance : (setting : ℕ) → ValidBook 1 b
+      → Within (totalDistanceOf (heldInAll b (lastClass 1))) (totalOf b setting) (exactTotalOf b setting)
+  total-distance setting v =
+      total-within eachCell eachGroup allGroups setting (omega arith) (λ g lo hi. group-distance b setting g v (lo, hi))
 
   pub total-half-distance : (setting : ℕ) → ValidBook 1 b → NoRateBelowZero b
       → Within (halfTotalDistanceOf (heldInAll b (lastClass 1))) (totalOf b setting) (exactTotalOf b setting)
   total-half-distance setting v ordinary =
-      total-within halfCell halfGroup halfAllGroups setting (omega arith) (λ g lo hi. group-half-distance b setting g v (lo, hi) ordinary)
+      total-within halfCell halfGroup halfAllGroups setting (omega arith)
+      (λ g lo hi. group-half-distance b setting g v (lo, hi) ordinary)
 
   each-total : (setting : ℕ) → setting < 8 → getD (totalsOf b) setting (pos 0) ≡ totalOf b setting
   each-total zero h = refl
@@ -107,9 +123,12 @@ module _ (b : List ℕ) where
   refusal-told (Refused q p) n ts ds = refl
 
   -- a reply without a refusal is that of an accepted book
-  accepted : (reply : TotalsReply) → reply ≡ totalsReply b → reply .refusal ≡ 0 → checkBook 1 b ≡ Accepted (countOf (checkBook 1 b))
+  accepted : (reply : TotalsReply) → reply ≡ totalsReply b → reply .refusal ≡ 0
+      → checkBook 1 b ≡ Accepted (countOf (checkBook 1 b))
   unfolding totalsReply
-  accepted reply reply-is e = zero-accepted 1 b (sym (refusal-told (checkBook 1 b) _ _ _) ∙ sym (ap (λ (r : TotalsReply). r .refusal) reply-is) ∙ e)
+  accepted reply reply-is e =
+      zero-accepted 1 b
+      (sym (refusal-told (checkBook 1 b) _ _ _) ∙ sym (ap (λ (r : TotalsReply). r .refusal) reply-is) ∙ e)
 
   pub totals-promised : (reply : TotalsReply) → reply ≡ totalsReply b → TotalsContract b reply
   unfolding totalsReply

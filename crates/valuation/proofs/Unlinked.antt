@@ -1,4 +1,5 @@
--- Records that no chain links have no effect on Group, neither on its reply nor on its table, and none on Totals. Assumes nothing.
+-- Records that no chain links have no effect on Group, neither on its reply nor on its table, and none on Totals.
+-- Assumes nothing.
 use mathlib.Core.Path.{_≡_, refl, sym, ap, _∙_}
 use mathlib.Core.List.{List, [], _∷_}
 use mathlib.Core.Logic.{⊎-elim}
@@ -13,22 +14,27 @@ use lib.ListN.{length}
 use Rattle.verdict.specs.declared.Verdict.{Verdict}
 use Rattle.verdict.specs.declared.Verdict.the-variants.{Accepted, Refused}
 use Rattle.le_bytes.proofs.Same.{u32-same}
-use Rattle.book.specs.Layout.{recordSize, lastClass, chains, headOf, sexOf, classOf, nextOf, fieldOf, countOffset, lapseOffset, premiumOffset, claimsOffset, curvePlace, linkFrom}
+use Rattle.book.specs.Layout.{recordSize, lastClass, chains, headOf, sexOf, classOf, nextOf, fieldOf, countOffset}
+use Rattle.book.specs.Layout.{lapseOffset, premiumOffset, claimsOffset, curvePlace, linkFrom}
 use Rattle.book.specs.Cells.{firstChain, chainsOf, heldOfGroup, heldInAll}
 use Rattle.book.specs.Check.{checkBook}
 use Rattle.book.specs.Rules.{SameButUnlinked}
 use Rattle.book.specs.Reading.{Standing, ValidBook}
 use Rattle.book.proofs.Links.{link-next}
-use Rattle.book.proofs.Same.{SameRecord, sex-same, class-same, next-same, field-of-same, front-same, head-same, record-same}
+use Rattle.book.proofs.Same.{SameRecord, sex-same, class-same, next-same, field-of-same, front-same, head-same}
+use Rattle.book.proofs.Same.{record-same}
 use Rattle.book.proofs.Valid.{valid}
 use Rattle.book.proofs.Exact.{accepted-held}
 use Rattle.book.proofs.Unlinked.{unlinked-same}
 use Rattle.settings.specs.Settings.{percentOf, mortalityWeight, decrementsOf, lapseIn}
 use Rattle.settings.specs.declared.Decrements.{Decrements}
 use Rattle.valuation.specs.Arithmetic.{rounded}
-use Rattle.valuation.specs.Steps.{Cell, Terms, held, outgo, countedPremium, discountedOutgo, discountedPremium, sumYears, totalOutgo, totalPremium, liability}
-use Rattle.valuation.specs.Portfolio.{mortalityOf, costRateOf, divisorOf, oneLess, onward, rowAt, cellOf, linksFrom, chainLinks, linksOf, cellsOf, groupCells, termsOf}
-use Rattle.valuation.specs.Replies.{groupCheck, groupLiability, replyOf, groupReply, yearTable, tableOf, groupTable}
+use Rattle.valuation.specs.Steps.{Cell, Terms, held, outgo, countedPremium, discountedOutgo, discountedPremium}
+use Rattle.valuation.specs.Steps.{sumYears, totalOutgo, totalPremium, liability}
+use Rattle.valuation.specs.Portfolio.{mortalityOf, costRateOf, divisorOf, oneLess, onward, rowAt, cellOf}
+use Rattle.valuation.specs.Portfolio.{linksFrom, chainLinks, linksOf, cellsOf, groupCells, termsOf}
+use Rattle.valuation.specs.Replies.{groupCheck, groupLiability, replyOf, groupReply, yearTable, tableOf}
+use Rattle.valuation.specs.Replies.{groupTable}
 use Rattle.valuation.specs.Totals.{sumGroups, totalOf, totalsOf, differencesOf, totalsFor, totalsReply}
 use Rattle.valuation.proofs.Rows.{chain-standing, next-standing}
 use Rattle.valuation.proofs.Members.{cells-append, held-group}
@@ -72,7 +78,14 @@ module _ (t t′ : Terms) (cs : List Cell) (s : SameTerms t t′) where
   unfolding yearTable
   years-same zero h = refl
   years-same (suc j) h =
-      rw (years-same j (omega arith), premium-same j (omega arith), outgo-same j (omega arith), discountedPremium-same j (omega arith), discountedOutgo-same j (omega arith))
+      rw (
+        years-same j (omega arith),
+        premium-same j (omega arith),
+        outgo-same j (omega arith),
+        discountedPremium-same j
+            (omega arith),
+        discountedOutgo-same j (omega arith),
+      )
 
 -- The record of the next year.
 module _ (b b′ : List ℕ) (i : ℕ) (same : SameRecord b b′ i) where
@@ -90,14 +103,18 @@ module _ (b b′ : List ℕ) (k i : ℕ) (h : Kept b b′ k i) where
 
   kept-next : classOf b i < lastClass 1 → Kept b b′ k (nextOf b i)
   kept-next young =
-      let some = h .0 .0 .first in
-      (next-standing b k i (h .0) young, λ j l. rw (link-next b i j some) at (h .1 (suc j) (rw (link-next b i j some) l)))
+      let some = h .0 .0 .first in (
+        next-standing b k i (h .0) young,
+        λ j l. rw (link-next b i j some) at
+            (h .1 (suc j) (rw (link-next b i j some) l)),
+      )
 
   -- a record that has a next is below the last class
   kept-more : 0 < nextOf b i → Kept b b′ k (nextOf b i)
   kept-more more =
       let r = h .0 .0 in
-      kept-next (⊎-elim (λ (last : classOf b i ≡ lastClass 1). absurd (omega (arith, r .ends last))) (λ (young : classOf b i < lastClass 1). young) (eq-or-lt-of-le (r .class-high)))
+      kept-next (⊎-elim (λ (last : classOf b i ≡ lastClass 1). absurd (omega (arith, r .ends last)))
+      (λ (young : classOf b i < lastClass 1). young) (eq-or-lt-of-le (r .class-high)))
 
   kept-onward : Kept b b′ k (onward b i)
   kept-onward = by-class (ltb (classOf b i) (lastClass 1)) refl
@@ -120,8 +137,10 @@ module _ (b b′ : List ℕ) (k i : ℕ) (h : Kept b b′ k i) where
   row-class-same : (y : ℕ) → classOf b (rowAt b i y) ≡ classOf b′ (rowAt b′ i y)
   row-class-same y = rw (← row-same y) (class-same b b′ (rowAt b i y) (kept-here b b′ k _ (kept-row y)))
 
-  row-field-same : (y offset : ℕ) → offset + 4 ≤ recordSize → fieldOf b (rowAt b i y) offset ≡ fieldOf b′ (rowAt b′ i y) offset
-  row-field-same y offset inside = rw (← row-same y) (field-of-same b b′ (rowAt b i y) (kept-here b b′ k _ (kept-row y)) offset inside)
+  row-field-same : (y offset : ℕ) → offset + 4 ≤ recordSize
+      → fieldOf b (rowAt b i y) offset ≡ fieldOf b′ (rowAt b′ i y) offset
+  row-field-same y offset inside =
+      rw (← row-same y) (field-of-same b b′ (rowAt b i y) (kept-here b b′ k _ (kept-row y)) offset inside)
 
 -- Terms and cells.
 module _ (b b′ : List ℕ) (s : SameButUnlinked b b′) where
@@ -135,7 +154,8 @@ module _ (b b′ : List ℕ) (s : SameButUnlinked b b′) where
     claims = λ k year. refl;
     costs = λ k year. refl;
     rate = u32-same b b′ _ _ (front-same b b′ s) _ (omega arith) (omega arith);
-    divides = λ k year. rw (u32-same b b′ _ _ (front-same b b′ s) (curvePlace + 4 * (k - 1)) (omega arith) (omega arith));
+    divides = λ k year. rw
+        (u32-same b b′ _ _ (front-same b b′ s) (curvePlace + 4 * (k - 1)) (omega arith) (omega arith));
   }
 
   pub decrements-same : (setting : ℕ) → decrementsOf b setting ≡ decrementsOf b′ setting
@@ -153,7 +173,8 @@ module _ (b b′ : List ℕ) (s : SameButUnlinked b b′) where
     cell-same k i h = λ d. record {
       count = field-of-same b b′ i here countOffset (omega arith) d;
       survival = λ y. survival y d;
-      persistency = λ y. ap (λ (rate : ℕ). oneLess rate (lapseIn w y)) (row-field-same b b′ k i h y lapseOffset (omega arith)) d;
+      persistency = λ y. ap (λ (rate : ℕ). oneLess rate (lapseIn w y))
+          (row-field-same b b′ k i h y lapseOffset (omega arith)) d;
       premium = λ y. row-field-same b b′ k i h y premiumOffset (omega arith) d;
       claims = λ y. row-field-same b b′ k i h y claimsOffset (omega arith) d;
     }
@@ -164,7 +185,8 @@ module _ (b b′ : List ℕ) (s : SameButUnlinked b b′) where
         survival : (y : ℕ) → (cellOf b w i) .survival y ≡ (cellOf b′ w i) .survival y
         survival y =
             rw (
-              mortality-same (sexOf b i) (classOf b (rowAt b i y)) (omega (arith, h .0 .0 .sex)) (kept-row b b′ k i h y .0 .0 .class-high),
+              mortality-same (sexOf b i) (classOf b (rowAt b i y)) (omega (arith, h .0 .0 .sex))
+                  (kept-row b b′ k i h y .0 .0 .class-high),
               row-class-same b b′ k i h y,
               sex-same b b′ i here,
             )
@@ -177,7 +199,8 @@ module _ (b b′ : List ℕ) (s : SameButUnlinked b b′) where
       where
         by-end : (t : Bool) → eqb i 0 ≡ t
             → (0 < i → cellsOf b w (linksFrom b (nextOf b i) m) ≡ cellsOf b′ w (linksFrom b′ (nextOf b i) m))
-            → cellsOf b w (cond t [] (i ∷ linksFrom b (nextOf b i) m)) ≡ cellsOf b′ w (cond t [] (i ∷ linksFrom b′ (nextOf b′ i) m))
+            → cellsOf b w (cond t [] (i ∷ linksFrom b (nextOf b i) m)) ≡ cellsOf b′ w
+            (cond t [] (i ∷ linksFrom b′ (nextOf b′ i) m))
         by-end true e rest = refl
         by-end false e rest =
             let some : 0 < i = pos-of-ne-zero (eqb-false _ _ e) in
@@ -203,7 +226,8 @@ module _ (b b′ : List ℕ) (s : SameButUnlinked b b′) where
           )
 
 -- A group of an accepted book.
-module _ (b b′ : List ℕ) (s : SameButUnlinked b b′) (setting g : ℕ) (v : ValidBook 1 b) (range : (1 ≤ g) × (g ≤ 5)) where
+module _ (b b′ : List ℕ) (s : SameButUnlinked b b′) (setting g : ℕ) (v : ValidBook 1 b)
+    (range : (1 ≤ g) × (g ≤ 5)) where
   group-terms-same : SameTerms (termsOf b setting g) (termsOf b′ setting g)
   group-terms-same = terms-same b b′ s setting g (range .1)
 
@@ -214,13 +238,18 @@ module _ (b b′ : List ℕ) (s : SameButUnlinked b b′) (setting g : ℕ) (v :
 
   group-liability-same : groupLiability b setting g ≡ groupLiability b′ setting g
   unfolding groupLiability
-  group-liability-same = rw group-cells-same (liability-same _ _ (groupCells b′ (decrementsOf b′ setting) g) group-terms-same)
+  group-liability-same =
+      rw group-cells-same (liability-same _ _ (groupCells b′ (decrementsOf b′ setting) g) group-terms-same)
 
-  group-years-same : yearTable (termsOf b setting g) (groupCells b (decrementsOf b setting) g) 50 ≡ yearTable (termsOf b′ setting g) (groupCells b′ (decrementsOf b′ setting) g) 50
-  group-years-same = rw group-cells-same (years-same _ _ (groupCells b′ (decrementsOf b′ setting) g) group-terms-same 50 (omega arith))
+  group-years-same : yearTable (termsOf b setting g) (groupCells b (decrementsOf b setting) g) 50 ≡ yearTable
+      (termsOf b′ setting g) (groupCells b′ (decrementsOf b′ setting) g) 50
+  group-years-same =
+      rw group-cells-same (years-same _ _ (groupCells b′ (decrementsOf b′ setting) g) group-terms-same 50 (omega arith))
 
   group-held-same : heldOfGroup b (lastClass 1) g ≡ heldOfGroup b′ (lastClass 1) g
-  group-held-same = sym (held-group b (decrementsOf b setting) g) ∙ ap held group-cells-same ∙ held-group b′ (decrementsOf b′ setting) g
+  group-held-same =
+      sym (held-group b (decrementsOf b setting) g) ∙ ap held group-cells-same ∙ held-group b′ (decrementsOf b′ setting)
+      g
 
 -- Group's reply and table.
 module _ (b b′ : List ℕ) (s : SameButUnlinked b b′) (setting g numbers : ℕ) where
@@ -233,30 +262,36 @@ module _ (b b′ : List ℕ) (s : SameButUnlinked b b′) (setting g numbers : �
   reply-same = rw (← verdict-same) (by-verdict (groupCheck b setting g numbers) refl)
     where
       by-verdict : (v : Verdict) → groupCheck b setting g numbers ≡ v
-          → replyOf v (groupLiability b setting g) (heldOfGroup b (lastClass 1) g) ≡ replyOf v (groupLiability b′ setting g) (heldOfGroup b′ (lastClass 1) g)
+          → replyOf v (groupLiability b setting g) (heldOfGroup b (lastClass 1) g) ≡ replyOf v
+          (groupLiability b′ setting g) (heldOfGroup b′ (lastClass 1) g)
       by-verdict (Accepted n) e =
           let v = group-valid b setting g numbers n e in
           let range = group-range b setting g numbers n e in
           rw (group-liability-same b b′ s setting g v range, group-held-same b b′ s setting g v range)
       by-verdict (Refused q p) e = refl
 
-pub table-same : (b b′ : List ℕ) → SameButUnlinked b b′ → (setting g : ℕ) (before : List ℕ) → groupTable b setting g before ≡ groupTable b′ setting g before
+pub table-same : (b b′ : List ℕ) → SameButUnlinked b b′ → (setting g : ℕ) (before : List ℕ)
+    → groupTable b setting g before ≡ groupTable b′ setting g before
 unfolding groupTable
-table-same b b′ s setting g before = rw (← verdict-same b b′ s setting g (length before)) (by-verdict (groupCheck b setting g (length before)) refl)
+table-same b b′ s setting g before =
+    rw (← verdict-same b b′ s setting g (length before)) (by-verdict (groupCheck b setting g (length before)) refl)
   where
     years : List ℕ → List ℕ
     years c = yearTable (termsOf c setting g) (groupCells c (decrementsOf c setting) g) 50
 
-    by-verdict : (v : Verdict) → groupCheck b setting g (length before) ≡ v → tableOf v (years b) before ≡ tableOf v (years b′) before
+    by-verdict : (v : Verdict) → groupCheck b setting g (length before) ≡ v
+        → tableOf v (years b) before ≡ tableOf v (years b′) before
     by-verdict (Accepted n) e =
-        rw (group-years-same b b′ s setting g (group-valid b setting g (length before) n e) (group-range b setting g (length before) n e))
+        rw (group-years-same b b′ s setting g (group-valid b setting g (length before) n e)
+        (group-range b setting g (length before) n e))
     by-verdict (Refused q p) e = refl
 
 -- Totals' reply.
 groups-same : (f h : ℕ → ℤ) (j : ℕ) → ((g : ℕ) → 1 ≤ g → g ≤ j → f g ≡ h g) → sumGroups f j ≡ sumGroups h j
 unfolding sumGroups
 groups-same f h zero each = refl
-groups-same f h (suc j) each = rw (groups-same f h j (λ g lo hi. each g lo (omega arith)), each (suc j) (omega arith) (omega arith))
+groups-same f h (suc j) each =
+    rw (groups-same f h j (λ g lo hi. each g lo (omega arith)), each (suc j) (omega arith) (omega arith))
 
 module _ (b b′ : List ℕ) (s : SameButUnlinked b b′) where
   total-same : ValidBook 1 b → (setting : ℕ) → totalOf b setting ≡ totalOf b′ setting
@@ -268,7 +303,8 @@ module _ (b b′ : List ℕ) (s : SameButUnlinked b b′) where
   totals-same = rw (← (unlinked-same b b′ s 1)) (by-verdict (checkBook 1 b) refl)
     where
       by-verdict : (v : Verdict) → checkBook 1 b ≡ v
-          → totalsFor v (heldInAll b (lastClass 1)) (totalsOf b) (differencesOf b) ≡ totalsFor v (heldInAll b′ (lastClass 1)) (totalsOf b′) (differencesOf b′)
+          → totalsFor v (heldInAll b (lastClass 1)) (totalsOf b) (differencesOf b) ≡ totalsFor v
+          (heldInAll b′ (lastClass 1)) (totalsOf b′) (differencesOf b′)
       by-verdict (Accepted n) e =
           let t = total-same (valid 1 b n e) in
           rw (

@@ -1,9 +1,10 @@
--- The two ways of reckoning: with whole numbers, where each division rounds down, and with fractions, where nothing is rounded.
+-- The two ways of computing: with whole numbers, where each division rounds down, and with fractions, where nothing is
+-- rounded.
 use mathlib.Core.Bool.{Bool, true, false}
 use Prim.Native.Nat.{ℕ, _+_, _*_, _/_, min}
 use lib.Dec.{leb}
 
--- a way of reckoning: what a number is, and the four things that the year by year reckoning does with numbers
+-- a way of computing: what a number is, and the four things that the year by year valuation does with numbers
 pub record Arithmetic : Type 1 where
   pub Number : Type 0
   -- a whole number
@@ -43,4 +44,11 @@ lesserFraction x y = pickFraction (leb (x .over * y .under) (y .over * x .under)
 
 -- fractions: nothing is rounded
 abbrev pub exact : Arithmetic
-exact = record { Number = Fraction; whole = wholeFraction; plus = plusFraction; part = partFraction; lesser = lesserFraction }
+exact = record {
+  Number = Fraction;
+  whole = wholeFraction;
+  plus = plusFraction;
+  part = partFraction;
+  lesser =
+      lesserFraction;
+}

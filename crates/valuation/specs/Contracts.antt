@@ -6,9 +6,12 @@ use Rattle.valuation.specs.Bounds.{GoodCells, GoodTerms, Within}
 
 -- a group in a setting, with no divisor below D: a for each cell with contracts, and b
 abbrev pub GroupPromise : (D a b : ℕ) → Type 0
-GroupPromise D a b = (t : Terms) → GoodTerms D t → (cs : List Cell) → GoodCells cs → Within (a * held cs + b) (liability t cs) (exactLiability t cs)
+GroupPromise D a b =
+    (t : Terms) → GoodTerms D t → (cs : List Cell) → GoodCells cs
+    → Within (a * held cs + b) (liability t cs) (exactLiability t cs)
 
--- demand 3, for any curve: no divisor of an accepted book is below 990,000. 500 centimes for each cell with contracts, and 2,850
+-- demand 3, for any curve: no divisor of an accepted book is below 990,000. 500 centimes for each cell with contracts,
+-- and 2,850
 abbrev pub eachCell : ℕ
 eachCell = 500
 

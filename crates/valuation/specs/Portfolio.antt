@@ -4,13 +4,15 @@ use Prim.Native.Nat.{ℕ, zero, suc, _+_, _-_, _*_, _%_, _<_, min}
 use mathlib.Core.List.{List, [], _∷_, _++_}
 use lib.Dec.{ltb, eqb}
 use Rattle.le_bytes.specs.Bytes.{readU32}
-use Rattle.book.specs.Layout.{lastClass, headOf, sexOf, classOf, nextOf, fieldOf, countOffset, lapseOffset, premiumOffset, claimsOffset, costPlace, curvePlace, mortalityPlace, mortalitySize}
+use Rattle.book.specs.Layout.{lastClass, headOf, sexOf, classOf, nextOf, fieldOf, countOffset, lapseOffset}
+use Rattle.book.specs.Layout.{premiumOffset, claimsOffset, costPlace, curvePlace, mortalityPlace, mortalitySize}
 use Rattle.book.specs.Cells.{firstChain, chainsOf}
 use Rattle.settings.specs.Settings.{outgoingsOf, mortalityIn, lapseIn, costsIn, claimsWeightIn}
 use Rattle.settings.specs.declared.Decrements.{Decrements}
 use Rattle.valuation.specs.Steps.{Cell, Terms}
 
--- Tables: the mortality of a sex and class, the cost rate of product group g, and 1,000,000 more than the rate of year k.
+-- Tables: the mortality of a sex and class, the cost rate of product group g, and 1,000,000 more than the rate of year
+-- k.
 unfoldable pub mortalityOf : List ℕ → ℕ → ℕ → ℕ
 mortalityOf b sex class = readU32 b (mortalityPlace + mortalitySize * sex + 4 * class)
 
@@ -25,7 +27,8 @@ divisorOf b k = cond (eqb k 0) 1_000_000 ((readU32 b (curvePlace + 4 * (k - 1)) 
 abbrev pub NoRateBelowZero : List ℕ → Type 0
 NoRateBelowZero b = (j : ℕ) → j < 49 → readU32 b (curvePlace + 4 * j) < 2_147_483_648
 
--- one less a rate in millionths at a weight in thousandths, in billionths; the weighted rate is cut to one (house rule)
+-- one less a rate in millionths at a weight in thousandths, in billionths; the weighted rate is cut to one (the order's
+-- rule)
 unfoldable pub oneLess : ℕ → ℕ → ℕ
 oneLess rate weight = 1_000_000_000 - min (rate * weight) 1_000_000_000
 

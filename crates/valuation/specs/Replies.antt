@@ -14,7 +14,8 @@ use Rattle.book.specs.Cells.{heldOfGroup}
 use Rattle.book.specs.Check.{checkBook}
 use Rattle.settings.specs.Settings.{decrementsOf}
 use Rattle.valuation.specs.Arithmetic.{rounded}
-use Rattle.valuation.specs.Steps.{Cell, Terms, SignedFraction, outgo, countedPremium, discountedOutgo, discountedPremium, liability, exactLiability}
+use Rattle.valuation.specs.Steps.{Cell, Terms, SignedFraction, outgo, countedPremium, discountedOutgo}
+use Rattle.valuation.specs.Steps.{discountedPremium, liability, exactLiability}
 use Rattle.valuation.specs.Portfolio.{NoRateBelowZero, groupCells, termsOf}
 use Rattle.valuation.specs.Bounds.{Within}
 use Rattle.valuation.specs.Contracts.{distanceOf, halfDistanceOf}
@@ -36,7 +37,8 @@ groupLiability b setting g = liability (termsOf b setting g) (groupCells b (decr
 unfoldable pub exactGroupLiability : List ℕ → ℕ → ℕ → SignedFraction
 exactGroupLiability b setting g = exactLiability (termsOf b setting g) (groupCells b (decrementsOf b setting) g)
 
--- The paper's values of a reply: the refusal's number and its place, 0 and 0 where there is none; liability and n, 0 and 0 where refused.
+-- The paper's values of a reply: the refusal's number and its place, 0 and 0 where there is none; liability and n, 0
+-- and 0 where refused.
 abbrev pub refusalIn : GroupReply → ℕ
 refusalIn (Valued l n) = 0
 refusalIn (GroupRefused number place) = number
@@ -59,12 +61,14 @@ replyOf (Accepted m) l n = Valued l n
 replyOf (Refused number place) l n = GroupRefused number place
 
 unfoldable pub groupReply : List ℕ → ℕ → ℕ → ℕ → GroupReply
-groupReply b setting g numbers = replyOf (groupCheck b setting g numbers) (groupLiability b setting g) (heldOfGroup b (lastClass 1) g)
+groupReply b setting g numbers =
+    replyOf (groupCheck b setting g numbers) (groupLiability b setting g) (heldOfGroup b (lastClass 1) g)
 
 -- the four numbers of year k: premium after cap, outgo, both discounted
 abbrev pub yearNumbers : Terms → List Cell → ℕ → List ℕ
 yearNumbers t cs k =
-    countedPremium rounded t cs k ∷ outgo rounded t cs k ∷ discountedPremium rounded t cs k ∷ discountedOutgo rounded t cs k ∷ []
+    countedPremium rounded t cs k ∷ outgo rounded t cs k ∷ discountedPremium rounded t cs k ∷ discountedOutgo rounded t
+    cs k ∷ []
 
 -- the year table, document 01's term for the cash flows by year: those of the first j years
 unfoldable pub yearTable : Terms → List Cell → ℕ → List ℕ
@@ -75,7 +79,7 @@ yearTable t cs (suc j) = yearTable t cs j ++ yearNumbers t cs j
 abbrev pub groupYears : List ℕ → ℕ → ℕ → List ℕ
 groupYears b setting g = yearTable (termsOf b setting g) (groupCells b (decrementsOf b setting) g) 50
 
--- the lent table afterwards: the 200 numbers of the fifty years, then what stood there; as it was where refused
+-- the caller's table afterwards: the 200 numbers of the fifty years, then what stood there; as it was where refused
 abbrev pub tableOf : Verdict → List ℕ → List ℕ → List ℕ
 tableOf (Accepted m) years before = years ++ drop 200 before
 tableOf (Refused number place) years before = before
@@ -83,13 +87,15 @@ tableOf (Refused number place) years before = before
 unfoldable pub groupTable : List ℕ → ℕ → ℕ → List ℕ → List ℕ
 groupTable b setting g before = tableOf (groupCheck b setting g (length before)) (groupYears b setting g) before
 
--- What Group's call promises: its reply and its table equal their definitions; and, where it reckons, demand 3.
+-- What Group's call promises: its reply and its table equal their definitions; and, where it computes, demand 3.
 pub record GroupContract (b : List ℕ) (setting g : ℕ) (before after : List ℕ) (reply : GroupReply) : Type 0 where
   pub reply-is : reply ≡ groupReply b setting g (length before)
   pub table-is : after ≡ groupTable b setting g before
   -- within 500 n + 2,850 centimes of the exact value, n and the liability being those of the reply
-  pub distance : refusalIn reply ≡ 0 → Within (distanceOf (countIn reply)) (liabilityIn reply) (exactGroupLiability b setting g)
+  pub distance : refusalIn reply ≡ 0
+      → Within (distanceOf (countIn reply)) (liabilityIn reply) (exactGroupLiability b setting g)
   -- within 250 n + 1,425 where no rate of the curve is below zero
-  pub half-distance : NoRateBelowZero b → refusalIn reply ≡ 0 → Within (halfDistanceOf (countIn reply)) (liabilityIn reply) (exactGroupLiability b setting g)
+  pub half-distance : NoRateBelowZero b → refusalIn reply ≡ 0
+      → Within (halfDistanceOf (countIn reply)) (liabilityIn reply) (exactGroupLiability b setting g)
   -- from the sixth year on nine times the counted premium of the table is at most ten times its outgo
   pub cap : (k : ℕ) → refusalIn reply ≡ 0 → 5 ≤ k → k < 50 → 9 * getD after (4 * k) 0 ≤ 10 * getD after (4 * k + 1) 0

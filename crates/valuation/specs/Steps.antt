@@ -1,4 +1,5 @@
--- The year by year reckoning, said once over a way of reckoning: `rounded` gives the figures, `exact` their exact values.
+-- The year by year valuation, said once over a way of computing: `rounded` gives the figures, `exact` their exact
+-- values.
 use mathlib.Core.Bool.{Bool, true, false}
 use mathlib.Core.List.{List, [], _∷_}
 use Prim.Native.Nat.{ℕ, zero, suc, _+_, _*_}
@@ -59,7 +60,7 @@ module _ (A : Arithmetic) where
   claimsSum cs k = sumCells (cellClaims k) cs
 
   -- step 3: the outgo, document 01's term for claims and expenses together: the weighted claims, and the cost
-  -- (FINMA 4.4.8) of the premium before the cap (house rule)
+  -- (FINMA 4.4.8) of the premium before the cap (the order's rule)
   unfoldable pub outgo : Terms → List Cell → ℕ → A .Number
   outgo t cs k =
       A .plus (A .part (claimsSum cs k) (t .claimsWeight k) 1000)

@@ -38,7 +38,8 @@ pub record TestVectors : Type 0 where
   pub t8 : (b : List ℕ) (i : ℕ) → edition b ≡ 1 → OneMan b i 1_000_000 0 → inForceAfter b 1 i 1 ≡ 0
   pub t9 : (b : List ℕ) (i : ℕ) → edition b ≡ 1 → OneMan b i 1_000_000 0 → inForceAfter b 2 i 1 ≡ 304_000_000
   -- without deaths, in any edition
-  pub t10 : (b : List ℕ) (i : ℕ) → OneMan b i 0 333_333 → (inForceAfter b 0 i 1 ≡ 666_667_000) × (inForceAfter b 0 i 2 ≡ 444_444_888)
+  pub t10 : (b : List ℕ) (i : ℕ) → OneMan b i 0 333_333 → (inForceAfter b 0 i 1 ≡ 666_667_000)
+      × (inForceAfter b 0 i 2 ≡ 444_444_888)
   -- 1,220 zero bytes, and any 1,219 bytes
   pub t11 : checkBook 1 (replicate 1220 0) ≡ Refused 2 0
   pub t12 : (b : List ℕ) → length b ≡ 1219 → checkBook 1 b ≡ Refused 1 1219

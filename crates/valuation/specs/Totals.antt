@@ -44,7 +44,8 @@ totalsOf b =
 -- the four differences: mortality, lapse, costs up less down, and claims less base
 abbrev pub differencesOf : List ℕ → List ℤ
 differencesOf b =
-    (totalOf b 1 -ℤ totalOf b 2) ∷ (totalOf b 3 -ℤ totalOf b 4) ∷ (totalOf b 5 -ℤ totalOf b 6) ∷ (totalOf b 7 -ℤ totalOf b 0) ∷ []
+    (totalOf b 1 -ℤ totalOf b 2) ∷ (totalOf b 3 -ℤ totalOf b 4) ∷ (totalOf b 5 -ℤ totalOf b 6) ∷
+    (totalOf b 7 -ℤ totalOf b 0) ∷ []
 
 -- so many zeros
 abbrev pub nothing : ℕ → List ℤ
@@ -54,12 +55,13 @@ nothing (suc j) = pos 0 ∷ nothing j
 -- the reply: n over all groups, totals and differences; or the refusal, and 0 in every other field
 abbrev pub totalsFor : Verdict → ℕ → List ℤ → List ℤ → TotalsReply
 totalsFor (Accepted m) n ts ds = record { refusal = 0; place = 0; n = n; totals = ts; differences = ds }
-totalsFor (Refused number place) n ts ds = record { refusal = number; place = place; n = 0; totals = nothing 8; differences = nothing 4 }
+totalsFor (Refused number place) n ts ds =
+    record { refusal = number; place = place; n = 0; totals = nothing 8; differences = nothing 4 }
 
 unfoldable pub totalsReply : List ℕ → TotalsReply
 totalsReply b = totalsFor (checkBook 1 b) (heldInAll b (lastClass 1)) (totalsOf b) (differencesOf b)
 
--- What Totals' call promises: its reply equals its definition; and, where it reckons, demand 3 for each total.
+-- What Totals' call promises: its reply equals its definition; and, where it computes, demand 3 for each total.
 pub record TotalsContract (b : List ℕ) (reply : TotalsReply) : Type 0 where
   pub reply-is : reply ≡ totalsReply b
   -- within 500 n + 14,250 centimes of the exact value, n and the total being those of the reply

@@ -117,7 +117,8 @@ pub record Together (b : List ℕ) (setting : ℕ) : Type 0 where
 
 pub record Traps : Type 0 where
   -- PG1a, PG1b and PG1c capped one by one: 1,500 would be cut to 277, and 100 stay
-  pub subgroups-capped-one-by-one : Apart (cellsPremiumIn both 5) 1_400 (cellsPremiumIn rich 5 + cellsPremiumIn poor 5) 377
+  pub subgroups-capped-one-by-one : Apart (cellsPremiumIn both 5) 1_400 (cellsPremiumIn rich 5 + cellsPremiumIn poor 5)
+      377
   pub subgroups-added : Apart (liability trapTerms both) (pos 0 -ℤ pos 7_987)
       (liability trapTerms rich +ℤ liability trapTerms poor) (pos 38_048)
   pub groups-together : (b : List ℕ) (setting : ℕ) → Together b setting

@@ -1,4 +1,5 @@
--- Laws of verdicts one after the other: what acceptance says of the parts, and when the parts make acceptance. Assumes nothing.
+-- Laws of verdicts one after the other: what acceptance says of the parts, and when the parts make acceptance. Assumes
+-- nothing.
 use mathlib.Core.Path.{_≡_, refl, sym, ap}
 use mathlib.Core.Logic.{⊎-elim}
 use mathlib.Core.Bool.{Bool, true, false}
@@ -48,8 +49,8 @@ then-count (Refused q p) w = zero-le
 pub accepted : (v : Verdict) (n : ℕ) → v ≡ Accepted n → v ≡ Accepted (countOf v)
 accepted v n e = rw e
 
--- A verdict that tells by its number alone whether it refuses: 0 is acceptance. A test with a number above 0 does, and so
--- do two such verdicts one after the other.
+-- A verdict that says by its number alone whether it refuses: 0 is acceptance. A test with a number above 0 does, and
+-- so do two such verdicts one after the other.
 unfoldable pub ZeroAccepts : Verdict → Type 0
 ZeroAccepts v = refusalOf v ≡ 0 → v ≡ Accepted (countOf v)
 
@@ -89,7 +90,8 @@ pub all-good : (f : ℕ → Verdict) (n k left rest m : ℕ) → left ≡ rest +
 unfolding joinAll
 all-good f n k left rest m more is = rw (more, add-one rest, is) (plus-plus n m (joinAll f (k + 1) rest))
 
-pub all-bad : (f : ℕ → Verdict) (n k left q p : ℕ) → 0 < left → f k ≡ Refused q p → plus n (joinAll f k left) ≡ Refused q p
+pub all-bad : (f : ℕ → Verdict) (n k left q p : ℕ) → 0 < left → f k ≡ Refused q p
+    → plus n (joinAll f k left) ≡ Refused q p
 unfolding joinAll
 all-bad f n k zero q p h is = absurd (not-suc-le-zero h)
 all-bad f n k (suc left) q p h is = rw is
@@ -108,24 +110,28 @@ join-right (Accepted m) (Accepted k) n e = refl
 join-right (Accepted m) (Refused q p) n e = cc
 join-right (Refused q p) w n e = cc
 
-pub all-each : (f : ℕ → Verdict) (left k n i : ℕ) → joinAll f k left ≡ Accepted n → k ≤ i → i < k + left → f i ≡ Accepted (countOf (f i))
+pub all-each : (f : ℕ → Verdict) (left k n i : ℕ) → joinAll f k left ≡ Accepted n → k ≤ i → i < k + left
+    → f i ≡ Accepted (countOf (f i))
 unfolding joinAll
 all-each f zero k n i e lo hi = absurd (omega arith)
 all-each f (suc left) k n i e lo hi =
     ⊎-elim
     (λ (eq : k ≡ i). rw (← eq) (join-left (f k) (joinAll f (k + 1) left) n e))
-    (λ (lt : k < i). all-each f left (k + 1) _ i (join-right (f k) (joinAll f (k + 1) left) n e) (omega arith) (omega arith))
+    (λ (lt : k < i). all-each f left (k + 1) _ i (join-right (f k) (joinAll f (k + 1) left) n e) (omega arith)
+    (omega arith))
     (eq-or-lt-of-le lo)
 
 -- a run whose verdicts all accept and count nothing
-pub all-zero : (f : ℕ → Verdict) (left k : ℕ) → ((j : ℕ) → k ≤ j → j < k + left → f j ≡ Accepted 0) → joinAll f k left ≡ Accepted 0
+pub all-zero : (f : ℕ → Verdict) (left k : ℕ) → ((j : ℕ) → k ≤ j → j < k + left → f j ≡ Accepted 0)
+    → joinAll f k left ≡ Accepted 0
 unfolding joinAll
 all-zero f zero k each = refl
 all-zero f (suc left) k each =
     rw (each k (omega arith) (omega arith), all-zero f left (k + 1) (λ j lo hi. each j (omega arith) (omega arith)))
 
 -- a run depends on its verdicts alone
-pub all-same : (f g : ℕ → Verdict) (left k : ℕ) → ((j : ℕ) → k ≤ j → j < k + left → f j ≡ g j) → joinAll f k left ≡ joinAll g k left
+pub all-same : (f g : ℕ → Verdict) (left k : ℕ) → ((j : ℕ) → k ≤ j → j < k + left → f j ≡ g j)
+    → joinAll f k left ≡ joinAll g k left
 unfolding joinAll
 all-same f g zero k same = refl
 all-same f g (suc left) k same =

@@ -44,7 +44,8 @@ unfolding worked differences formFor formOf sumBelow factorsOf scaledOf numberAt
 worked-form = refl
 
 passed : Passed differences worked
-unfolding worked differences modelValid coefficientsRight correlationRight rightAt factorsSmall every formFor formOf sumBelow factorsOf scaledOf numberAt
+unfolding worked differences modelValid coefficientsRight correlationRight rightAt factorsSmall every formFor formOf
+    sumBelow factorsOf scaledOf numberAt
 passed = record { model = refl; small = refl; form = refl }
 
 pub worked-example : factorsReply differences worked ≡ record { refusal = 0; place = 0; deviation = 86_482 }

@@ -22,14 +22,16 @@ worked = record { lowest = 152_340; quartile1 = 158_910; median = 163_275; quart
 -- 164,609.375, and the double that is written 0.05948833839363393
 pub worked-example : spreadReply worked factors
     ≡ Coefficient (fin false 1_316_875 (negsuc 2)) (fin false 1_071_646_634_489_839 (negsuc 53))
-unfolding factors worked spreadReply checkSpread rising withinLimit badFactor need _andThen_ estimatesOf meanOf deviationOf weighted round sum add mul div lt isNan ofInt
+unfolding factors worked spreadReply checkSpread rising withinLimit badFactor need _andThen_ estimatesOf meanOf
+    deviationOf weighted round sum add mul div lt isNan ofInt
 worked-example = refl
 
 pub level-claims : Summary
 level-claims = record { lowest = 7; quartile1 = 7; median = 7; quartile3 = 7; highest = 7 }
 
 pub level : spreadReply level-claims factors ≡ Level (fin false 7 (pos 0))
-unfolding factors level-claims spreadReply checkSpread rising withinLimit badFactor need _andThen_ estimatesOf meanOf weighted round div lt isNan ofInt
+unfolding factors level-claims spreadReply checkSpread rising withinLimit badFactor need _andThen_ estimatesOf meanOf
+    weighted round div lt isNan ofInt
 level = refl
 
 -- 28 comes before 'level'

@@ -46,7 +46,8 @@ module _ (b : List ℕ) (setting : ℕ) where
 
 -- a table with no year yet, and with one year more
 pub placed-none : (premium outgo table : List ℕ) → Placed premium outgo 0 table
-placed-none premium outgo table = record { premium-at = λ k h. absurd (omega arith); outgo-at = λ k h. absurd (omega arith) }
+placed-none premium outgo table =
+    record { premium-at = λ k h. absurd (omega arith); outgo-at = λ k h. absurd (omega arith) }
 
 pub placed-more : (premium outgo table : List ℕ) (k : ℕ) → length table ≡ 200 → k < 50 → Placed premium outgo k table
     → Placed premium outgo (k + 1) (set (set table (4 * k) (getD premium k 0)) (4 * k + 1) (getD outgo k 0))
@@ -59,7 +60,8 @@ placed-more premium outgo table k size few p =
           getD-set-other t (4 * k + 1) (4 * i) y 0 (λ e. absurd (omega arith))
           ∙ ⊎-elim {C = getD t (4 * i) 0 ≡ getD premium i 0}
           (λ q. let here : i ≡ k = omega arith in rw here (getD-set-same table (4 * k) x 0 (omega (arith, size))))
-          (λ q. getD-set-other table (4 * k) (4 * i) x 0 (λ e. absurd (omega arith)) ∙ p .premium-at i q) (le-or-lt k i);
+          (λ q. getD-set-other table (4 * k) (4 * i) x 0 (λ e. absurd (omega arith)) ∙ p .premium-at i q)
+          (le-or-lt k i);
       outgo-at = λ i h.
           ⊎-elim {C = getD (set t (4 * k + 1) y) (4 * i + 1) 0 ≡ getD outgo i 0}
           (λ q. let here : i ≡ k = omega arith in rw here (getD-set-same t (4 * k + 1) y 0 (omega (arith, long))))

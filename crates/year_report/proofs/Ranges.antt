@@ -95,6 +95,7 @@ module _ (b : List ℕ) (v : ValidBook 1 b) (setting g k : ℕ) (lo : 1 ≤ g) (
       let w = decrementsOf b setting in
       omega (
         arith,
-        outgo-le (termsOf b setting g) (groupCells b w g) k 990_000 (good-terms 990_000 b setting g v lo hi (divisor-low b v)) year
+        outgo-le (termsOf b setting g) (groupCells b w g) k 990_000
+            (good-terms 990_000 b setting g v lo hi (divisor-low b v)) year
             (premium-most b v w g k hi year) (claims-most b v w g k hi year),
       )

@@ -1,4 +1,4 @@
--- What the telling call promises holds of the reply as defined: the figure told is the report's length and at most
+-- What the telling call promises holds of the reply as defined: the figure given is the report's length and at most
 -- 9,525. Assumes nothing.
 use mathlib.Core.Path.{_≡_, refl}
 use mathlib.Core.List.{List}
@@ -26,8 +26,9 @@ unfolding ZeroAccepts
 zero-accepts-reply (Accepted m) n told e = (refl, refl)
 zero-accepts-reply (Refused q p) n told e = let z : _≡_ {A = ℕ} 0 1 = cc (told e) in absurd (omega arith)
 
--- no reply tells more than an accepted book's report has
-zero-accepts-most : (v : Verdict) (n most : ℕ) → ((m : ℕ) → v ≡ Accepted m → n ≤ most) → textLength (lengthFor v n) ≤ most
+-- no reply says more than an accepted book's report has
+zero-accepts-most : (v : Verdict) (n most : ℕ) → ((m : ℕ) → v ≡ Accepted m → n ≤ most)
+    → textLength (lengthFor v n) ≤ most
 zero-accepts-most (Accepted m) n most h = h m refl
 zero-accepts-most (Refused q p) n most h = omega arith
 
@@ -40,5 +41,6 @@ report-length-contract b setting reply reply-is = record {
       rw reply-is (zero-accepts-reply (reportCheck b setting) _ (report-told b setting) (rw reply-is at none) .1);
   most =
       rw reply-is
-      (zero-accepts-most (reportCheck b setting) _ _ (λ n e. omega (arith, report-most b (report-valid b setting n e) setting)));
+      (zero-accepts-most (reportCheck b setting) _ _
+      (λ n e. omega (arith, report-most b (report-valid b setting n e) setting)));
 }

@@ -1,4 +1,4 @@
--- The bytes of unlinked records have no effect on the report, on what is told of it, and on the refusals: the figures
+-- The bytes of unlinked records have no effect on the report, on what is given of it, and on the refusals: the figures
 -- are those of Group's table, which they leave alone. Assumes nothing.
 use mathlib.Core.Path.{_≡_, refl, sym, ap, _∙_}
 use mathlib.Core.List.{List, _++_}
@@ -102,7 +102,8 @@ module _ (b b′ : List ℕ) (s : SameButUnlinked b b′) (setting : ℕ) where
   pub reply-same : (capacity : ℕ) → reportReply b setting capacity ≡ reportReply b′ setting capacity
   unfolding textReply withCapacity _andThen_
   reply-same capacity =
-      by-verdict (λ v text. lengthFor (v andThen need (leb (length text) capacity) 20 0) (length text)) (λ q p x y. refl)
+      by-verdict (λ v text. lengthFor (v andThen need (leb (length text) capacity) 20 0) (length text))
+      (λ q p x y. refl)
 
   pub buffer-same : (before : List ℕ) → reportBuffer b setting before ≡ reportBuffer b′ setting before
   unfolding textBuffer withCapacity _andThen_

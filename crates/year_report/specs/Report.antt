@@ -43,12 +43,12 @@ reportText b setting = heading ++ joined (groupLines b setting) 5
 unfoldable pub reportCheck : List ℕ → ℕ → Verdict
 reportCheck b setting = need (ltb setting 8) 14 0 andThen checkBook 1 b
 
--- the buffer wanted, as told: the report's length, to the byte
+-- the buffer wanted, as given: the report's length, to the byte
 unfoldable pub reportLength : List ℕ → ℕ → ℕ
 reportLength b setting = length (reportText b setting)
 
--- What the writing call replies, given a buffer of `capacity` bytes: the report's length, or the first refusal: those of
--- both, and then 20 where the buffer is shorter than told.
+-- What the writing call replies, given a buffer of `capacity` bytes: the report's length, or the first refusal: those
+-- of both, and then 20 where the buffer is shorter than given.
 abbrev pub reportReply : List ℕ → ℕ → ℕ → TextReply
 reportReply b setting capacity = textReply (reportCheck b setting) (reportText b setting) capacity
 
@@ -62,9 +62,10 @@ reportLengthReply b setting = lengthFor (reportCheck b setting) (reportLength b 
 
 -- What the writing call promises: its reply and the buffer equal their definitions, and the bytes written stand in it.
 abbrev pub ReportContract : List ℕ → ℕ → List ℕ → List ℕ → TextReply → Type 0
-ReportContract b setting before after reply = TextContract (reportCheck b setting) (reportText b setting) before after reply
+ReportContract b setting before after reply =
+    TextContract (reportCheck b setting) (reportText b setting) before after reply
 
--- What the telling call promises: the same refusals but 20; the figure told is the report's length, and at most 9,525.
+-- What the telling call promises: the same refusals but 20; the figure given is the report's length, and at most 9,525.
 pub record ReportLengthContract (b : List ℕ) (setting : ℕ) (reply : TextReply) : Type 0 where
   pub reply-is : reply ≡ reportLengthReply b setting
   pub exact : textRefusal reply ≡ 0 → textLength reply ≡ length (reportText b setting)

@@ -1,4 +1,4 @@
--- The year tables of the five product groups, as the code carries them from the reckoning to the text.
+-- The year tables of the five product groups, as the code carries them from the valuation to the text.
 use mathlib.Core.List.{List, [], _++_}
 use mathlib.Core.Path.{_≡_}
 use Prim.Native.Nat.{ℕ, _+_, _*_, _<_, _≤_}
@@ -16,7 +16,7 @@ use Rattle.year_report.specs.Report.{heading, reportLength}
 use Rattle.year_report.specs.declared.YearTable.{YearTable}
 use Rattle.year_report.specs.declared.Measured.{Measured}
 
--- what settling one product group of an accepted book asks: the weights w are the book's
+-- what valuing one product group of an accepted book asks: the weights w are the book's
 pub record Asked (b : List ℕ) (s : Setting) (w : Shifts) (g : ℕ) : Type 0 where
   pub setting-is : SettingOf s
   pub lo : 1 ≤ g

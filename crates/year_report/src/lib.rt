@@ -1,5 +1,5 @@
-// The year report of a book in a setting, as text in a lent buffer: premium after cap and outgo of each product group
-// and year. And how much buffer it wants, to the byte.
+// The year report of a book in a setting, as text in the caller's buffer: premium after cap and
+// outgo of each product group and year. And how much buffer it wants, to the byte.
 ghost use mathlib.Core.Path.{_≡_};
 ghost use Prim.Native.Nat.{_<_};
 ghost use Rattle.book.specs.Reading.{ValidBook};
@@ -7,6 +7,10 @@ ghost use Rattle.buffer.specs.Text.{Wrote};
 ghost use Rattle.year_report.specs.Report.{reportCheck, ReportContract, ReportLengthContract};
 ghost use Rattle.year_report.specs.Tables.{Asked, Placed, Years, Measures, reportFrom};
 use buffer::TextReply;
+use cell_projection::A_YEAR;
+use cell_projection::YEARS;
+use rate_table::COLUMNS;
+use rate_table::ROWS;
 use settings::Setting;
 use settings::Shifts;
 use verdict::Verdict;
@@ -22,7 +26,8 @@ fn check_report(book: &[u8], setting: usize) -> Verdict
     book_check::check(book)
 }
 
-// Premium after cap and outgo of each of a product group's fifty years, at the places that they have in a year table.
+// Premium after cap and outgo of each of a product group's fifty years, at the places that they
+// have in a year table.
 struct YearTable {
     numbers: [u64; 200],
 }
@@ -43,8 +48,8 @@ fn year_table(book: &[u8], s: Setting, w: Shifts, group: usize) -> YearTable
     requires { ⌜ Asked (now book) s w group ⌝ }
     ensures { λ r. ⌜ Years (now (book .entry)) (s .number) group (r .numbers) ⌝ }
 {
-    let mut rows = [0u64; 2720];
-    let mut sums = [0u64; 500];
+    let mut rows = [0u64; ROWS * COLUMNS];
+    let mut sums = [0u64; YEARS * A_YEAR];
     group_projection::group_sums(book, w, group, s.projection, &mut rows, &mut sums);
     let years = present_value::undiscounted(book, s, group, &sums, 0, 50);
     let premium = years.premium;
@@ -52,14 +57,16 @@ fn year_table(book: &[u8], s: Setting, w: Shifts, group: usize) -> YearTable
     placed(&premium, &outgo)
 }
 
-// The five product groups' tables, and how many bytes their report has: 25 of heading, and the lines. No text is built.
+// The five product groups' tables, and how many bytes their report has: 25 of heading, and the
+// lines. No text is built.
 struct Measured {
     tables: [YearTable; 5],
     bytes: usize,
 }
 
 fn measured_years(book: &[u8], setting: usize) -> Measured
-    requires { ⌜ (setting < 8) × ValidBook 1 (now book) ⌝ }
+    requires { ⌜ (setting < 8)
+        × ValidBook 1 (now book) ⌝ }
     ensures { λ r. ⌜ Measures (now (book .entry)) setting r ⌝ }
 {
     let s = Setting::new(setting);
@@ -89,10 +96,12 @@ fn put_report(years: Measured, out: &mut [u8]) -> usize
     at
 }
 
-// Writes the report where the lent buffer has the room that `report_length` tells; else, and where the book is refused,
-// nothing. The book is checked and reckoned once: length and text are those of the same tables.
+// Writes the report where the caller's buffer has the space that `report_length` says; else, and
+// where the book is refused, nothing. The book is checked and computed once: length and text are
+// those of the same tables.
 pub fn write_report(book: &[u8], setting: usize, out: &mut [u8]) -> TextReply
-    ensures { λ r. ⌜ ReportContract (now (book .entry)) setting (now (out .entry)) (now (out .exit)) r ⌝ }
+    ensures { λ r. ⌜ ReportContract (now (book .entry)) setting (now (out .entry)) (now (out .exit))
+        r ⌝ }
 {
     let v = check_report(book, setting);
     if let Verdict::Refused(number, place) = v {

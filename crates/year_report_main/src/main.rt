@@ -1,5 +1,5 @@
-// The year report of the book on standard input, or one line for a refusal. The setting is the word that the program is
-// started with; 0, the base, where there is none.
+// The year report of the book on standard input, or one line for a refusal. The setting is the word
+// that the program is started with; 0, the base, where there is none.
 use buffer::TextReply;
 use libc::STDIN_FILENO;
 use libc::STDOUT_FILENO;

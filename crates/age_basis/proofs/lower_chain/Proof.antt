@@ -1,7 +1,8 @@
--- `age_basis::lower_chain` meets its contract. The invariant: the walk stands at record i, and the classes of the
+-- `age_basis::lower_chain` meets its contract. The invariant: the pass stands at record i, and the classes of the
 -- records passed are lowered. The measure is the number of classes ahead. Assumes nothing.
 use native.Mathlib.Omega.{arith}
-use Rattle.age_basis.proofs.Lowering.{Walk, ahead, project-start, project-end, project-ready, project-more, project-falls}
+use Rattle.age_basis.proofs.Lowering.{Walk, ahead, project-start, project-end, project-ready, project-more}
+use Rattle.age_basis.proofs.Lowering.{project-falls}
 use Rattle.age_basis.proofs.lower_chain.Statement.{statement}
 use Rattle.age_basis.proofs.lower_chain.Tie as tie
 
@@ -28,7 +29,8 @@ next-of-requires : tie.Need-next-of-requires Inv-loop μ-loop
 next-of-requires c κs =
     let m = c .before .before .before .before .before in
     let a = m .before .before .before .before in
-    project-ready _ (a .pre .0) _ (a .pre .1) _ _ _ (m .loop .inv) (c .before .before .before .before .loop-test .taken) .0
+    project-ready _ (a .pre .0) _ (a .pre .1) _ _ _ (m .loop .inv) (c .before .before .before .before .loop-test .taken)
+    .0
 
 loop-less : tie.Need-loop-less Inv-loop μ-loop
 loop-less c =

@@ -1,4 +1,5 @@
--- `arith::mul_div` meets its contract: the division fact, and both products fit since the remainder is below d. Assumes nothing.
+-- `arith::mul_div` meets its contract: the division fact, and both products fit since the remainder is below d. Assumes
+-- nothing.
 use mathlib.Core.Path.{sym}
 use Prim.Native.Nat.{_*_, _%_}
 use native.Mathlib.Nat.{div-le-self}
@@ -13,7 +14,12 @@ mul-result-2 c = omega (arith, rest-le (c .args .x) (c .args .y) (c .args .d) (c
 
 add-result : tie.Need-add-result
 add-result c =
-    omega (arith, rest-le (c .args .x) (c .args .y) (c .args .d) (c .pre .0), div-le-self ((c .args .x % c .args .d) * c .args .y) (c .args .d))
+    omega (
+      arith,
+      rest-le (c .args .x) (c .args .y) (c .args .d) (c .pre .0),
+      div-le-self
+          ((c .args .x % c .args .d) * c .args .y) (c .args .d),
+    )
 
 returns : tie.Need-returns
 returns c = sym (mul-div (c .args .x) (c .args .y) (c .args .d) (c .pre .0))

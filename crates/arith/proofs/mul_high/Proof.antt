@@ -32,7 +32,14 @@ add-result-2 : tie.Need-add-result-2
 add-result-2 c =
     let a = c .args .a in
     let b = c .args .b in
-    omega (arith, high-high a b (omega arith) (omega arith), high-low a b (omega arith), low-low a b, low-high a b (omega arith))
+    omega (
+      arith,
+      high-high a b (omega arith) (omega arith),
+      high-low a b (omega arith),
+      low-low a b,
+      low-high a b
+          (omega arith),
+    )
 
 returns : tie.Need-returns
 returns c = mul-high (c .args .a) (c .args .b)

@@ -1,4 +1,5 @@
--- `arith::share` meets its contract: the upper half of a product, divided, or `mul_div` at the divisor 1,000,000,000. Assumes nothing.
+-- `arith::share` meets its contract: the upper half of a product, divided, or `mul_div` at the divisor 1,000,000,000.
+-- Assumes nothing.
 use Prim.Native.Nat.{_/_}
 use native.Mathlib.Omega.{arith}
 use borrow.Author.Needs.{needs}

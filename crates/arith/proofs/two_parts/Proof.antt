@@ -1,4 +1,5 @@
--- `arith::two_parts` meets its contract: both are mended where either product may carry, else both upper halves are the quotients.
+-- `arith::two_parts` meets its contract: both are corrected where either product may carry, else both upper halves are
+-- the quotients.
 -- Assumes nothing.
 use mathlib.Core.Path.{sym, _∙_}
 use Prim.Native.Nat.{_≤_}
@@ -29,23 +30,29 @@ returns-2 c =
     let h = c .before .before .before .before .before in
     let g = c .before .before .before .before in
     let a = h .before in (
-      part-sure _ _ _ _ _ (a .args .most) (a .pre .2) (a .pre .4) (h .mul-high .ensures) (a .pre .0) (most-small a) (sym (c .before .before .before .may-be-low .ensures) ∙ c .before .if1 .left),
-      part-sure _ _ _ _ _ (a .args .most) (a .pre .2) (a .pre .5) (g .mul-high2 .ensures) (a .pre .1) (most-small a) (sym (c .before .before .may-be-low2 .ensures) ∙ c .if2 .left),
+      part-sure _ _ _ _ _ (a .args .most) (a .pre .2) (a .pre .4) (h .mul-high .ensures) (a .pre .0) (most-small a)
+          (sym (c .before .before .before .may-be-low .ensures) ∙ c .before .if1 .left),
+      part-sure _ _ _ _ _ (a .args .most) (a .pre .2) (a .pre .5) (g .mul-high2 .ensures) (a .pre .1) (most-small a)
+          (sym (c .before .before .may-be-low2 .ensures) ∙ c .if2 .left),
     )
 
 corrected-requires : tie.Need-corrected-requires
 corrected-requires c κs =
     let h = c .before .before .before .before in
     let a = h .before in
-    part-short _ _ _ _ _ (a .args .most) (a .pre .2) (a .pre .4) (h .mul-high .ensures) (a .pre .0) (most-small a) (a .pre .3) (high-small (a .args .x) (a .args .fraction) _ (x-small a) (fraction-small a) (h .mul-high .ensures))
+    part-short _ _ _ _ _ (a .args .most) (a .pre .2) (a .pre .4) (h .mul-high .ensures) (a .pre .0) (most-small a)
+    (a .pre .3)
+    (high-small (a .args .x) (a .args .fraction) _ (x-small a) (fraction-small a) (h .mul-high .ensures))
 
 corrected-requires-2 : tie.Need-corrected-requires-2
 corrected-requires-2 c κs =
     let g = c .before .before .before .before in
     let a = g .before .before in
-    part-short _ _ _ _ _ (a .args .most) (a .pre .2) (a .pre .5) (g .mul-high2 .ensures) (a .pre .1) (most-small a) (a .pre .3) (high-small (a .args .y) (a .args .other) _ (y-small a) (other-small a) (g .mul-high2 .ensures))
+    part-short _ _ _ _ _ (a .args .most) (a .pre .2) (a .pre .5) (g .mul-high2 .ensures) (a .pre .1) (most-small a)
+    (a .pre .3) (high-small (a .args .y) (a .args .other) _ (y-small a) (other-small a) (g .mul-high2 .ensures))
 
 pub two-parts-spec : {M : Type 1} → statement M
 two-parts-spec =
     tie.close
-    (tie.spec (search needs) (search needs) (search needs) (search needs) corrected-requires corrected-requires-2 (search needs) returns-2)
+    (tie.spec (search needs) (search needs) (search needs) (search needs) corrected-requires corrected-requires-2
+    (search needs) returns-2)

@@ -1,4 +1,5 @@
--- `book::check_amounts` meets its contract: the tests joined are those of `checkAmounts`, each at the number that was read. Assumes nothing.
+-- `book::check_amounts` meets its contract: the tests joined are those of `checkAmounts`, each at the number that was
+-- read. Assumes nothing.
 use Rattle.book.specs.Check.{checkAmounts}
 use borrow.Author.Needs.{needs}
 use Rattle.book.proofs.check_amounts.Statement.{statement}

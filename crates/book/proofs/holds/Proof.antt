@@ -7,10 +7,26 @@ use Rattle.book.proofs.holds.Statement.{statement}
 use Rattle.book.proofs.holds.Tie as tie
 
 returns : tie.Need-returns
-returns c = (rw (holds-some _ _ (c .before .before .before .pre .0), ← c .before .field-of .ensures .0, eq-eqb _ _ (c .if1 .taken)), omega arith)
+returns c = (
+  rw (
+    holds-some _ _ (c .before .before .before .pre .0),
+    ← c .before .field-of .ensures .0,
+    eq-eqb _ _
+        (c .if1 .taken),
+  ),
+  omega arith,
+)
 
 returns-2 : tie.Need-returns-2
-returns-2 c = (rw (holds-some _ _ (c .before .before .before .pre .0), ← c .before .field-of .ensures .0, ne-eqb _ _ (c .if1 .left)), omega arith)
+returns-2 c = (
+  rw (
+    holds-some _ _ (c .before .before .before .pre .0),
+    ← c .before .field-of .ensures .0,
+    ne-eqb _ _
+        (c .if1 .left),
+  ),
+  omega arith,
+)
 
 pub holds-spec : {M : Type 1} → statement M
 holds-spec = tie.close

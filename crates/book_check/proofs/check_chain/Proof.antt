@@ -1,4 +1,5 @@
--- `book_check::check_chain` meets its contract: the head is 0, or above N, or leads to the chain's first record. Assumes nothing.
+-- `book_check::check_chain` meets its contract: the head is 0, or above N, or leads to the chain's first record.
+-- Assumes nothing.
 use borrow.Author.Tests.{eq-eqb, ne-eqb, le-leb, lt-leb}
 use Rattle.verdict.specs.Verdicts.{need, _andThen_}
 use Rattle.book.specs.Check.{checkChain}
@@ -37,5 +38,6 @@ returns-3 c =
 pub check-chain-spec : {M : Type 1} → statement M
 check-chain-spec =
     tie.close
-    (tie.spec (search needs) (search needs) returns (search needs) (search needs) returns-2 (search needs) (search needs)
+    (tie.spec (search needs) (search needs) returns (search needs) (search needs) returns-2 (search needs)
+    (search needs)
     (search needs) returns-3)

@@ -1,4 +1,5 @@
--- `book_check::check_on` meets its contract: at each return the laws of `checkBook` say which verdict stands. Assumes nothing.
+-- `book_check::check_on` meets its contract: at each return the laws of `checkBook` say which verdict stands. Assumes
+-- nothing.
 use mathlib.Core.Path.{_≡_, sym, _∙_}
 use native.Mathlib.Omega.{arith}
 use borrow.Author.Needs.{needs}
@@ -11,7 +12,12 @@ use Rattle.book_check.proofs.check_on.Statement.{statement}
 use Rattle.book_check.proofs.check_on.Tie as tie
 
 -- what the header and the tables say together
-stages : (c : tie.After-and-then) → c .and-then .result ≡ (checkHeader (c .before .before .before .before .before .args .basis) (length (c .before .before .before .before .before .args .b .now)) (c .before .before .before .before .before .args .b .now) andThen checkTables (c .before .before .before .before .before .args .b .now))
+stages : (c : tie.After-and-then)
+    → c .and-then .result ≡
+    (checkHeader (c .before .before .before .before .before .args .basis)
+    (length (c .before .before .before .before .before .args .b .now))
+    (c .before .before .before .before .before .args .b .now) andThen checkTables
+    (c .before .before .before .before .before .args .b .now))
 stages c = rw (c .and-then .ensures, c .before .check-tables .ensures, c .before .before .check-header .ensures)
 
 returns : tie.Need-returns
@@ -20,7 +26,8 @@ returns c = sym (book-short _ _ (c .if1 .taken))
 returns-2 : tie.Need-returns-2
 returns-2 c =
     let e = c .enum-told2 .given .1 in
-    e ∙ sym (book-bad _ _ (c .before .before .before .before .before .if1 .left) _ _ (sym (stages (c .before .before)) ∙ e))
+    e ∙ sym (book-bad _ _ (c .before .before .before .before .before .if1 .left) _ _
+    (sym (stages (c .before .before)) ∙ e))
 
 check-chains-requires : tie.Need-check-chains-requires
 check-chains-requires c κs =
@@ -31,10 +38,12 @@ returns-3 : tie.Need-returns-3
 returns-3 c =
     let m = c .before .before in
     rw (c .check-chains .ensures, c .before .last-class .ensures)
-    (sym (book-good _ _ (m .before .before .before .before .before .if1 .left) _ (sym (stages (m .before .before)) ∙ m .enum-told .given .1)))
+    (sym (book-good _ _ (m .before .before .before .before .before .if1 .left) _
+    (sym (stages (m .before .before)) ∙ m .enum-told .given .1)))
 
 pub check-on-spec : {M : Type 1} → statement M
 check-on-spec =
     tie.close
-    (tie.spec returns (search needs) (search needs) (search needs) (search needs) (search needs) returns-2 (search needs)
+    (tie.spec returns (search needs) (search needs) (search needs) (search needs) (search needs) returns-2
+    (search needs)
     check-chains-requires returns-3)

@@ -1,4 +1,5 @@
--- `book_check_header::check_header` meets its contract: the tests joined are those of `checkHeader`, each at the number that was read. Assumes nothing.
+-- `book_check_header::check_header` meets its contract: the tests joined are those of `checkHeader`, each at the number
+-- that was read. Assumes nothing.
 use Rattle.book.specs.Check.{checkHeader}
 use borrow.Author.Needs.{needs}
 use Rattle.book_check_header.proofs.check_header.Statement.{statement}
@@ -20,12 +21,14 @@ returns c =
       c .before .before .before .before .before .before .before .before .before .records .ensures .0,
       c .before .before .before .before .before .before .before .before .before .before .read-u16 .ensures .0,
       c .before .before .before .before .before .before .before .before .before .before .before .read-u8 .ensures .0,
-      c .before .before .before .before .before .before .before .before .before .before .before .before .edition .ensures .0,
+      c .before .before .before .before .before .before .before .before .before .before .before .before .edition
+          .ensures .0,
     )
 
 pub check-header-spec : {M : Type 1} → statement M
 check-header-spec =
     tie.close
     (tie.spec (search needs) (search needs) (search needs) (search needs) (search needs) (search needs) (search needs)
-    (search needs) (search needs) (search needs) (search needs) (search needs) (search needs) (search needs) (search needs)
+    (search needs) (search needs) (search needs) (search needs) (search needs) (search needs) (search needs)
+    (search needs)
     returns)

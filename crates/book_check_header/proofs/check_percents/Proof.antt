@@ -1,4 +1,5 @@
--- `book_check_header::check_percents` meets its contract: the tests joined are those of `checkPercents`, each at the number that was read. Assumes nothing.
+-- `book_check_header::check_percents` meets its contract: the tests joined are those of `checkPercents`, each at the
+-- number that was read. Assumes nothing.
 use Rattle.book.specs.Check.{checkPercents}
 use borrow.Author.Needs.{needs}
 use Rattle.book_check_header.proofs.check_percents.Statement.{statement}
@@ -19,4 +20,5 @@ returns c =
 pub check-percents-spec : {M : Type 1} → statement M
 check-percents-spec =
     tie.close
-    (tie.spec (search needs) (search needs) (search needs) (search needs) (search needs) (search needs) (search needs) returns)
+    (tie.spec (search needs) (search needs) (search needs) (search needs) (search needs) (search needs) (search needs)
+    returns)

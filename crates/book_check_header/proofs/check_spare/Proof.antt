@@ -1,4 +1,5 @@
--- `book_check_header::check_spare` meets its contract: the tests joined are those of `checkSpare`, each at the number that was read. Assumes nothing.
+-- `book_check_header::check_spare` meets its contract: the tests joined are those of `checkSpare`, each at the number
+-- that was read. Assumes nothing.
 use Rattle.book.specs.Check.{checkSpare}
 use borrow.Author.Needs.{needs}
 use Rattle.book_check_header.proofs.check_spare.Statement.{statement}

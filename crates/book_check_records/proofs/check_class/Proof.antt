@@ -1,4 +1,5 @@
--- `book_check_records::check_class` meets its contract: the tests joined are those of `checkClass`, each at the number that was read. Assumes nothing.
+-- `book_check_records::check_class` meets its contract: the tests joined are those of `checkClass`, each at the number
+-- that was read. Assumes nothing.
 use Rattle.book.specs.Check.{checkClass}
 use borrow.Author.Needs.{needs}
 use Rattle.book_check_records.proofs.check_class.Statement.{statement}

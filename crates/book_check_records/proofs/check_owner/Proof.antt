@@ -1,4 +1,5 @@
--- `book_check_records::check_owner` meets its contract: the tests joined are those of `checkOwner`, each at the number that was read. Assumes nothing.
+-- `book_check_records::check_owner` meets its contract: the tests joined are those of `checkOwner`, each at the number
+-- that was read. Assumes nothing.
 use Rattle.book.specs.Check.{checkOwner}
 use borrow.Author.Needs.{needs}
 use Rattle.book_check_records.proofs.check_owner.Statement.{statement}

@@ -1,4 +1,5 @@
--- `book_check_records::ends_right` meets its contract: each arm is the definition's, by the test that led there. Assumes nothing.
+-- `book_check_records::ends_right` meets its contract: each arm is the definition's, by the test that led there.
+-- Assumes nothing.
 use borrow.Author.Tests.{eq-eqb, ne-eqb}
 use Rattle.book.specs.Check.{endsRight}
 use Rattle.book_check_records.proofs.ends_right.Statement.{statement}

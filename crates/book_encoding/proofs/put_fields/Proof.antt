@@ -1,5 +1,5 @@
--- `book_encoding::put_fields` meets its contract. The invariant: the numbers before j are written. The measure is how many
--- are left. Assumes nothing.
+-- `book_encoding::put_fields` meets its contract. The invariant: the numbers before j are written. The measure is how
+-- many are left. Assumes nothing.
 use mathlib.Core.Path.{_≡_}
 use mathlib.Core.List.{[]}
 use Prim.Native.Nat.{_+_, _-_, _*_, _≤_}

@@ -1,4 +1,5 @@
--- `book_limits::check_contents` meets its contract: first classes, lengths, edition, tables and lists, one after the other.
+-- `book_limits::check_contents` meets its contract: first classes, lengths, edition, tables and lists, one after the
+-- other.
 -- Assumes nothing.
 use mathlib.Core.Path.{_≡_, sym}
 use lib.ListN.{length}
@@ -14,7 +15,7 @@ curve-length a = search needs
 mortality-length : (a : tie.Start) → length (a .args .values .mortality) ≡ 242
 mortality-length a = search needs
 
--- the function's entry, from where the curve is lent
+-- the function's entry, from where the curve is passed
 abbrev entry : tie.After-curve2 → tie.Start
 entry c = c .before .before .before .before .before .before .before .before .before .before .before .before .before
     .before .before .before

@@ -1,5 +1,5 @@
--- `book_ranges::check_most` meets its contract. The invariant: what the numbers from j on say is what all say. The measure
--- is how many are left.
+-- `book_ranges::check_most` meets its contract. The invariant: what the numbers from j on say is what all say. The
+-- measure is how many are left.
 -- Assumes nothing.
 use mathlib.Core.Path.{_≡_, sym, _∙_}
 use Prim.Native.Nat.{ℕ, _-_, _≤_}

@@ -24,4 +24,5 @@ returns-2 c = rw (c .require2 .ensures, c .before .need2 .ensures, ne-eqb _ _ (c
 pub check-percents-spec : {M : Type 1} → statement M
 check-percents-spec =
     tie.close
-    (tie.spec (search needs) (search needs) (search needs) (search needs) returns (search needs) (search needs) returns-2)
+    (tie.spec (search needs) (search needs) (search needs) (search needs) returns (search needs) (search needs)
+    returns-2)

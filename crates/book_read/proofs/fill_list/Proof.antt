@@ -1,5 +1,5 @@
--- `book_read::fill_list` meets its contract. The invariant: the lists of the chains before k are written. The measure is
--- the number of chains left.
+-- `book_read::fill_list` meets its contract. The invariant: the lists of the chains before k are written. The measure
+-- is the number of chains left.
 -- Assumes nothing.
 use mathlib.Core.Path.{_≡_}
 use mathlib.Core.List.{[]}

@@ -8,7 +8,8 @@ use Rattle.verdict.specs.declared.Verdict.the-variants.{Accepted}
 use Rattle.book.specs.Layout.{countOffset, lapseOffset, premiumOffset, claimsOffset}
 use Rattle.book_contents.specs.Reading.{checkRead, Sound, OfBytes}
 use Rattle.book_contents.specs.Contracts.{readVerdict}
-use Rattle.book_contents.proofs.Projection.{read-sound, read-counts, read-lapses, read-premiums, read-claims, filled, filled-kept}
+use Rattle.book_contents.proofs.Projection.{read-sound, read-counts, read-lapses, read-premiums, read-claims, filled}
+use Rattle.book_contents.proofs.Projection.{filled-kept}
 use Rattle.book_contents.proofs.WriteReadContracts.{read-promised}
 use Rattle.book_read.proofs.read.Statement.{statement}
 use Rattle.book_read.proofs.read.Tie as tie

@@ -1,5 +1,5 @@
--- `book_read_values::curve_of` meets its contract. The invariant: the first j rates are the fields'. The measure is how many are
--- left. Assumes nothing.
+-- `book_read_values::curve_of` meets its contract. The invariant: the first j rates are the fields'. The measure is how
+-- many are left. Assumes nothing.
 use mathlib.Core.Path.{_≡_, refl, ap, _∙_}
 use Prim.Native.Nat.{ℕ, _+_, _-_, _*_, _≤_, _<_}
 use native.Mathlib.Omega.{arith}

@@ -1,4 +1,5 @@
--- `book_read_values::first_in` meets its contract: 121 where the chain is empty, else the class of its head. Assumes nothing.
+-- `book_read_values::first_in` meets its contract: 121 where the chain is empty, else the class of its head. Assumes
+-- nothing.
 use mathlib.Core.Path.{_≡_}
 use native.Mathlib.Nat.{pos-of-ne-zero}
 use native.Mathlib.Omega.{arith}

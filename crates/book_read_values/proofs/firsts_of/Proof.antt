@@ -1,5 +1,5 @@
--- `book_read_values::firsts_of` meets its contract. The invariant: the classes before k are the chains'. The measure is the
--- number of chains left.
+-- `book_read_values::firsts_of` meets its contract. The invariant: the classes before k are the chains'. The measure is
+-- the number of chains left.
 -- Assumes nothing.
 use mathlib.Core.Path.{_≡_, refl, ap, _∙_}
 use Prim.Native.Nat.{_-_, _≤_, _<_}

@@ -1,5 +1,5 @@
--- `book_sizes::check_lengths` meets its contract: the four list buffers and the byte buffer, one after the other. Assumes
--- nothing.
+-- `book_sizes::check_lengths` meets its contract: the four list buffers and the byte buffer, one after the other.
+-- Assumes nothing.
 use borrow.Author.Needs.{needs}
 use Rattle.book_contents.specs.Limits.{checkLengths}
 use Rattle.book_sizes.proofs.check_lengths.Statement.{statement}

@@ -1,5 +1,5 @@
--- `book_sizes::total` meets its contract. The invariant: the sum is that of the chains before k. The measure is the number
--- of chains left. Assumes nothing.
+-- `book_sizes::total` meets its contract. The invariant: the sum is that of the chains before k. The measure is the
+-- number of chains left. Assumes nothing.
 use mathlib.Core.Path.{_≡_, refl}
 use Prim.Native.Nat.{_-_, _*_, _≤_}
 use native.Mathlib.Numerals.{add-one}

@@ -1,4 +1,5 @@
--- `book_write_header::head_for` meets its contract: none for an empty chain, else the number after those before. Assumes nothing.
+-- `book_write_header::head_for` meets its contract: none for an empty chain, else the number after those before.
+-- Assumes nothing.
 use native.Mathlib.Omega.{arith}
 use borrow.Author.Needs.{needs}
 use borrow.Author.Tests.{eq-eqb, ne-eqb}

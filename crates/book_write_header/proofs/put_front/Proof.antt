@@ -14,11 +14,13 @@ returns c =
     let p3 = p4 .before .before .before .before in
     let p2 = p3 .before .before .before .before in
     let p1 = p2 .before .before .before .before in
-    let whole = p1 .put-byte .ensures then p2 .put-byte2 .ensures then p3 .put-two .ensures .0 then p4 .put-two2 .ensures .0
+    let whole = p1 .put-byte .ensures then p2 .put-byte2 .ensures then p3 .put-two .ensures .0 then p4 .put-two2
+    .ensures .0
     then p5 .put-byte3 .ensures then p6 .put-byte4 .ensures in
     (whole, whole .place)
 
 pub put-front-spec : {M : Type 1} → statement M
 put-front-spec =
-    tie.close (tie.spec (search needs) (search needs) (search needs) (search needs) (search needs) (search needs) (search needs)
+    tie.close (tie.spec (search needs) (search needs) (search needs) (search needs) (search needs) (search needs)
+    (search needs)
     (search needs) (search needs) (search needs) returns)

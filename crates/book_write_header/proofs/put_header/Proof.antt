@@ -18,7 +18,7 @@ curve-length a = search needs
 mortality-length : (a : tie.Start) → length (a .args .values .mortality) ≡ 242
 mortality-length a = search needs
 
--- the function's entry, from where the front is written; and from part to part
+-- the function's entry, from where the first part is written; and from part to part
 abbrev entry : tie.After-put-front → tie.Start
 entry p = p .before .before .before .before .before .before .before .before .before
 

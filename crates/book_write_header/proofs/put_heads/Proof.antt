@@ -1,5 +1,5 @@
--- `book_write_header::put_heads` meets its contract. The invariant: the heads before k are written, and the sum is that of the
--- chains before k.
+-- `book_write_header::put_heads` meets its contract. The invariant: the heads before k are written, and the sum is that
+-- of the chains before k.
 -- The measure is the number of chains left. Assumes nothing.
 use mathlib.Core.Path.{_≡_, refl}
 use mathlib.Core.List.{[]}

@@ -1,5 +1,5 @@
--- `book_write_records::put_chain` meets its contract. The invariant: the records of the entries before j are written. The measure
--- is how many are left.
+-- `book_write_records::put_chain` meets its contract. The invariant: the records of the entries before j are written.
+-- The measure is how many are left.
 -- Assumes nothing.
 use mathlib.Core.Path.{_≡_}
 use mathlib.Core.List.{List, []}
@@ -17,7 +17,8 @@ use Rattle.book_write_records.proofs.put_chain.Tie as tie
 -- Of the header, a record takes the first classes alone.
 abbrev values : List ℕ → List ℕ → List ℕ → List ℕ → List ℕ → Contents
 values first counts lapses premiums claims =
-    given (record { edition = 0; men = 0; women = 0; year = 0; cost = []; curve = []; mortality = []; first = first }) counts lapses premiums claims
+    given (record { edition = 0; men = 0; women = 0; year = 0; cost = []; curve = []; mortality = []; first = first })
+    counts lapses premiums claims
 
 abbrev Inv-loop : tie.InvT-loop
 Inv-loop out₀ at k sum counts lapses premiums claims first class size next₀ j₀ out next j =
@@ -70,10 +71,12 @@ shared-slice-read-put-record-2 c = let k = capacity (c .before .before .before .
     omega (arith, k .lapses)
 
 mul-put-record-3 : tie.Need-mul-put-record-3 Inv-loop μ-loop
-mul-put-record-3 c = let k = capacity (c .before .before .before .before .before .before .before) in omega (arith, k .few)
+mul-put-record-3 c =
+    let k = capacity (c .before .before .before .before .before .before .before) in omega (arith, k .few)
 
 shared-slice-read-put-record-3 : tie.Need-shared-slice-read-put-record-3 Inv-loop μ-loop
-shared-slice-read-put-record-3 c = let k = capacity (c .before .before .before .before .before .before .before .before) in
+shared-slice-read-put-record-3 c =
+    let k = capacity (c .before .before .before .before .before .before .before .before) in
     omega (arith, k .premiums)
 
 mul-put-record-4 : tie.Need-mul-put-record-4 Inv-loop μ-loop
@@ -82,7 +85,8 @@ mul-put-record-4 c = let k = capacity (c .before .before .before .before .before
 
 shared-slice-read-put-record-4 : tie.Need-shared-slice-read-put-record-4 Inv-loop μ-loop
 shared-slice-read-put-record-4 c =
-    let k = capacity (c .before .before .before .before .before .before .before .before .before) in omega (arith, k .claims)
+    let k = capacity (c .before .before .before .before .before .before .before .before .before) in omega
+    (arith, k .claims)
 
 put-record-requires : tie.Need-put-record-requires Inv-loop μ-loop
 put-record-requires c κs =

@@ -1,5 +1,5 @@
--- `book_write_records::put_chains` meets its contract. The invariant: the chains before k are written, and the sum is that of
--- their lists.
+-- `book_write_records::put_chains` meets its contract. The invariant: the chains before k are written, and the sum is
+-- that of their lists.
 -- The measure is the number of chains left. Assumes nothing.
 use mathlib.Core.Path.{_≡_, refl}
 use mathlib.Core.List.{[]}

@@ -1,4 +1,5 @@
--- `buffer::put_number` meets its contract: all but the last digit, and then that. The measure is the number. Assumes nothing.
+-- `buffer::put_number` meets its contract: all but the last digit, and then that. The measure is the number. Assumes
+-- nothing.
 use Prim.Native.Nat.{ℕ, _<_, _+_}
 use native.Mathlib.Omega.{arith}
 use borrow.Author.Needs.{needs}
@@ -40,7 +41,8 @@ pub +put-number-spec : {M : Type 1} → statement M
     (search needs)
     (λ c.
     let a = c .before .before .before .before .before .before .before in
-    let w = one-digit (a .args .n) (c .before .before .before .digit .result) (omega arith) (c .before .before .before .digit .ensures) (c .before .before .put-byte .ensures) in
+    let w = one-digit (a .args .n) (c .before .before .before .digit .result) (omega arith)
+    (c .before .before .before .digit .ensures) (c .before .before .put-byte .ensures) in
     (w, omega (arith, w .place, number-most (a .args .n) (a .fits .n .fits))))
     (search needs)
     (search needs)
@@ -49,5 +51,8 @@ pub +put-number-spec : {M : Type 1} → statement M
     (λ c.
     let a = c .before .before .before .before .before .before .before .before .before .before .before in
     let w =
-    more-digits (a .args .n) (c .before .before .before .digit2 .result) (omega arith) (c .before .before .before .digit2 .ensures) (c .before .before .before .before .before .before .before .put-number .ensures .0) (c .before .before .put-byte2 .ensures) in
+    more-digits (a .args .n) (c .before .before .before .digit2 .result) (omega arith)
+    (c .before .before .before .digit2 .ensures)
+    (c .before .before .before .before .before .before .before .put-number .ensures .0)
+    (c .before .before .put-byte2 .ensures) in
     (w, omega (arith, w .place, number-most (a .args .n) (a .fits .n .fits))))

@@ -26,7 +26,11 @@ returns c =
 cast-put-number : tie.Need-cast-put-number
 cast-put-number c =
     let a = c .before .before .before in
-    rw (toZ-ofZ w64 (a .args .v) (a .fits .v)) (yes-nonNeg (is-other (a .args .v) (a .fits .v) (c .before .if1 .left)), omega (arith, size-most (a .args .v) (a .fits .v)))
+    rw (toZ-ofZ w64 (a .args .v) (a .fits .v)) (
+      yes-nonNeg (is-other (a .args .v) (a .fits .v) (c .before .if1 .left)),
+      omega
+          (arith, size-most (a .args .v) (a .fits .v)),
+    )
 
 returns-2 : tie.Need-returns-2
 returns-2 c =
@@ -38,4 +42,5 @@ returns-2 c =
 pub put-signed-spec : {M : Type 1} → statement M
 put-signed-spec =
     tie.close
-    (tie.spec (search needs) size-below-requires (search needs) (search needs) returns cast-put-number (search needs) (search needs) returns-2)
+    (tie.spec (search needs) size-below-requires (search needs) (search needs) returns cast-put-number (search needs)
+    (search needs) returns-2)

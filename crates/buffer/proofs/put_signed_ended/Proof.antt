@@ -12,8 +12,11 @@ unfolding signedEnded
 returns c =
     let w1 = c .before .before in
     let w2 = w1 .before .before .before .before in
-    let a = w2 .before .before .before in
-    (rw (toZ-ofZ w64 (a .args .v) (a .fits .v)) at (w2 .put-signed .ensures .0) then w1 .put-byte .ensures, search needs)
+    let a = w2 .before .before .before in (
+      rw (toZ-ofZ w64 (a .args .v) (a .fits .v)) at (w2 .put-signed .ensures .0) then w1 .put-byte .ensures,
+      search
+          needs,
+    )
 
 pub put-signed-ended-spec : {M : Type 1} → statement M
 put-signed-ended-spec = tie.close (tie.spec (search needs) (search needs) (search needs) returns)

@@ -1,4 +1,5 @@
--- `c_api::xaropinto_funds` meets its contract: the fields are those of both verdicts, and the numbers are as the call left them. Assumes nothing.
+-- `c_api::xaropinto_funds` meets its contract: the fields are those of both verdicts, and the numbers are as the call
+-- left them. Assumes nothing.
 use borrow.Author.Needs.{needs}
 use Rattle.c_api.proofs.xaropinto_funds.Statement.{statement}
 use Rattle.c_api.proofs.xaropinto_funds.Tie as tie

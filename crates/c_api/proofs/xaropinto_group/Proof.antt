@@ -1,4 +1,5 @@
--- `c_api::xaropinto_group` meets its contract: the fields are those of the reply, and the table is as Group left it. Assumes nothing.
+-- `c_api::xaropinto_group` meets its contract: the fields are those of the reply, and the table is as Group left it.
+-- Assumes nothing.
 use borrow.Author.Needs.{needs}
 use Rattle.c_api.proofs.xaropinto_group.Statement.{statement}
 use Rattle.c_api.proofs.xaropinto_group.Tie as tie

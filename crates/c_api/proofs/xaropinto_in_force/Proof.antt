@@ -1,4 +1,5 @@
--- `c_api::xaropinto_in_force` meets its contract: the fields are those of the reply, and the numbers are as the call left them. Assumes nothing.
+-- `c_api::xaropinto_in_force` meets its contract: the fields are those of the reply, and the numbers are as the call
+-- left them. Assumes nothing.
 use borrow.Author.Needs.{needs}
 use Rattle.c_api.proofs.xaropinto_in_force.Statement.{statement}
 use Rattle.c_api.proofs.xaropinto_in_force.Tie as tie

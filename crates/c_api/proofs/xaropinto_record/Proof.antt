@@ -1,4 +1,4 @@
--- `c_api::xaropinto_record` meets its contract: the looker's answer, handed on. Assumes nothing.
+-- `c_api::xaropinto_record` meets its contract: the record view's answer, passed on. Assumes nothing.
 use borrow.Author.Needs.{needs}
 use Rattle.c_api.proofs.xaropinto_record.Statement.{statement}
 use Rattle.c_api.proofs.xaropinto_record.Tie as tie

@@ -1,4 +1,4 @@
--- `c_api::xaropinto_totals` meets its contract: Totals' answer of this same book, handed on. Assumes nothing.
+-- `c_api::xaropinto_totals` meets its contract: Totals' answer of this same book, passed on. Assumes nothing.
 -- Written out, so that the answer of other bytes is refused here and not after a long search.
 use borrow.Author.Needs.{needs}
 use Rattle.c_api.proofs.xaropinto_totals.Statement.{statement}

@@ -10,7 +10,7 @@ use Rattle.c_api_fields.proofs.group_fields.Tie as tie
 returns : tie.Need-returns
 returns c =
     rw (toZ-ofZ w64 (c .before .reply .given .0 .0) (record { sfits = c .known-told .given .0 .1 }))
-        (ap groupFields (sym (c .before .reply .given .1)))
+    (ap groupFields (sym (c .before .reply .given .1)))
 
 returns-2 : tie.Need-returns-2
 returns-2 c = rw (c .before .reply2 .given .1)

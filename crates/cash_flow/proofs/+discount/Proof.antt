@@ -1,4 +1,5 @@
--- `cash_flow::discount` meets its contract: each call is one step on the amounts discounted for one year less. The measure is the number of years.
+-- `cash_flow::discount` meets its contract: each call is one step on the amounts discounted for one year less. The
+-- measure is the number of years.
 -- Assumes nothing.
 use native.Mathlib.Omega.{arith}
 use lib.ListN.{getD}
@@ -74,10 +75,14 @@ discount-returns-2 t c =
     let a = m .before .before .before .before in
     let e = m .discount .ensures in
     let s = c .step-years .ensures in
-    let low : (k : ℕ) → k < a .args .to → 990000 ≤ getD (a .args .divisors .now) k 0 = λ k h. a .pre .1 .2 k (omega arith) .low in
+    let low : (k : ℕ) → k < a .args .to → 990000 ≤ getD (a .args .divisors .now) k 0 =
+    λ k h. a .pre .1 .2 k (omega arith) .low in
     let some : 0 < a .args .j = omega arith in
-    let lt : a .args .j < a .args .to = omega arith in
-    (in-more _ _ _ _ _ _ some lt (a .pre .1 .1) low (e .0) (s .0), in-more _ _ _ _ _ _ some lt (a .pre .1 .1) low (e .1) (s .1))
+    let lt : a .args .j < a .args .to = omega arith in (
+      in-more _ _ _ _ _ _ some lt (a .pre .1 .1) low (e .0) (s .0),
+      in-more _ _ _ _ _ _ some lt (a .pre .1 .1) low (e .1)
+          (s .1),
+    )
 
 pub +discount-spec : {M : Type 1} → statement M
 +discount-spec = close μ-discount λ t. discount-lts.spec (

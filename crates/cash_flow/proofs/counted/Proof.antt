@@ -1,4 +1,5 @@
--- `cash_flow::counted` meets its contract: before the sixth year the premium, then the lesser of it and the cap. Assumes nothing.
+-- `cash_flow::counted` meets its contract: before the sixth year the premium, then the lesser of it and the cap.
+-- Assumes nothing.
 use native.Mathlib.Omega.{arith}
 use borrow.Author.Tests.{le-leb, lt-leb}
 use Rattle.valuation.specs.Steps.{cappedIf, capped}

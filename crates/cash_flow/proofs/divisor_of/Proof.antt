@@ -1,4 +1,5 @@
--- `cash_flow::divisor_of` meets its contract: a million more than the rate that was read, in its range. Assumes nothing.
+-- `cash_flow::divisor_of` meets its contract: a million more than the rate that was read, in its range. Assumes
+-- nothing.
 use native.Mathlib.Omega.{arith}
 use borrow.Author.Tests.{eq-eqb, ne-eqb}
 use Rattle.valuation.specs.Portfolio.{divisorOf}

@@ -1,4 +1,5 @@
--- `cash_flow::fraction_of` meets its contract: what is whole of the fraction, and what is left rounded down. Assumes nothing.
+-- `cash_flow::fraction_of` meets its contract: what is whole of the fraction, and what is left rounded down. Assumes
+-- nothing.
 use Prim.Native.Nat.{_*_, _/_, _%_, _≤_, _<_}
 use native.Mathlib.Nat.{div-add-mod', div-mul-le-self, lt-div-mul-add, div-le-of-le-mul, div-le-self, mod-lt}
 use native.Mathlib.Omega.{arith}

@@ -1,4 +1,5 @@
--- `cash_flow::less` meets its contract: both numbers are in the lower half of 64 bits, and so is their difference. Assumes nothing.
+-- `cash_flow::less` meets its contract: both numbers are in the lower half of 64 bits, and so is their difference.
+-- Assumes nothing.
 use mathlib.Core.Path.{_≡_}
 use native.Mathlib.Nat.{lt-of-le-of-lt}
 use native.Mathlib.Omega.{arith}
@@ -17,7 +18,9 @@ is-pos : (c : tie.Start) → (toZ w64 (c .args .a) ≡ pos (c .args .a)) × (toZ
 is-pos c = (toZ-pos w64 (c .args .a) (omega arith), toZ-pos w64 (c .args .b) (omega arith))
 
 fits : (c : tie.Start) → SFits w64 (pos (c .args .a) -ℤ pos (c .args .b))
-fits c = record { sfits = lt-of-le-of-lt (less-mag (c .args .a) (c .args .b) 1000000000000000000 (c .pre .0) (c .pre .1)) (lit< tt) }
+fits c = record {
+  sfits = lt-of-le-of-lt (less-mag (c .args .a) (c .args .b) 1000000000000000000 (c .pre .0) (c .pre .1)) (lit< tt);
+}
 
 sub-result : tie.Need-sub-result
 sub-result c = rw (is-pos c .0, is-pos c .1) (fits c)

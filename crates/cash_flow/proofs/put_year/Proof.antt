@@ -17,10 +17,13 @@ slice-write-table-4 : tie.Need-slice-write-table-4
 slice-write-table-4 c = simp length-set (omega arith)
 
 returns : tie.Need-returns
-returns c = let y = c .args .y in four-stores (c .args .table .now) (4 * c .args .k) (y .premium) (y .outgo) (y .«discounted_premium») (y .«discounted_outgo») (omega arith)
+returns c = let y =
+    c .args .y in four-stores (c .args .table .now) (4 * c .args .k) (y .premium) (y .outgo) (y .«discounted_premium»)
+    (y .«discounted_outgo») (omega arith)
 
 pub put-year-spec : {M : Type 1} → statement M
 put-year-spec =
     tie.close
-    (tie.spec (search needs) (search needs) (search needs) (search needs) (search needs) slice-write-table-2 (search needs)
+    (tie.spec (search needs) (search needs) (search needs) (search needs) (search needs) slice-write-table-2
+    (search needs)
     (search needs) slice-write-table-3 (search needs) (search needs) slice-write-table-4 (search needs) returns)

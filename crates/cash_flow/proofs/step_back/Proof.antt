@@ -12,7 +12,8 @@ returns c =
     (rw (e .0) (halved (a .x) (a .d)), rw (e .1) (halved (a .y) (a .d)))
 
 two-parts-requires : tie.Need-two-parts-requires
-two-parts-requires c κs = (omega arith, omega arith, omega arith, omega arith, c .pre .2 .fraction-is, c .pre .2 .fraction-is)
+two-parts-requires c κs =
+    (omega arith, omega arith, omega arith, omega arith, c .pre .2 .fraction-is, c .pre .2 .fraction-is)
 
 pub step-back-spec : {M : Type 1} → statement M
 step-back-spec = tie.close (tie.spec (search needs) (search needs) (search needs) two-parts-requires returns)

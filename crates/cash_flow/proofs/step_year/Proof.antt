@@ -7,7 +7,8 @@ use Rattle.cash_flow.proofs.step_year.Statement.{statement}
 use Rattle.cash_flow.proofs.step_year.Tie as tie
 
 step-back-requires : tie.Need-step-back-requires
-step-back-requires c κs = let a = c .before .before .before .before in (omega arith, omega arith, a .pre .3 _ (omega arith))
+step-back-requires c κs =
+    let a = c .before .before .before .before in (omega arith, omega arith, a .pre .3 _ (omega arith))
 
 returns : tie.Need-returns
 returns c =
@@ -18,5 +19,6 @@ returns c =
 pub step-year-spec : {M : Type 1} → statement M
 step-year-spec =
     tie.close
-    (tie.spec (search needs) (search needs) (search needs) (search needs) (search needs) (search needs) (search needs) (search needs) step-back-requires
+    (tie.spec (search needs) (search needs) (search needs) (search needs) (search needs) (search needs) (search needs)
+    (search needs) step-back-requires
     (search needs) (search needs) (search needs) (search needs) returns)

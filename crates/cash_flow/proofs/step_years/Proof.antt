@@ -1,5 +1,6 @@
--- `cash_flow::step_years` meets its contract: two years a turn, then the one that is left where their number is odd. The invariant: the years
--- from `from` to before k have gone a year back. The measure is the number of years left. Assumes nothing.
+-- `cash_flow::step_years` meets its contract: two years a turn, then the one that is left where their number is odd.
+-- The invariant: the years from `from` to before k have gone a year back. The measure is the number of years left.
+-- Assumes nothing.
 use mathlib.Core.Path.{_≡_}
 use Prim.Native.Nat.{_+_, _-_, _≤_}
 use native.Mathlib.Omega.{arith}
@@ -80,5 +81,6 @@ returns-2 c =
 
 pub step-years-spec : {M : Type 1} → statement M
 step-years-spec = tie.close
-    (tie.spec Inv-loop μ-loop loop-holds (search needs) step-year-requires (search needs) step-year-requires-2 (search needs)
+    (tie.spec Inv-loop μ-loop loop-holds (search needs) step-year-requires (search needs) step-year-requires-2
+    (search needs)
     (search needs) loop-again step-year-requires-3 returns returns-2)

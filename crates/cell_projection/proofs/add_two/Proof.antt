@@ -1,4 +1,5 @@
--- `cell_projection::add_two` meets its contract: two additions, of which neither reaches the other's number. Assumes nothing.
+-- `cell_projection::add_two` meets its contract: two additions, of which neither reaches the other's number. Assumes
+-- nothing.
 use mathlib.Core.Path.{refl}
 use native.Mathlib.Omega.{arith}
 use borrow.Author.Needs.{needs}
@@ -11,11 +12,15 @@ add-at-requires c κs = let a = c .before in (omega (arith, a .pre .0), omega (a
 
 add-at-requires-2 : tie.Need-add-at-requires-2
 add-at-requires-2 c κs =
-    let a = c .before .before .before in
-    (omega (arith, a .pre .0), capacity (a .args .sums .now) _ (a .args .j) _ (a .args .x) _ (c .before .add-at .ensures) (λ q. omega (arith, q)) (a .pre .3) (a .pre .2))
+    let a = c .before .before .before in (
+      omega (arith, a .pre .0),
+      capacity (a .args .sums .now) _ (a .args .j) _ (a .args .x) _
+          (c .before .add-at .ensures) (λ q. omega (arith, q)) (a .pre .3) (a .pre .2),
+    )
 
 returns : tie.Need-returns
 returns c = both _ _ _ _ _ _ _ _ (c .before .before .add-at .ensures) (c .add-at2 .ensures) refl refl
 
 pub add-two-spec : {M : Type 1} → statement M
-add-two-spec = tie.close (tie.spec add-at-requires (λ c. omega (arith, c .before .before .before .pre .0)) add-at-requires-2 returns)
+add-two-spec = tie.close
+    (tie.spec add-at-requires (λ c. omega (arith, c .before .before .before .pre .0)) add-at-requires-2 returns)

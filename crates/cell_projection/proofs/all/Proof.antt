@@ -8,7 +8,8 @@ returns : tie.Need-returns
 returns c = λ e. record { mortality-up = c .before .if1 .taken; lapse-up = ltb-true 0 _ e }
 
 returns-2 : tie.Need-returns-2
-returns-2 c e = absurd (omega (arith, ltb-true 0 (c .before .before .args .cells .«mortality_up» .inforce) e, c .if1 .left))
+returns-2 c e =
+    absurd (omega (arith, ltb-true 0 (c .before .before .args .cells .«mortality_up» .inforce) e, c .if1 .left))
 
 pub all-spec : {M : Type 1} → statement M
 all-spec = tie.close (tie.spec returns returns-2)

@@ -8,8 +8,16 @@ use Rattle.cell_projection.proofs.project_in.Tie as tie
 
 alone-requires : tie.Need-alone-requires
 alone-requires c κs =
-    let a = c .before .before in
-    (a .pre .0, a .pre .1, omega arith, record { state = c .before .new .ensures ∙ sym (state-start _ _ _ _); going = going-start _ }, λ j. omega (arith, a .pre .2 j), a .pre .3)
+    let a = c .before .before in (
+      a .pre .0,
+      a .pre .1,
+      omega arith,
+      record
+          { state = c .before .new .ensures ∙ sym (state-start _ _ _ _); going = going-start _ },
+      λ j. omega
+          (arith, a .pre .2 j),
+      a .pre .3,
+    )
 
 pub project-in-spec : {M : Type 1} → statement M
 project-in-spec = tie.close (tie.spec (λ c κs. c .pre .0 .few) alone-requires (λ c. c .alone .ensures))

@@ -1,4 +1,5 @@
--- `cell_projection::side_by_side` meets its contract: year 0, the first five years, and the later ones where all have something in force. Assumes nothing.
+-- `cell_projection::side_by_side` meets its contract: year 0, the first five years, and the later ones where all have
+-- something in force. Assumes nothing.
 use mathlib.Core.Path.{_≡_, refl}
 use native.Mathlib.Omega.{arith}
 use Rattle.cell_projection.specs.Projected.{ProjectedTo}
@@ -8,7 +9,13 @@ use Rattle.cell_projection.proofs.side_by_side.Statement.{statement}
 use Rattle.cell_projection.proofs.side_by_side.Tie as tie
 
 returns : tie.Need-returns
-returns c = record { sums = late-start _ _ _; since = omega arith; most = omega arith; reached = reached-start _ _ _ _ (c .before .new .ensures) }
+returns c = record {
+  sums = late-start _ _ _;
+  since = omega arith;
+  most = omega arith;
+  reached = reached-start _ _ _ _
+      (c .before .new .ensures);
+}
 
 year-0-requires : tie.Need-year-0-requires
 year-0-requires c κs = c .before .before .before .pre
@@ -20,20 +27,29 @@ Begun m =
     Run (a .rows .now) (a .own) (a .count) 0 1 (m .year-0 .result) (a .sums .now) (m .year-0 .last .1 .1 .1 .1 .0)
 
 begun : (m : tie.After-year-0) → Begun m
-begun m = first-run _ _ _ (omega (arith, m .before .before .if1 .left)) _ _ _ (m .year-0 .ensures .0) (m .year-0 .ensures .1)
+begun m = first-run _ _ _ (omega (arith, m .before .before .if1 .left)) _ _ _ (m .year-0 .ensures .0)
+    (m .year-0 .ensures .1)
 
 together-requires : tie.Need-together-requires
 together-requires c κs =
     let m = c .before in
     let a = m .before .before .before .before in
-    let run = begun m in
-    (a .pre .0, omega arith, omega arith, run .2, λ j. omega (arith, run-capacity _ _ _ _ _ _ _ _ run (a .pre .0) 2000000000000000 (a .pre .1) j), a .pre .2)
+    let run = begun m in (
+      a .pre .0,
+      omega arith,
+      omega arith,
+      run .2,
+      λ j. omega
+          (arith, run-capacity _ _ _ _ _ _ _ _ run (a .pre .0) 2000000000000000 (a .pre .1) j),
+      a .pre .2,
+    )
 
 -- the first five years, as far as all have something in force
 abbrev Early : tie.After-together → Type 0
 Early m =
     let a = m .before .before .before .before .before .before .args in
-    ProjectedTo (a .rows .now) (a .own) (a .count) 0 5 (m .together .result) (a .sums .now) (m .together .last .1 .1 .1 .1 .1 .1 .1 .0)
+    ProjectedTo (a .rows .now) (a .own) (a .count) 0 5 (m .together .result) (a .sums .now)
+    (m .together .last .1 .1 .1 .1 .1 .1 .1 .0)
 
 early : (m : tie.After-together) → Early m
 early m = run-then _ _ _ 1 5 _ _ _ _ _ (begun (m .before .before)) (m .together .ensures)
@@ -48,7 +64,11 @@ together-requires-2 c κs =
       omega arith,
       omega arith,
       rw five at (w .reached),
-      λ j. omega (arith, run-capacity _ _ _ 0 _ _ _ _ (w .since, omega (arith, w .most), w .reached, w .sums) (a .pre .0) 2000000000000000 (a .pre .1) j),
+      λ j. omega (
+        arith,
+        run-capacity _ _ _ 0 _ _ _ _ (w .since, omega (arith, w .most), w .reached, w .sums)
+            (a .pre .0) 2000000000000000 (a .pre .1) j,
+      ),
       a .pre .2,
     )
 
@@ -56,7 +76,8 @@ returns-2 : tie.Need-returns-2
 returns-2 c =
     let w = early (c .before .before .before .before) in
     let five = c .before .before .if2 .taken in
-    run-then _ _ _ 5 50 _ _ _ _ _ (omega arith, omega arith, rw five at (w .reached), rw five at (w .sums)) (c .together2 .ensures)
+    run-then _ _ _ 5 50 _ _ _ _ _ (omega arith, omega arith, rw five at (w .reached), rw five at (w .sums))
+    (c .together2 .ensures)
 
 returns-3 : tie.Need-returns-3
 returns-3 c =
@@ -65,4 +86,5 @@ returns-3 c =
 
 pub side-by-side-spec : {M : Type 1} → statement M
 side-by-side-spec = tie.close
-    (tie.spec (λ c κs. c .pre .0 .few) returns year-0-requires together-requires together-requires-2 returns-2 returns-3)
+    (tie.spec (λ c κs. c .pre .0 .few) returns year-0-requires together-requires together-requires-2 returns-2
+    returns-3)

@@ -1,4 +1,5 @@
--- `cell_projection::together` meets its contract. The invariant is `Run`; the measure is the number of years left. Assumes nothing.
+-- `cell_projection::together` meets its contract. The invariant is `Run`; the measure is the number of years left.
+-- Assumes nothing.
 use mathlib.Core.Path.{_≡_, refl}
 use Prim.Native.Nat.{ℕ, _-_, _≤_, _<_}
 use native.Mathlib.Omega.{arith}
@@ -9,7 +10,8 @@ use Rattle.cell_projection.proofs.together.Statement.{statement}
 use Rattle.cell_projection.proofs.together.Tie as tie
 
 abbrev Inv-loop : tie.InvT-loop
-Inv-loop rows own count columns from to sums₀ cells₀ k₀ sums cells k = (k ≤ to) × Run rows own count from k cells sums₀ sums
+Inv-loop rows own count columns from to sums₀ cells₀ k₀ sums cells k =
+    (k ≤ to) × Run rows own count from k cells sums₀ sums
 
 abbrev μ-loop : tie.MeasureT-loop
 μ-loop rows own count columns from to sums₀ cells₀ k₀ sums cells k = to - k
@@ -22,15 +24,23 @@ year-requires c κs =
     let m = c .before .before .before .before in
     let a = m .before in
     let run = m .loop .inv .1 in
-    let year : m .loop .k < 50 = omega (arith, c .before .before .before .loop-test .taken, a .pre .2) in
-    (run-ready _ _ _ _ _ _ _ _ run (a .pre .0) year, year, λ j. omega (arith, run-capacity _ _ _ _ _ _ _ _ run (a .pre .0) 2500000000000000 (a .pre .4) j), a .pre .5)
+    let year : m .loop .k < 50 = omega (arith, c .before .before .before .loop-test .taken, a .pre .2) in (
+      run-ready _ _ _ _ _ _ _ _ run (a .pre .0) year,
+      year,
+      λ j. omega
+          (arith, run-capacity _ _ _ _ _ _ _ _ run (a .pre .0) 2500000000000000 (a .pre .4) j),
+      a .pre .5,
+    )
 
 loop-again : tie.Need-loop-again Inv-loop μ-loop
 loop-again c =
     let m = c .before .before .before .before .before in
     let year = c .before .before .before .before .loop-test .taken in (
       omega (arith, year),
-      run-more _ _ _ _ _ _ _ _ (m .loop .inv .1) (omega (arith, year, m .before .pre .2)) (all-in-force _ _ _ (m .before .pre .0) _ (omega (arith, m .loop .inv .1 .1)) _ (m .loop .inv .1 .2 .states) (c .before .before .before .all .ensures (c .before .before .if1 .taken))) _ _ (c .year .ensures .0) (c .year .ensures .1),
+      run-more _ _ _ _ _ _ _ _ (m .loop .inv .1) (omega (arith, year, m .before .pre .2))
+          (all-in-force _ _ _ (m .before .pre .0) _ (omega (arith, m .loop .inv .1 .1)) _ (m .loop .inv .1 .2 .states)
+          (c .before .before .before .all .ensures (c .before .before .if1 .taken))) _ _ (c .year .ensures .0)
+          (c .year .ensures .1),
     )
 
 returns : tie.Need-returns Inv-loop μ-loop
@@ -45,4 +55,6 @@ returns-2 c =
 
 pub together-spec : {M : Type 1} → statement M
 together-spec = tie.close
-    (tie.spec Inv-loop μ-loop loop-holds (λ c κs. tt) year-requires (λ c. omega (arith, c .before .before .before .before .loop-test .taken)) (λ c. omega (arith, c .before .before .before .before .loop-test .taken)) loop-again returns returns-2)
+    (tie.spec Inv-loop μ-loop loop-holds (λ c κs. tt) year-requires
+    (λ c. omega (arith, c .before .before .before .before .loop-test .taken))
+    (λ c. omega (arith, c .before .before .before .before .loop-test .taken)) loop-again returns returns-2)

@@ -17,53 +17,121 @@ use Rattle.cell_projection.proofs.year.Statement.{statement}
 use Rattle.cell_projection.proofs.year.Tie as tie
 
 -- how much a year of one projection adds at most
-more : (t : List ℕ) (setting k m : ℕ) (c : Cell) (u v : List ℕ) → Ready t c → AtMost m u → v ≡ yearMore t setting k c u → AtMost (m + 1000000000000) v
-more t setting k m c u v r a e j = omega (arith, ap (λ (l : List ℕ). getD l j 0) e, two-most u (10 * k + 2 * setting) _ _ m 1000000000000 a (premium-in-le t c r) (claims-in-le t c r) j)
+more : (t : List ℕ) (setting k m : ℕ) (c : Cell) (u v : List ℕ) → Ready t c → AtMost m u → v ≡ yearMore t setting k c u
+    → AtMost (m + 1000000000000) v
+more t setting k m c u v r a e j =
+    omega (
+      arith,
+      ap (λ (l : List ℕ). getD l j 0) e,
+      two-most u (10 * k + 2 * setting) _ _ m 1000000000000 a
+          (premium-in-le t c r) (claims-in-le t c r) j,
+    )
 
 -- the table after each of the first four
 after : (m : tie.After-one-year) → AtMost 3001000000000000 (m .one-year .last .1 .1 .1 .1 .1 .0)
 after m = let a = m .before .before in more _ 0 _ _ _ _ _ (a .pre .0 .base) (a .pre .2) (m .one-year .ensures .1)
 
 after-2 : (m : tie.After-one-year2) → AtMost 3002000000000000 (m .one-year2 .last .1 .1 .1 .1 .1 .0)
-after-2 m = let a = m .before .before .before .before in more _ 1 _ _ _ _ _ (a .pre .0 .mortality-up) (after (m .before .before)) (m .one-year2 .ensures .1)
+after-2 m = let a =
+    m .before .before .before .before in more _ 1 _ _ _ _ _ (a .pre .0 .mortality-up) (after (m .before .before))
+    (m .one-year2 .ensures .1)
 
 after-3 : (m : tie.After-one-year3) → AtMost 3003000000000000 (m .one-year3 .last .1 .1 .1 .1 .1 .0)
-after-3 m = let a = m .before .before .before .before .before .before in more _ 2 _ _ _ _ _ (a .pre .0 .mortality-down) (after-2 (m .before .before)) (m .one-year3 .ensures .1)
+after-3 m = let a =
+    m .before .before .before .before .before .before in more _ 2 _ _ _ _ _ (a .pre .0 .mortality-down)
+    (after-2 (m .before .before)) (m .one-year3 .ensures .1)
 
 after-4 : (m : tie.After-one-year4) → AtMost 3004000000000000 (m .one-year4 .last .1 .1 .1 .1 .1 .0)
-after-4 m = let a = m .before .before .before .before .before .before .before .before in more _ 3 _ _ _ _ _ (a .pre .0 .lapse-up) (after-3 (m .before .before)) (m .one-year4 .ensures .1)
+after-4 m = let a =
+    m .before .before .before .before .before .before .before .before in more _ 3 _ _ _ _ _ (a .pre .0 .lapse-up)
+    (after-3 (m .before .before)) (m .one-year4 .ensures .1)
 
 one-year-requires : tie.Need-one-year-requires
 unfolding fiveColumns
-one-year-requires c κs = let a = c .before in (a .pre .0 .base, omega arith, a .pre .1, λ j. omega (arith, a .pre .2 j), ap (λ (x : FiveColumns). x .base) (a .pre .3))
+one-year-requires c κs =
+    let a = c .before in (
+      a .pre .0 .base,
+      omega arith,
+      a .pre .1,
+      λ j. omega (arith, a .pre .2 j),
+      ap (λ (x : FiveColumns). x .base)
+          (a .pre .3),
+    )
 
 one-year-requires-2 : tie.Need-one-year-requires-2
 unfolding fiveColumns
-one-year-requires-2 c κs = let a = c .before .before .before in (a .pre .0 .mortality-up, omega arith, a .pre .1, λ j. omega (arith, after (c .before) j), ap (λ (x : FiveColumns). x .«mortality_up») (a .pre .3))
+one-year-requires-2 c κs =
+    let a = c .before .before .before in (
+      a .pre .0 .mortality-up,
+      omega arith,
+      a .pre .1,
+      λ j. omega (arith, after (c .before) j),
+      ap
+          (λ (x : FiveColumns). x .«mortality_up») (a .pre .3),
+    )
 
 one-year-requires-3 : tie.Need-one-year-requires-3
 unfolding fiveColumns
-one-year-requires-3 c κs = let a = c .before .before .before .before .before in (a .pre .0 .mortality-down, omega arith, a .pre .1, λ j. omega (arith, after-2 (c .before) j), ap (λ (x : FiveColumns). x .«mortality_down») (a .pre .3))
+one-year-requires-3 c κs =
+    let a = c .before .before .before .before .before in (
+      a .pre .0 .mortality-down,
+      omega arith,
+      a .pre .1,
+      λ j. omega (arith, after-2 (c .before) j),
+      ap
+          (λ (x : FiveColumns). x .«mortality_down») (a .pre .3),
+    )
 
 one-year-requires-4 : tie.Need-one-year-requires-4
 unfolding fiveColumns
-one-year-requires-4 c κs = let a = c .before .before .before .before .before .before .before in (a .pre .0 .lapse-up, omega arith, a .pre .1, λ j. omega (arith, after-3 (c .before) j), ap (λ (x : FiveColumns). x .«lapse_up») (a .pre .3))
+one-year-requires-4 c κs =
+    let a = c .before .before .before .before .before .before .before in (
+      a .pre .0 .lapse-up,
+      omega arith,
+      a .pre .1,
+      λ j. omega (arith, after-3 (c .before) j),
+      ap
+          (λ (x : FiveColumns). x .«lapse_up») (a .pre .3),
+    )
 
 one-year-requires-5 : tie.Need-one-year-requires-5
 unfolding fiveColumns
-one-year-requires-5 c κs = let a = c .before .before .before .before .before .before .before .before .before in (a .pre .0 .lapse-down, omega arith, a .pre .1, λ j. omega (arith, after-4 (c .before) j), ap (λ (x : FiveColumns). x .«lapse_down») (a .pre .3))
+one-year-requires-5 c κs =
+    let a = c .before .before .before .before .before .before .before .before .before in (
+      a .pre .0 .lapse-down,
+      omega arith,
+      a .pre .1,
+      λ j. omega (arith, after-4 (c .before) j),
+      ap
+          (λ (x : FiveColumns). x .«lapse_down») (a .pre .3),
+    )
 
 -- five tables, one after the other
-chained : (t : List ℕ) (k : ℕ) (c : Five) (u v w x y z : List ℕ) → v ≡ yearMore t 0 k (c .base) u → w ≡ yearMore t 1 k (c .«mortality_up») v
-    → x ≡ yearMore t 2 k (c .«mortality_down») w → y ≡ yearMore t 3 k (c .«lapse_up») x → z ≡ yearMore t 4 k (c .«lapse_down») y → z ≡ tenMore t k c u
+chained : (t : List ℕ) (k : ℕ) (c : Five) (u v w x y z : List ℕ) → v ≡ yearMore t 0 k (c .base) u
+    → w ≡ yearMore t 1 k (c .«mortality_up») v
+    → x ≡ yearMore t 2 k (c .«mortality_down») w → y ≡ yearMore t 3 k (c .«lapse_up») x
+    → z ≡ yearMore t 4 k (c .«lapse_down») y → z ≡ tenMore t k c u
 unfolding tenMore
 chained t k c u v w x y z ev ew ex ey ez = rw (ez, ey, ex, ew, ev)
 
 returns : tie.Need-returns
 unfolding nextFive
 returns c = (
-  rw (c .before .before .before .before .before .before .before .before .one-year .ensures .0, c .before .before .before .before .before .before .one-year2 .ensures .0, c .before .before .before .before .one-year3 .ensures .0, c .before .before .one-year4 .ensures .0, c .one-year5 .ensures .0),
-  chained (c .before .before .before .before .before .before .before .before .before .before .args .rows .now) (c .before .before .before .before .before .before .before .before .before .before .args .k) (c .before .before .before .before .before .before .before .before .before .before .args .cells) _ _ _ _ _ _ (c .before .before .before .before .before .before .before .before .one-year .ensures .1) (c .before .before .before .before .before .before .one-year2 .ensures .1) (c .before .before .before .before .one-year3 .ensures .1) (c .before .before .one-year4 .ensures .1)
+  rw (
+    c .before .before .before .before .before .before .before .before .one-year .ensures .0,
+    c .before .before .before
+        .before .before .before .one-year2 .ensures .0,
+    c .before .before .before .before .one-year3 .ensures .0,
+    c
+        .before .before .one-year4 .ensures .0,
+    c .one-year5 .ensures .0,
+  ),
+  chained (c .before .before .before .before .before .before .before .before .before .before .args .rows .now)
+      (c .before .before .before .before .before .before .before .before .before .before .args .k)
+      (c .before .before .before .before .before .before .before .before .before .before .args .cells) _ _ _ _ _ _
+      (c .before .before .before .before .before .before .before .before .one-year .ensures .1)
+      (c .before .before .before .before .before .before .one-year2 .ensures .1)
+      (c .before .before .before .before .one-year3 .ensures .1) (c .before .before .one-year4 .ensures .1)
       (c .one-year5 .ensures .1),
 )
 

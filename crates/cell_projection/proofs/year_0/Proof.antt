@@ -1,4 +1,5 @@
--- `cell_projection::year_0` meets its contract: a share of whole contracts is so many times the amount of one. Assumes nothing.
+-- `cell_projection::year_0` meets its contract: a share of whole contracts is so many times the amount of one. Assumes
+-- nothing.
 use mathlib.Core.Path.{_≡_, ap, _∙_}
 use mathlib.Core.List.{List}
 use Prim.Native.Nat.{ℕ, _+_, _*_, _/_, _≤_, _<_}
@@ -39,7 +40,8 @@ add-year-0-requires c κs =
     (premium-le _ _ _ (a .pre .0), claims-le _ _ _ (a .pre .0), a .pre .1)
 
 -- the state that is stepped, by the columns of a projection
-steps : (t : List ℕ) (r n setting : ℕ) (c : Cell) (d : Columns) → Projectable t r n → c ≡ record { row = r; inforce = n * 1000000000 } → d ≡ columnsOf setting
+steps : (t : List ℕ) (r n setting : ℕ) (c : Cell) (d : Columns) → Projectable t r n
+    → c ≡ record { row = r; inforce = n * 1000000000 } → d ≡ columnsOf setting
     → Ready t c × (livesIn d 0 ≤ 5) × (staysIn d 0 ≤ 5)
 steps t r n setting c d s e h =
     let low = held-low setting 0 d h in
@@ -61,22 +63,27 @@ next-year-requires-3 : tie.Need-next-year-requires-3
 unfolding fiveColumns
 next-year-requires-3 c κs =
     let a = c .before .before .before .before .before .before .before in
-    steps _ _ _ 2 _ _ (a .pre .0) (c .before .before .new .ensures) (ap (λ (x : FiveColumns). x .«mortality_down») (a .pre .2))
+    steps _ _ _ 2 _ _ (a .pre .0) (c .before .before .new .ensures)
+    (ap (λ (x : FiveColumns). x .«mortality_down») (a .pre .2))
 
 next-year-requires-4 : tie.Need-next-year-requires-4
 unfolding fiveColumns
 next-year-requires-4 c κs =
     let a = c .before .before .before .before .before .before .before .before in
-    steps _ _ _ 3 _ _ (a .pre .0) (c .before .before .before .new .ensures) (ap (λ (x : FiveColumns). x .«lapse_up») (a .pre .2))
+    steps _ _ _ 3 _ _ (a .pre .0) (c .before .before .before .new .ensures)
+    (ap (λ (x : FiveColumns). x .«lapse_up») (a .pre .2))
 
 next-year-requires-5 : tie.Need-next-year-requires-5
 unfolding fiveColumns
 next-year-requires-5 c κs =
     let a = c .before .before .before .before .before .before .before .before .before in
-    steps _ _ _ 4 _ _ (a .pre .0) (c .before .before .before .before .new .ensures) (ap (λ (x : FiveColumns). x .«lapse_down») (a .pre .2))
+    steps _ _ _ 4 _ _ (a .pre .0) (c .before .before .before .before .new .ensures)
+    (ap (λ (x : FiveColumns). x .«lapse_down») (a .pre .2))
 
-stepped : (t : List ℕ) (r n setting : ℕ) (c x : Cell) (d : Columns) → c ≡ record { row = r; inforce = n * 1000000000 } → d ≡ columnsOf setting
-    → x ≡ nextBy t (livesIn d 0) (staysIn d 0) c → x ≡ nextYear t setting 0 (record { row = r; inforce = n * 1000000000 })
+stepped : (t : List ℕ) (r n setting : ℕ) (c x : Cell) (d : Columns) → c ≡ record { row = r; inforce = n * 1000000000 }
+    → d ≡ columnsOf setting
+    → x ≡ nextBy t (livesIn d 0) (staysIn d 0) c
+    → x ≡ nextYear t setting 0 (record { row = r; inforce = n * 1000000000 })
 stepped t r n setting c x d e h f = rw e at (next-held setting 0 d h t c x f)
 
 -- whole contracts are as many times the amount of one
@@ -112,5 +119,7 @@ returns c =
 
 pub year-0-spec : {M : Type 1} → statement M
 year-0-spec = tie.close
-    (tie.spec (search needs) (search needs) (search needs) (search needs) (search needs) mul-premium-3 (search needs) (search needs) (search needs) (search needs) (search needs) mul-claims-3
-    add-year-0-requires (λ c κs. c .before .before .before .before .pre .0 .few) next-year-requires next-year-requires-2 next-year-requires-3 next-year-requires-4 next-year-requires-5 returns)
+    (tie.spec (search needs) (search needs) (search needs) (search needs) (search needs) mul-premium-3 (search needs)
+    (search needs) (search needs) (search needs) (search needs) mul-claims-3
+    add-year-0-requires (λ c κs. c .before .before .before .before .pre .0 .few) next-year-requires next-year-requires-2
+    next-year-requires-3 next-year-requires-4 next-year-requires-5 returns)

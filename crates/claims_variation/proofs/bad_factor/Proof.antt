@@ -1,4 +1,5 @@
--- `claims_variation::bad_factor` meets its contract: a double differs from itself just where it is not a number. Assumes nothing.
+-- `claims_variation::bad_factor` meets its contract: a double differs from itself just where it is not a number.
+-- Assumes nothing.
 use mathlib.Core.Path.{ap}
 use mathlib.Core.Bool.{Bool, _||_}
 use lib.Ieee.{lt, ofBits}

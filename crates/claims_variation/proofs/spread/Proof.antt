@@ -1,4 +1,5 @@
--- `claims_variation::spread` meets its contract: the reply is the defined one, from which the promises follow. Assumes nothing.
+-- `claims_variation::spread` meets its contract: the reply is the defined one, from which the promises follow. Assumes
+-- nothing.
 use mathlib.Core.Path.{sym, _∙_}
 use borrow.Author.Needs.{needs}
 use borrow.Author.Tests.{eq-eqb, ne-eqb}

@@ -1,4 +1,5 @@
--- `cost_rate_shares::accountsRate` meets its contract: a group that is not empty has premium in every year. Assumes nothing.
+-- `cost_rate_shares::accountsRate` meets its contract: a group that is not empty has premium in every year. Assumes
+-- nothing.
 use mathlib.Core.Path.{_≡_, sym, _∙_}
 use mathlib.Core.Bool.{false}
 use Prim.Native.Nat.{ℕ, _<_}

@@ -1,4 +1,5 @@
--- `cost_rate_shares::year_rate` meets its contract: both shares are bounded, and the premium is not zero. Assumes nothing.
+-- `cost_rate_shares::year_rate` meets its contract: both shares are bounded, and the premium is not zero. Assumes
+-- nothing.
 use Prim.Native.Nat.{_+_, _*_}
 use native.Mathlib.Nat.{div-le-self}
 use native.Mathlib.Omega.{arith}

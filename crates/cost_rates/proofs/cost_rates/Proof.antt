@@ -52,7 +52,8 @@ returns-4 c =
     let limits = sym (first .before .within-limits .ensures) ∙ not-false _ (first .if1 .left) in
     let sums = sym (m .before .can-compute .ensures) ∙ not-false _ (m .if2 .left) in
     let low = sym (c .before .all-at-most .ensures) ∙ not-false _ (c .if3 .left) in
-    rates-promised _ _ (ap (ratesReplyFor (Accepted 0)) reckoned ∙ sym (replied-rates _ limits sums (rw reckoned at low)))
+    rates-promised _ _
+    (ap (ratesReplyFor (Accepted 0)) reckoned ∙ sym (replied-rates _ limits sums (rw reckoned at low)))
 
 pub cost-rates-spec : {M : Type 1} → statement M
 cost-rates-spec =

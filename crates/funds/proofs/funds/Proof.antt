@@ -1,4 +1,4 @@
--- `funds::funds` meets its contract: both funds are refused alike, or one is reckoned after the other. Assumes nothing.
+-- `funds::funds` meets its contract: both funds are refused alike, or one is computed after the other. Assumes nothing.
 use mathlib.Core.Path.{sym, _∙_}
 use native.Mathlib.Omega.{arith}
 use borrow.Author.Needs.{needs}
@@ -19,13 +19,15 @@ returns c =
     let f = arguments-bad (length (a .numbers .now)) (a .table .now) (a .first .now) _ _ e in
     let s = arguments-bad (length (a .numbers .now)) (a .table .now) (a .second .now) _ _ e in
     funds-promised (a .table .now) (a .first .now) (a .second .now) (a .numbers .now) (a .numbers .now) _
-    (rw (f, s, c .enum-told2 .given .1)) (sym (both-refused (a .table .now) (a .numbers .now) (a .first .now) (a .second .now) _ _ f s))
+    (rw (f, s, c .enum-told2 .given .1))
+    (sym (both-refused (a .table .now) (a .numbers .now) (a .first .now) (a .second .now) _ _ f s))
 
 value-fund-requires : tie.Need-value-fund-requires
 value-fund-requires c κs =
     let w = c .before .before .before in
     let a = w .before .before .before .before .args in
-    let g = arguments-good (length (a .numbers .now)) (a .table .now) _ (sym (w .check-arguments .ensures) ∙ c .before .enum-told .given .1) in
+    let g = arguments-good (length (a .numbers .now)) (a .table .now) _
+    (sym (w .check-arguments .ensures) ∙ c .before .enum-told .given .1) in
     (g .0, g .1, omega (arith, g .0))
 
 value-fund-requires-2 : tie.Need-value-fund-requires-2
@@ -33,7 +35,8 @@ value-fund-requires-2 c κs =
     let r = c .before .before in
     let w = r .before .before .before .before in
     let a = w .before .before .before .before .args in
-    let g = arguments-good (length (a .numbers .now)) (a .table .now) _ (sym (w .check-arguments .ensures) ∙ r .before .before .enum-told .given .1) in
+    let g = arguments-good (length (a .numbers .now)) (a .table .now) _
+    (sym (w .check-arguments .ensures) ∙ r .before .before .enum-told .given .1) in
     let same = r .value-fund .kept .1 .1 .0 in
     (omega (arith, g .0, same), g .1, omega (arith, g .0, same))
 
@@ -43,11 +46,15 @@ returns-2 c =
     let r = r2 .before .before .before in
     let w = r .before .before .before .before in
     let a = w .before .before .before .before .args in
-    let g = arguments-good (length (a .numbers .now)) (a .table .now) _ (sym (w .check-arguments .ensures) ∙ r .before .before .enum-told .given .1) in
-    let b = both (a .table .now) (a .first .now) (a .second .now) (a .numbers .now) (r .value-fund .last .1 .1 .0) (r2 .value-fund2 .last .1 .1 .0) _ _ (g .0) (r .value-fund .kept .1 .1 .0) (r .value-fund .ensures) (r2 .value-fund2 .ensures) in
+    let g = arguments-good (length (a .numbers .now)) (a .table .now) _
+    (sym (w .check-arguments .ensures) ∙ r .before .before .enum-told .given .1) in
+    let b = both (a .table .now) (a .first .now) (a .second .now) (a .numbers .now) (r .value-fund .last .1 .1 .0)
+    (r2 .value-fund2 .last .1 .1 .0) _ _ (g .0) (r .value-fund .kept .1 .1 .0) (r .value-fund .ensures)
+    (r2 .value-fund2 .ensures) in
     funds-promised (a .table .now) (a .first .now) (a .second .now) (a .numbers .now) _ _ (b .0) (b .1)
 
 pub funds-spec : {M : Type 1} → statement M
 funds-spec =
     tie.close
-    (tie.spec (search needs) (search needs) (search needs) returns value-fund-requires value-fund-requires-2 (search needs) returns-2)
+    (tie.spec (search needs) (search needs) (search needs) returns value-fund-requires value-fund-requires-2
+    (search needs) returns-2)

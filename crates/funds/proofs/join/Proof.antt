@@ -1,4 +1,5 @@
--- `funds::join` meets its contract: three runs of bytes one after the other, as the definition joins them. Assumes nothing.
+-- `funds::join` meets its contract: three runs of bytes one after the other, as the definition joins them. Assumes
+-- nothing.
 use mathlib.Core.Path.{sym}
 use native.Mathlib.Omega.{arith}
 use lib.ListN.{length-drop}
@@ -11,16 +12,25 @@ use Rattle.funds.proofs.join.Statement.{statement}
 use Rattle.funds.proofs.join.Tie as tie
 
 slice-aggregate-put-bytes : tie.Need-slice-aggregate-put-bytes
-slice-aggregate-put-bytes c = let a = c .before .before .before .before .before in sym (length-take-le frontSize (a .args .fund .now) (a .pre))
+slice-aggregate-put-bytes c =
+    let a = c .before .before .before .before .before in sym (length-take-le frontSize (a .args .fund .now) (a .pre))
 
 put-bytes-requires : tie.Need-put-bytes-requires
-put-bytes-requires c κs = let a = c .before .before .before .before .before in omega (arith, length-take-le frontSize (a .args .fund .now) (a .pre))
+put-bytes-requires c κs =
+    let a = c .before .before .before .before .before in omega
+    (arith, length-take-le frontSize (a .args .fund .now) (a .pre))
 
 put-bytes-requires-2 : tie.Need-put-bytes-requires-2
 put-bytes-requires-2 c κs =
     let w = c .before .before .before in
     let a = w .before .before .before .before .before .before in
-    omega (arith, w .put-bytes .ensures .place, length-take-le frontSize (a .args .fund .now) (a .pre), a .good .1 .0 .1)
+    omega (
+      arith,
+      w .put-bytes .ensures .place,
+      length-take-le frontSize (a .args .fund .now) (a .pre),
+      a .good .1 .0
+          .1,
+    )
 
 put-bytes-requires-3 : tie.Need-put-bytes-requires-3
 put-bytes-requires-3 c κs =
@@ -29,7 +39,18 @@ put-bytes-requires-3 c κs =
     let a = w1 .before .before .before .before .before .before in
     let whole = rest-whole (a .args .table .now) (a .args .fund .now) (a .pre) in
     rw whole
-    (omega (arith, w2 .put-bytes2 .ensures .place, w1 .put-bytes .ensures .place, length-take-le frontSize (a .args .fund .now) (a .pre), length-drop frontSize (a .args .fund .now), a .good .1 .0 .1, a .good .1 .1 .0 .1, a .pre))
+    (omega (
+      arith,
+      w2 .put-bytes2 .ensures .place,
+      w1 .put-bytes .ensures .place,
+      length-take-le frontSize
+          (a .args .fund .now) (a .pre),
+      length-drop frontSize (a .args .fund .now),
+      a .good .1 .0 .1,
+      a .good .1 .1 .0
+          .1,
+      a .pre,
+    ))
 
 returns : tie.Need-returns
 unfolding joinedBook
@@ -38,10 +59,12 @@ returns c =
     let w2 = w3 .before .before .before .before .before in
     let w1 = w2 .before .before .before .before in
     let a = w1 .before .before .before .before .before .before in
-    w1 .put-bytes .ensures then w2 .put-bytes2 .ensures then (rw (rest-whole (a .args .table .now) (a .args .fund .now) (a .pre)) at (w3 .put-bytes3 .ensures))
+    w1 .put-bytes .ensures then w2 .put-bytes2 .ensures then
+    (rw (rest-whole (a .args .table .now) (a .args .fund .now) (a .pre)) at (w3 .put-bytes3 .ensures))
 
 pub join-spec : {M : Type 1} → statement M
 join-spec =
     tie.close
-    (tie.spec slice-aggregate-put-bytes put-bytes-requires put-bytes-requires-2 (search needs) (search needs) (search needs)
+    (tie.spec slice-aggregate-put-bytes put-bytes-requires put-bytes-requires-2 (search needs) (search needs)
+    (search needs)
     put-bytes-requires-3 (search needs) returns)

@@ -15,7 +15,8 @@ use Rattle.funds.proofs.put_totals.Statement.{statement}
 use Rattle.funds.proofs.put_totals.Tie as tie
 
 abbrev Inv-loop : tie.InvT-loop
-Inv-loop numbers₀ at totals setting₀ numbers setting = (setting ≤ 8) × (length totals ≡ 8) × (numbers ≡ paste numbers₀ at totals setting)
+Inv-loop numbers₀ at totals setting₀ numbers setting =
+    (setting ≤ 8) × (length totals ≡ 8) × (numbers ≡ paste numbers₀ at totals setting)
 
 abbrev μ-loop : tie.MeasureT-loop
 μ-loop numbers₀ at totals setting₀ numbers setting = 8 - setting
@@ -24,10 +25,17 @@ abbrev μ-loop : tie.MeasureT-loop
 kept : (c : tie.At-loop Inv-loop μ-loop) → length (c .loop .numbers) ≡ length (c .before .args .numbers .now)
 kept c =
     let a = c .before .args in
-    ap length (c .loop .inv .2) ∙ length-paste (a .numbers .now) (a .at) (a .t3) (c .loop .setting) (omega arith) (omega arith)
+    ap length (c .loop .inv .2) ∙ length-paste (a .numbers .now) (a .at) (a .t3) (c .loop .setting) (omega arith)
+    (omega arith)
 
 loop-holds : tie.Need-loop-holds Inv-loop μ-loop
-loop-holds c = let a = c .args in (omega arith, good-length (eSInt w64) 8 (a .t3) _ (c .good .1 .1 .0), paste-zero (a .numbers .now) (a .at) (a .t3))
+loop-holds c = let a =
+    c .args in (
+      omega arith,
+      good-length (eSInt w64) 8 (a .t3) _ (c .good .1 .1 .0),
+      paste-zero (a .numbers .now)
+          (a .at) (a .t3),
+    )
 
 slice-set-from-numbers : tie.Need-slice-set-from-numbers Inv-loop μ-loop
 slice-set-from-numbers c = omega (arith, kept (c .before .before))
@@ -39,7 +47,12 @@ loop-again c =
     let l = m .loop in (
       omega arith,
       l .inv .1,
-      rw (toZ-ofZ w64 (getD (a .t3) (l .setting) (pos 0)) (record { sfits = c .numbers .given }), l .inv .2, add-one (l .setting))
+      rw (
+        toZ-ofZ w64 (getD (a .t3) (l .setting) (pos 0)) (record { sfits = c .numbers .given }),
+        l .inv .2,
+        add-one
+            (l .setting),
+      )
           (paste-suc (a .numbers .now) (a .at) (a .t3) (l .setting) (pos 0) (omega arith) (omega arith)),
     )
 
@@ -52,5 +65,6 @@ returns c =
 pub put-totals-spec : {M : Type 1} → statement M
 put-totals-spec =
     tie.close
-    (tie.spec Inv-loop μ-loop loop-holds (search needs) (search needs) (search needs) (search needs) slice-set-from-numbers
+    (tie.spec Inv-loop μ-loop loop-holds (search needs) (search needs) (search needs) (search needs)
+    slice-set-from-numbers
     (search needs) (search needs) loop-again (λ c. kept (c .before)) returns)

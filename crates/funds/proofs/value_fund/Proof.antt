@@ -15,7 +15,8 @@ returns c =
     let s = c .before .before .before in
     let a = s .args in
     fund-refused (a .table .now) (a .fund .now) (a .at) (a .numbers .now) _
-    (sym (reply-short (length (a .numbers .now)) (a .table .now) (a .fund .now) (s .pre .0) (s .pre .1) (c .if1 .taken)))
+    (sym (reply-short (length (a .numbers .now)) (a .table .now) (a .fund .now) (s .pre .0) (s .pre .1)
+    (c .if1 .taken)))
     (λ n e. never-accepted e)
 
 returns-2 : tie.Need-returns-2
@@ -23,15 +24,22 @@ returns-2 c =
     let s = c .before .before .before .before .before in
     let a = s .args in
     let long = c .before .if2 .taken in
-    let e = c .check-header .ensures ∙ sym (reply-long (length (a .numbers .now)) (a .table .now) (a .fund .now) (s .pre .0) (s .pre .1) (omega arith) long) in
+    let e = c .check-header .ensures ∙ sym
+    (reply-long (length (a .numbers .now)) (a .table .now) (a .fund .now) (s .pre .0) (s .pre .1) (omega arith)
+    long) in
     fund-refused (a .table .now) (a .fund .now) (a .at) (a .numbers .now) _ e
-    (λ n f. never-long (length (a .numbers .now)) (a .table .now) (a .fund .now) (s .pre .0) (s .pre .1) long n (sym e ∙ f))
+    (λ n f. never-long (length (a .numbers .now)) (a .table .now) (a .fund .now) (s .pre .0) (s .pre .1) long n
+    (sym e ∙ f))
 
 joined-totals-requires : tie.Need-joined-totals-requires
 joined-totals-requires c κs = search needs
 
--- the fund's reply is what Totals' reply tells
-told : (c : tie.After-joined-totals) → verdictIn (c .joined-totals .result) ≡ fundReply (length (c .before .before .before .before .before .args .numbers .now)) (c .before .before .before .before .before .args .table .now) (c .before .before .before .before .before .args .fund .now)
+-- the fund's reply is what Totals' reply says
+told : (c : tie.After-joined-totals)
+    → verdictIn (c .joined-totals .result) ≡ fundReply
+    (length (c .before .before .before .before .before .args .numbers .now))
+    (c .before .before .before .before .before .args .table .now)
+    (c .before .before .before .before .before .args .fund .now)
 told c =
     let s = c .before .before .before .before .before in
     let a = s .args in
@@ -56,4 +64,5 @@ returns-4 c =
 pub value-fund-spec : {M : Type 1} → statement M
 value-fund-spec =
     tie.close
-    (tie.spec returns (search needs) (search needs) returns-2 joined-totals-requires (search needs) (search needs) returns-3 returns-4)
+    (tie.spec returns (search needs) (search needs) returns-2 joined-totals-requires (search needs) (search needs)
+    returns-3 returns-4)

@@ -1,4 +1,5 @@
--- `group_liability::group` meets its contract: where a refusal applies it is given and nothing is touched; else reply and table are those of `value_group`.
+-- `group_liability::group` meets its contract: where a refusal applies it is given and nothing is touched; else reply
+-- and table are those of `value_group`.
 -- What is promised of both follows from these two equations. Assumes nothing.
 use mathlib.Core.Logic.{inr}
 use mathlib.Core.Path.{refl, sym, ap, _∙_}
@@ -35,15 +36,28 @@ group-sums-requires : tie.Need-group-sums-requires
 group-sums-requires c κs =
     let m = c .before .before .before .before in
     let e = sym (m .before .before .check-group .ensures) ∙ m .enum-told .given .1 in
-    let s = c .before .before .before .new .ensures .1 in
-    (c .before .before .new2 .ensures, group-valid _ _ _ _ _ e, group-range _ _ _ _ _ e .0, group-range _ _ _ _ _ e .1, omega (arith, s .projection-is, projection-low (c .before .before .before .new .result .number)), refl)
+    let s = c .before .before .before .new .ensures .1 in (
+      c .before .before .new2 .ensures,
+      group-valid _ _ _ _ _ e,
+      group-range _ _ _ _ _ e .0,
+      group-range _ _ _ _ _ e .1,
+      omega (arith, s .projection-is, projection-low (c .before .before .before .new .result .number)),
+      refl,
+    )
 
 value-group-requires : tie.Need-value-group-requires
 value-group-requires c κs =
     let m = c .before .before .before .before .before .before .before in
     let e = sym (m .before .before .check-group .ensures) ∙ m .enum-told .given .1 in
-    let s = c .before .before .before .before .before .before .new .ensures .1 in
-    (s, group-range _ _ _ _ _ e .0, group-range _ _ _ _ _ e .1, group-table _ _ _ _ _ e, group-valid _ _ _ _ _ e, c .before .before .group-sums .ensures .table _ (projection-low _) (inr (s .projection-is)))
+    let s = c .before .before .before .before .before .before .new .ensures .1 in (
+      s,
+      group-range _ _ _ _ _ e .0,
+      group-range _ _ _ _ _ e .1,
+      group-table _ _ _ _ _ e,
+      group-valid _ _ _ _ _ e,
+      c
+          .before .before .group-sums .ensures .table _ (projection-low _) (inr (s .projection-is)),
+    )
 
 returns-2 : tie.Need-returns-2
 unfolding groupReply groupTable
@@ -58,9 +72,11 @@ returns-2 c =
     let own = c .before .before .before .before .before .before .before .before .before .new .ensures .0 in
     let l = toZ-ofZ w64 (s .result) (record { sfits = s .ok }) ∙ rw own at (s .ensures .liability-is) in
     let n = c .before .before .before .before .before .group-sums .ensures .n-is in
-    promised _ _ _ _ _ _ (rw (e, l) (ap (λ (m : ℕ). Valued (groupLiability b setting g) m) n)) (rw e (rw own at (s .ensures .table-is)))
+    promised _ _ _ _ _ _ (rw (e, l) (ap (λ (m : ℕ). Valued (groupLiability b setting g) m) n))
+    (rw e (rw own at (s .ensures .table-is)))
 
 pub group-spec : {M : Type 1} → statement M
 group-spec =
     tie.close
-    (tie.spec (search needs) (search needs) returns (search needs) new-requires new-requires-2 group-sums-requires value-group-requires (search needs) returns-2)
+    (tie.spec (search needs) (search needs) returns (search needs) new-requires new-requires-2 group-sums-requires
+    value-group-requires (search needs) returns-2)

@@ -1,4 +1,5 @@
--- `group_projection::add_chain` meets its contract: an empty chain adds nothing; of any other the rows are read and its cells added. Assumes nothing.
+-- `group_projection::add_chain` meets its contract: an empty chain adds nothing; of any other the rows are read and its
+-- cells added. Assumes nothing.
 use mathlib.Core.Path.{_≡_, refl, sym, ap, _∙_}
 use mathlib.Core.List.{List}
 use Prim.Native.Nat.{ℕ}
@@ -25,13 +26,16 @@ returns c =
     }
 
 -- the head's record stands in its chain
-stands : (m : tie.Else1) → Standing (m .before .before .before .args .book .now) 120 (m .before .before .before .args .k) (m .before .head-of .result)
+stands : (m : tie.Else1)
+    → Standing (m .before .before .before .args .book .now) 120 (m .before .before .before .args .k)
+    (m .before .head-of .result)
 stands m =
     let a = m .before .before .before in
     let b = a .args .book .now in
     let k = a .args .k in
     let head = m .before .head-of in
-    chain-standing b k _ (head .result) (head-chain b (a .pre .1) k (a .pre .2) (head .result) _ (head .ensures .0) (m .if1 .left) refl) (omega arith)
+    chain-standing b k _ (head .result)
+    (head-chain b (a .pre .1) k (a .pre .2) (head .result) _ (head .ensures .0) (m .if1 .left) refl) (omega arith)
 
 read-rows-requires : tie.Need-read-rows-requires
 read-rows-requires c κs =
@@ -51,7 +55,8 @@ returns-2 c =
     let head-is = c .before .before .before .before .before .before .head-of .ensures .0 in
     let e = c .add-cells .ensures in
     record {
-      sums = e .sums ∙ ap (λ (i : ℕ). addedAll (amountIn b (a .args .which)) (linksFrom b i 121) (a .args .sums .now)) head-is;
+      sums = e .sums ∙ ap (λ (i : ℕ). addedAll (amountIn b (a .args .which)) (linksFrom b i 121) (a .args .sums .now))
+          head-is;
       n-is = e .n-is ∙ ap (λ (i : ℕ). heldFrom b i 121) head-is;
       few = e .few;
     }

@@ -1,5 +1,5 @@
--- `group_projection::group_sums` meets its contract. The invariant: what is added and counted so far, with the chains from k on, is what all chains of the
--- group add and count. The measure is the number of chains left. Assumes nothing.
+-- `group_projection::group_sums` meets its contract. The invariant: what is added and counted so far, with the chains
+-- from k on, is what all chains of the group add and count. The measure is the number of chains left. Assumes nothing.
 use mathlib.Core.Path.{_≡_, sym, _∙_}
 use mathlib.Core.List.{List}
 use Prim.Native.Nat.{ℕ, _+_, _-_, _*_, _<_, _≤_}
@@ -13,7 +13,8 @@ use Rattle.valuation.specs.Steps.{premiumSum, claimsSum}
 use Rattle.valuation.specs.Portfolio.{groupLinks, groupCells}
 use Rattle.cell_projection.specs.Tables.{amountIn, Among, addedAll}
 use Rattle.cell_projection.proofs.Records.{amount-in-le, premium-at, claims-at}
-use Rattle.group_projection.proofs.Adding.{Gather, gather-more, gather-end, group-cells-more, group-cells-end, zero-most, sum-from-zero, sum-same, premium-sum-is, claims-sum-is}
+use Rattle.group_projection.proofs.Adding.{Gather, gather-more, gather-end, group-cells-more, group-cells-end}
+use Rattle.group_projection.proofs.Adding.{zero-most, sum-from-zero, sum-same, premium-sum-is, claims-sum-is}
 use Rattle.group_projection.proofs.group_sums.Statement.{statement}
 use Rattle.group_projection.proofs.group_sums.Tie as tie
 
@@ -60,22 +61,26 @@ loop-again c =
       omega arith,
       omega arith,
       omega (arith, e .few),
-      gather-more (amountIn b (a .args .which)) b (λ k i f s. amount-in-le b (a .args .which) k i s) (a .pre .1) _ _ zeros (l .k) (l .numbers) _ (l .inv .3) (omega arith) (omega arith) (omega arith) (e .sums),
+      gather-more (amountIn b (a .args .which)) b (λ k i f s. amount-in-le b (a .args .which) k i s) (a .pre .1) _ _
+          zeros (l .k) (l .numbers) _ (l .inv .3) (omega arith) (omega arith) (omega arith) (e .sums),
       sym (group-cells-more b (l .n) (l .k) _ (c .add-chain .result) (omega arith) (e .n-is)) ∙ l .inv .4,
     )
 
 -- the sum over the records of what a projection adds in a year
-module _ (b : List ℕ) (which g s k : ℕ) (t : List ℕ) (e : t ≡ addedAll (amountIn b which) (groupLinks b g) zeros) (h : s < 5) (among : Among which s) (l : k < 50) where
+module _ (b : List ℕ) (which g s k : ℕ) (t : List ℕ) (e : t ≡ addedAll (amountIn b which) (groupLinks b g) zeros)
+    (h : s < 5) (among : Among which s) (l : k < 50) where
   premium-sum : getD t (10 * k + 2 * s) 0 ≡ premiumSum rounded (groupCells b (decrementsOf b s) g) k
   unfolding zeros
   premium-sum =
-      sum-from-zero (amountIn b which) (groupLinks b g) t e _ (omega arith) ∙ sum-same _ _ (λ i. premium-at b which k s i among h l) (groupLinks b g)
+      sum-from-zero (amountIn b which) (groupLinks b g) t e _ (omega arith) ∙ sum-same _ _
+      (λ i. premium-at b which k s i among h l) (groupLinks b g)
       ∙ premium-sum-is b (decrementsOf b s) k (groupLinks b g)
 
   claims-sum : getD t (10 * k + 2 * s + 1) 0 ≡ claimsSum rounded (groupCells b (decrementsOf b s) g) k
   unfolding zeros
   claims-sum =
-      sum-from-zero (amountIn b which) (groupLinks b g) t e _ (omega arith) ∙ sum-same _ _ (λ i. claims-at b which k s i among h l) (groupLinks b g)
+      sum-from-zero (amountIn b which) (groupLinks b g) t e _ (omega arith) ∙ sum-same _ _
+      (λ i. claims-at b which k s i among h l) (groupLinks b g)
       ∙ claims-sum-is b (decrementsOf b s) k (groupLinks b g)
 
 returns : tie.Need-returns Inv-loop μ-loop
@@ -90,7 +95,9 @@ returns c =
     let to : ℕ = 4 + 2 * g in
     let e : l .k ≡ to = omega arith in
     let some : to - f .result ≡ chainsOf g = omega (arith, f .ensures .1) in
-    let p = rw (some, f .ensures .0) at (gather-end (amountIn b (a .args .which)) b (λ k i h s. amount-in-le b (a .args .which) k i s) (a .pre .1) (f .result) to zeros (l .k) (l .numbers) e (l .inv .3)) in
+    let p = rw (some, f .ensures .0) at
+    (gather-end (amountIn b (a .args .which)) b (λ k i h s. amount-in-le b (a .args .which) k i s) (a .pre .1)
+    (f .result) to zeros (l .k) (l .numbers) e (l .inv .3)) in
     record {
       table =
           λ s h among.

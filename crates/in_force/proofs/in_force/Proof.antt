@@ -1,5 +1,5 @@
--- `in_force::in_force` meets its contract: the first refusal is given and nothing is touched; else the numbers are those
--- of `run`. Assumes nothing.
+-- `in_force::in_force` meets its contract: the first refusal is given and nothing is touched; else the numbers are
+-- those of `run`. Assumes nothing.
 use mathlib.Core.Path.{_≡_, refl, sym, ap, _∙_}
 use native.Mathlib.Nat.{pos-of-ne-zero}
 use Prim.Native.Nat.{ℕ}
@@ -12,7 +12,8 @@ use Rattle.book.proofs.Valid.{valid}
 use Rattle.valuation.specs.Portfolio.{chainLinks}
 use Rattle.in_force.specs.InForceRun.{ofClass, recordAtClass, askedCheck, inForceRun}
 use Rattle.in_force.proofs.Records.{link-standing}
-use Rattle.in_force.proofs.InForceContract.{asked-setting, asked-code, asked-sex, asked-numbers, by-asked, by-book}
+use Rattle.in_force.proofs.InForceContract.{asked-setting, asked-code, asked-sex, asked-numbers, by-asked}
+use Rattle.in_force.proofs.InForceContract.{by-book}
 use Rattle.in_force.proofs.InForceContract.{by-class, by-none, refused, shown}
 use Rattle.in_force.proofs.in_force.Statement.{statement}
 use Rattle.in_force.proofs.in_force.Tie as tie

@@ -1,4 +1,5 @@
--- `le_bytes::check_fields` meets its contract. The invariant: what the fields from k on say is what all say. The measure is the number of fields left. Assumes nothing.
+-- `le_bytes::check_fields` meets its contract. The invariant: what the fields from k on say is what all say. The
+-- measure is the number of fields left. Assumes nothing.
 use borrow.Author.Needs.{needs}
 use mathlib.Core.Path.{_≡_, sym, _∙_}
 use Prim.Native.Nat.{ℕ, _+_, _-_, _*_, _≤_}
@@ -11,7 +12,8 @@ use Rattle.le_bytes.proofs.check_fields.Tie as tie
 
 abbrev Inv-loop : tie.InvT-loop
 Inv-loop b number lift span at count k₀ k =
-    (k ≤ count) × (checkFields b number lift span at count ≡ plus 0 (joinAll (λ (j : ℕ). checkField b number lift span (at + 4 * j)) k (count - k)))
+    (k ≤ count) × (checkFields b number lift span at count ≡ plus 0
+    (joinAll (λ (j : ℕ). checkField b number lift span (at + 4 * j)) k (count - k)))
 
 abbrev μ-loop : tie.MeasureT-loop
 μ-loop b number lift span at count k₀ k = count - k
@@ -23,14 +25,16 @@ loop-holds c = (omega arith, all-start _ _)
 returns : tie.Need-returns Inv-loop μ-loop
 returns c =
     let e = c .enum-told2 .given .1 in
-    e ∙ sym (c .before .before .before .before .loop .inv .1 ∙ all-bad _ _ _ _ _ _ (omega arith) (sym (c .before .before .check-field .ensures) ∙ e))
+    e ∙ sym (c .before .before .before .before .loop .inv .1 ∙ all-bad _ _ _ _ _ _ (omega arith)
+    (sym (c .before .before .check-field .ensures) ∙ e))
 
 loop-again : tie.Need-loop-again Inv-loop μ-loop
 unfolding checkField
 loop-again c =
     let v = c .before .before .check-field in (
       omega arith,
-      c .before .before .before .before .loop .inv .1 ∙ all-good _ _ _ _ _ 0 (omega arith) (need-zero _ _ _ _ (sym (v .ensures) ∙ c .enum-told .given .1)),
+      c .before .before .before .before .loop .inv .1 ∙ all-good _ _ _ _ _ 0 (omega arith)
+          (need-zero _ _ _ _ (sym (v .ensures) ∙ c .enum-told .given .1)),
     )
 
 returns-2 : tie.Need-returns-2 Inv-loop μ-loop
@@ -39,5 +43,6 @@ returns-2 c = sym (c .before .loop .inv .1 ∙ all-done _ _ _ _ (omega arith))
 pub check-fields-spec : {M : Type 1} → statement M
 check-fields-spec =
     tie.close
-    (tie.spec Inv-loop μ-loop loop-holds (λ c. omega arith) (λ c. omega arith) (λ c κs. omega arith) (search needs) (search needs) returns
+    (tie.spec Inv-loop μ-loop loop-holds (λ c. omega arith) (λ c. omega arith) (λ c κs. omega arith) (search needs)
+    (search needs) returns
     (λ c. omega arith) (λ c. omega arith) loop-again returns-2)

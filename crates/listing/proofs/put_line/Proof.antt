@@ -1,4 +1,5 @@
--- `listing::put_line` meets its contract: three writers one after the other, as the definition joins their texts. Assumes nothing.
+-- `listing::put_line` meets its contract: three writers one after the other, as the definition joins their texts.
+-- Assumes nothing.
 use mir.Syntax.{w64}
 use mir.ValLaws.{toZ-ofZ}
 use borrow.Author.Needs.{needs}

@@ -1,4 +1,5 @@
--- `listing::put_listing` meets its contract. The invariant: the lines of the settings passed are written, each of at most 64 bytes.
+-- `listing::put_listing` meets its contract. The invariant: the lines of the settings passed are written, each of at
+-- most 64 bytes.
 -- The measure is the number of lines left. Assumes nothing.
 use mir.Syntax.{w64}
 use mir.ValLaws.{toZ-ofZ}
@@ -14,7 +15,8 @@ use Rattle.listing.proofs.put_listing.Statement.{statement}
 use Rattle.listing.proofs.put_listing.Tie as tie
 
 abbrev Inv-loop : tie.InvT-loop
-Inv-loop out₀ n totals at₀ setting₀ out at setting = (setting ≤ 8) × Wrote out₀ 0 (joined (lineOf totals n) setting) out at × (at ≤ 64 * setting)
+Inv-loop out₀ n totals at₀ setting₀ out at setting =
+    (setting ≤ 8) × Wrote out₀ 0 (joined (lineOf totals n) setting) out at × (at ≤ 64 * setting)
 
 abbrev μ-loop : tie.MeasureT-loop
 μ-loop out₀ n totals at₀ setting₀ out at setting = 8 - setting
@@ -43,4 +45,5 @@ returns c =
 pub put-listing-spec : {M : Type 1} → statement M
 put-listing-spec =
     tie.close
-    (tie.spec Inv-loop μ-loop loop-holds (search needs) (search needs) (search needs) (search needs) (search needs) loop-again same-length returns)
+    (tie.spec Inv-loop μ-loop loop-holds (search needs) (search needs) (search needs) (search needs) (search needs)
+    loop-again same-length returns)

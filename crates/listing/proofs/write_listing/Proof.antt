@@ -1,5 +1,5 @@
 -- `listing::write_listing` meets its contract: a refusal of Totals is given and nothing is written; else the run on no
--- bytes tells the length, and the listing is written where it fits. Assumes nothing.
+-- bytes says the length, and the listing is written where it fits. Assumes nothing.
 use native.Mathlib.Omega.{arith}
 use borrow.Author.Needs.{needs}
 use Rattle.buffer.proofs.Digits.{trial, kept}
@@ -40,4 +40,5 @@ returns-3 c =
 
 pub write-listing-spec : {M : Type 1} → statement M
 write-listing-spec =
-    tie.close (tie.spec (search needs) returns (search needs) (search needs) returns-2 (search needs) same-length returns-3)
+    tie.close (tie.spec (search needs) returns (search needs) (search needs) returns-2 (search needs) same-length
+    returns-3)

@@ -1,4 +1,5 @@
--- `listing_main::main` meets its contract, which says nothing: what it writes lies in the buffer that the call wrote to.
+-- `listing_main::main` meets its contract, which says nothing: what it writes lies in the buffer that the call wrote
+-- to.
 -- Assumes nothing but the C library's reading and writing.
 use mathlib.Core.Path.{sym}
 use native.Mathlib.Omega.{arith}

@@ -1,4 +1,5 @@
--- `practice_book::fill_curve` meets its contract. The invariant: the first j rates are drawn, and the words are j draws on.
+-- `practice_book::fill_curve` meets its contract. The invariant: the first j rates are drawn, and the words are j draws
+-- on.
 -- The measure is how many are left. Assumes nothing.
 use mathlib.Core.Path.{_≡_, refl, sym, ap, _∙_}
 use Prim.Native.Nat.{ℕ, _-_, _≤_, _<_}

@@ -1,5 +1,5 @@
--- `practice_book::fill_lists` meets its contract. The invariant: the first i numbers of each list are drawn, and the words
--- are four draws on for each. The measure is how many are left. Assumes nothing.
+-- `practice_book::fill_lists` meets its contract. The invariant: the first i numbers of each list are drawn, and the
+-- words are four draws on for each. The measure is how many are left. Assumes nothing.
 use mathlib.Core.Path.{_≡_, refl, sym, ap, _∙_}
 use Prim.Native.Nat.{ℕ, _+_, _-_, _*_, _≤_, _<_}
 use native.Mathlib.Omega.{arith}

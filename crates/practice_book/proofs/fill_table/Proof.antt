@@ -1,5 +1,5 @@
--- `practice_book::fill_table` meets its contract. The invariant: the first j numbers are drawn, and the words are j draws
--- on. The measure is how many are left. Assumes nothing.
+-- `practice_book::fill_table` meets its contract. The invariant: the first j numbers are drawn, and the words are j
+-- draws on. The measure is how many are left. Assumes nothing.
 use mathlib.Core.Path.{_≡_, refl, sym, ap, _∙_}
 use Prim.Native.Nat.{ℕ, _-_, _≤_, _<_}
 use native.Mathlib.Omega.{arith}

@@ -22,7 +22,8 @@ fits x (suc d) h few =
 
 sub-result : tie.Need-sub-result
 sub-result c =
-    rw (back (c .args .x) (omega arith), back (c .args .lift) (omega arith)) (fits (c .args .x) (c .args .lift) (c .pre .0) (c .pre .1))
+    rw (back (c .args .x) (omega arith), back (c .args .lift) (omega arith))
+    (fits (c .args .x) (c .args .lift) (c .pre .0) (c .pre .1))
 
 returns : tie.Need-returns
 returns c =

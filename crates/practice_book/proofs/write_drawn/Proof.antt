@@ -1,4 +1,5 @@
--- `practice_book::write_drawn` meets its contract: what was drawn, part after part, is the drawn contents. Assumes nothing.
+-- `practice_book::write_drawn` meets its contract: what was drawn, part after part, is the drawn contents. Assumes
+-- nothing.
 use borrow.Author.Needs.{needs}
 use Rattle.generator.specs.Draws.{seeded}
 use Rattle.practice_book.proofs.Drawn.{contents-drawn, of-same}

@@ -1,4 +1,5 @@
--- `present_value::amounts_in` meets its contract. The invariant: with the years before `from` the two sums are those of the years before k.
+-- `present_value::amounts_in` meets its contract. The invariant: with the years before `from` the two sums are those of
+-- the years before k.
 -- The measure is the number of years left. Assumes nothing.
 use mathlib.Core.Path.{_≡_, _∙_}
 use Prim.Native.Nat.{_+_, _-_, _*_, _≤_}
@@ -16,9 +17,11 @@ abbrev Inv-loop : tie.InvT-loop
 Inv-loop book divisors fractions group numbers from to setting premium outgo end paid₀ earned₀ k₀ paid earned k =
     (from ≤ k) × (k ≤ end)
     × (sumYears rounded from (yearOutgo book setting group) + paid ≡ sumYears rounded k (yearOutgo book setting group))
-    × (sumYears rounded from (yearPremium book setting group) + earned ≡ sumYears rounded k (yearPremium book setting group))
+    × (sumYears rounded from (yearPremium book setting group) + earned ≡ sumYears rounded k
+    (yearPremium book setting group))
     × (paid ≤ 9000000000000000 * k) × (earned ≤ 9000000000000000 * k)
-    × InYears (yearOutgo book setting group) 9000000000000000 from end outgo × InYears (yearPremium book setting group) 9000000000000000 from end premium
+    × InYears (yearOutgo book setting group) 9000000000000000 from end outgo
+    × InYears (yearPremium book setting group) 9000000000000000 from end premium
 
 abbrev μ-loop : tie.MeasureT-loop
 μ-loop book divisors fractions group numbers from to setting premium outgo end paid₀ earned₀ k₀ paid earned k = end - k
@@ -38,7 +41,8 @@ outgo-to-end c =
     let u = c .before .before .before .before .before in
     let a = u .before .before in
     let n = c .end-of .ensures in
-    sum-to-end (divisorOf (a .args .book .now)) _ _ _ _ _ _ _ (outgo-discounted _ (a .args .s .number) (a .args .group)) (u .undiscounted .ensures .outgo-in)
+    sum-to-end (divisorOf (a .args .book .now)) _ _ _ _ _ _ _ (outgo-discounted _ (a .args .s .number) (a .args .group))
+    (u .undiscounted .ensures .outgo-in)
     (n .least) (n .most) (n .no-outgo)
 
 premium-to-end : (c : tie.After-end-of Inv-loop μ-loop) →
@@ -49,7 +53,8 @@ premium-to-end c =
     let u = c .before .before .before .before .before in
     let a = u .before .before in
     let n = c .end-of .ensures in
-    sum-to-end (divisorOf (a .args .book .now)) _ _ _ _ _ _ _ (premium-discounted _ (a .args .s .number) (a .args .group)) (u .undiscounted .ensures .premium-in)
+    sum-to-end (divisorOf (a .args .book .now)) _ _ _ _ _ _ _
+    (premium-discounted _ (a .args .s .number) (a .args .group)) (u .undiscounted .ensures .premium-in)
     (n .least) (n .most) (n .no-premium)
 
 discount-requires : tie.Need-discount-requires Inv-loop μ-loop
@@ -85,8 +90,10 @@ loop-holds c =
       omega arith,
       omega arith,
       omega arith,
-      in-discounted b _ _ _ _ _ _ _ _ _ (a .pre .1) (outgo-discounted b s g) last few (in-fewer _ _ _ _ _ _ (n .most) (y .outgo-in)) (d .1),
-      in-discounted b _ _ _ _ _ _ _ _ _ (a .pre .1) (premium-discounted b s g) last few (in-fewer _ _ _ _ _ _ (n .most) (y .premium-in)) (d .0),
+      in-discounted b _ _ _ _ _ _ _ _ _ (a .pre .1) (outgo-discounted b s g) last few
+          (in-fewer _ _ _ _ _ _ (n .most) (y .outgo-in)) (d .1),
+      in-discounted b _ _ _ _ _ _ _ _ _ (a .pre .1) (premium-discounted b s g) last few
+          (in-fewer _ _ _ _ _ _ (n .most) (y .premium-in)) (d .0),
     )
 
 add-paid : tie.Need-add-paid Inv-loop μ-loop
@@ -114,7 +121,8 @@ loop-again c =
 returns : tie.Need-returns Inv-loop μ-loop
 returns c =
     let e = c .before in
-    let z : e .before .before .before .before .before .before .before .args .from ≡ e .end-of .result = omega (arith, e .end-of .ensures .least, c .if1 .taken) in record {
+    let z : e .before .before .before .before .before .before .before .args .from ≡ e .end-of .result =
+    omega (arith, e .end-of .ensures .least, c .if1 .taken) in record {
       outgo-is = rw z (omega (arith, outgo-to-end e));
       premium-is = rw z (omega (arith, premium-to-end e));
       outgo-most = omega arith;
@@ -136,5 +144,7 @@ returns-2 c =
 pub amounts-in-spec : {M : Type 1} → statement M
 amounts-in-spec =
     tie.close
-    (tie.spec Inv-loop μ-loop undiscounted-requires end-of-requires returns (λ c. omega arith) discount-requires loop-holds (λ c. omega arith)
-    (λ c. omega (arith, c .before .loop .inv)) add-paid (λ c. omega arith) (λ c. omega arith) add-earned (λ c. omega arith) (λ c. omega arith) loop-again returns-2)
+    (tie.spec Inv-loop μ-loop undiscounted-requires end-of-requires returns (λ c. omega arith) discount-requires
+    loop-holds (λ c. omega arith)
+    (λ c. omega (arith, c .before .loop .inv)) add-paid (λ c. omega arith) (λ c. omega arith) add-earned
+    (λ c. omega arith) (λ c. omega arith) loop-again returns-2)

@@ -1,5 +1,5 @@
--- `present_value::curve_of` meets its contract. The invariant: the tables have divisors and fractions of the years before k. The measure is the number of
--- years left. Assumes nothing.
+-- `present_value::curve_of` meets its contract. The invariant: the tables have divisors and fractions of the years
+-- before k. The measure is the number of years left. Assumes nothing.
 use mathlib.Core.Path.{_≡_, refl, _∙_}
 use Prim.Native.Nat.{ℕ, _-_, _≤_, _<_}
 use native.Mathlib.Omega.{arith}
@@ -14,7 +14,8 @@ use Rattle.present_value.proofs.curve_of.Tie as tie
 abbrev Inv-loop : tie.InvT-loop
 Inv-loop book divisors₀ fractions₀ k₀ divisors fractions k =
     (k ≤ 50) × (length divisors ≡ 50) × (length fractions ≡ 50)
-    × ((i : ℕ) → i < k → getD divisors i 0 ≡ divisorOf book i) × ((i : ℕ) → i < k → Divisor (divisorOf book i) (getD fractions i 0))
+    × ((i : ℕ) → i < k → getD divisors i 0 ≡ divisorOf book i)
+    × ((i : ℕ) → i < k → Divisor (divisorOf book i) (getD fractions i 0))
 
 abbrev μ-loop : tie.MeasureT-loop
 μ-loop book divisors₀ fractions₀ k₀ divisors fractions k = 50 - k
@@ -37,7 +38,8 @@ loop-again c =
       length-set (l .fractions) (l .k) _ ∙ l .inv .2,
       stored (λ i x. x ≡ divisorOf b i) (l .divisors) (l .k) _ (omega (arith, l .inv .1)) (l .inv .3) (d .ensures .0),
       stored (λ i x. Divisor (divisorOf b i) x) (l .fractions) (l .k) _ (omega (arith, l .inv .2)) (l .inv .4)
-          (rw (← (d .ensures .0)) (record { low = d .ensures .1; high = d .ensures .2; fraction-is = c .fraction-of .ensures })),
+          (rw (← (d .ensures .0))
+          (record { low = d .ensures .1; high = d .ensures .2; fraction-is = c .fraction-of .ensures })),
     )
 
 returns : tie.Need-returns Inv-loop μ-loop
@@ -48,5 +50,6 @@ returns c =
 pub curve-of-spec : {M : Type 1} → statement M
 curve-of-spec =
     tie.close
-    (tie.spec Inv-loop μ-loop loop-holds divisor-of-requires (search needs) (search needs) (search needs) (search needs) (search needs)
+    (tie.spec Inv-loop μ-loop loop-holds divisor-of-requires (search needs) (search needs) (search needs) (search needs)
+    (search needs)
     (search needs) (search needs) loop-again returns)

@@ -1,4 +1,5 @@
--- `present_value::end_of` meets its contract. The invariant: it holds of the end so far. The measure is that end. Assumes nothing.
+-- `present_value::end_of` meets its contract. The invariant: it holds of the end so far. The measure is that end.
+-- Assumes nothing.
 use native.Mathlib.Omega.{arith}
 use borrow.Author.Tests.{eqb-true}
 use Rattle.present_value.specs.Outcome.{NoneFrom}
@@ -19,15 +20,20 @@ element-copy-out-if1 : tie.Need-element-copy-out-if1 Inv-loop μ-loop
 element-copy-out-if1 c = let l = c .before .loop in omega (arith, l .inv .most, c .before .before .pre .1)
 
 element-copy-out-if2 : tie.Need-element-copy-out-if2 Inv-loop μ-loop
-element-copy-out-if2 c = let l = c .before .before .before .loop in omega (arith, l .inv .most, c .before .before .before .before .pre .1)
+element-copy-out-if2 c =
+    let l = c .before .before .before .loop in omega (arith, l .inv .most, c .before .before .before .before .pre .1)
 
 loop-again : tie.Need-loop-again Inv-loop μ-loop
 loop-again c =
     let l = c .before .before .before .before .before .loop in
-    none-sooner _ _ _ _ (l .end) (l .inv) (c .before .before .before .before .loop-test .taken) (eqb-true _ _ (c .before .before .if1 .taken)) (eqb-true _ _ (c .if2 .taken))
+    none-sooner _ _ _ _ (l .end) (l .inv) (c .before .before .before .before .loop-test .taken)
+    (eqb-true _ _ (c .before .before .if1 .taken)) (eqb-true _ _ (c .if2 .taken))
 
 pub end-of-spec : {M : Type 1} → statement M
 end-of-spec =
     tie.close
-    (tie.spec Inv-loop μ-loop loop-holds (λ c. omega arith) (λ c. omega arith) element-copy-out-if1 (λ c. omega arith) (λ c. omega arith)
-    element-copy-out-if2 (λ c. omega arith) (λ c. omega arith) loop-again (λ c. c .before .before .before .before .before .loop .inv) (λ c. c .before .before .before .loop .inv) (λ c. c .before .loop .inv))
+    (tie.spec Inv-loop μ-loop loop-holds (λ c. omega arith) (λ c. omega arith) element-copy-out-if1 (λ c. omega arith)
+    (λ c. omega arith)
+    element-copy-out-if2 (λ c. omega arith) (λ c. omega arith) loop-again
+    (λ c. c .before .before .before .before .before .loop .inv) (λ c. c .before .before .before .loop .inv)
+    (λ c. c .before .loop .inv))

@@ -1,4 +1,5 @@
--- `present_value::value_group` meets its contract. The invariant: the table has the numbers of the years before k, and the two sums are those of the reckoning.
+-- `present_value::value_group` meets its contract. The invariant: the table has the numbers of the years before k, and
+-- the two sums are those of the valuation.
 -- The measure is the number of years left. Assumes nothing.
 use mathlib.Core.Path.{_≡_, refl, _∙_}
 use mathlib.Core.List.{List, _++_}
@@ -13,7 +14,8 @@ use Rattle.valuation.specs.Arithmetic.{rounded}
 use Rattle.valuation.specs.Steps.{Cell, Terms, sumYears}
 use Rattle.valuation.specs.Portfolio.{termsOf, groupCells}
 use Rattle.valuation.specs.Replies.{yearTable}
-use Rattle.cash_flow.proofs.CashFlow.{years-more, years-length, year-is, sum-more, outgo-discounted, premium-discounted, liability-is, less-mag}
+use Rattle.cash_flow.proofs.CashFlow.{years-more, years-length, year-is, sum-more, outgo-discounted, premium-discounted}
+use Rattle.cash_flow.proofs.CashFlow.{liability-is, less-mag}
 use Rattle.present_value.specs.Outcome.{InYears, outgoBefore, premiumBefore, yearOutgo, yearPremium}
 use Rattle.present_value.proofs.Tables.{curve-divisors, in-discounted}
 use Rattle.present_value.proofs.value_group.Statement.{statement}
@@ -29,10 +31,13 @@ cells b s g = groupCells b (decrementsOf b s) g
 abbrev Inv-loop : tie.InvT-loop
 Inv-loop book group numbers table₀ setting due spent premium outgo paid₀ earned₀ k₀ table paid earned k =
     (k ≤ 50) × (table ≡ yearTable (terms book setting group) (cells book setting group) k ++ drop (4 * k) table₀)
-    × (paid ≡ sumYears rounded k (yearOutgo book setting group)) × (earned ≡ sumYears rounded k (yearPremium book setting group))
+    × (paid ≡ sumYears rounded k (yearOutgo book setting group))
+    × (earned ≡ sumYears rounded k (yearPremium book setting group))
     × (paid ≤ 9000000000000000 * k) × (earned ≤ 9000000000000000 * k)
-    × InYears (premiumBefore book setting group) 4000000000000000 0 50 due × InYears (outgoBefore book setting group) 4000000000000000 0 50 spent
-    × InYears (yearPremium book setting group) 9000000000000000 0 50 premium × InYears (yearOutgo book setting group) 9000000000000000 0 50 outgo
+    × InYears (premiumBefore book setting group) 4000000000000000 0 50 due
+    × InYears (outgoBefore book setting group) 4000000000000000 0 50 spent
+    × InYears (yearPremium book setting group) 9000000000000000 0 50 premium
+    × InYears (yearOutgo book setting group) 9000000000000000 0 50 outgo
 
 abbrev μ-loop : tie.MeasureT-loop
 μ-loop book group numbers table₀ setting due spent premium outgo paid₀ earned₀ k₀ table paid earned k = 50 - k
@@ -48,8 +53,13 @@ undiscounted-requires c κs =
 discount-requires : tie.Need-discount-requires Inv-loop μ-loop
 discount-requires c κs =
     let u = c .before .before .before .before .before .before in
-    let y = u .undiscounted .ensures in
-    (omega arith, omega arith, curve-divisors _ _ _ (u .before .before .before .curve-of .ensures), y .premium-in .most, y .outgo-in .most)
+    let y = u .undiscounted .ensures in (
+      omega arith,
+      omega arith,
+      curve-divisors _ _ _ (u .before .before .before .curve-of .ensures),
+      y .premium-in .most,
+      y .outgo-in .most,
+    )
 
 loop-holds : tie.Need-loop-holds Inv-loop μ-loop
 unfolding yearTable sumYears
@@ -70,12 +80,15 @@ loop-holds c =
       omega arith,
       y .premium-in,
       y .outgo-in,
-      in-discounted b _ _ _ _ _ _ _ _ _ (v .curve-of .ensures) (premium-discounted b s g) refl (omega arith) (y .premium-in) (d .0),
-      in-discounted b _ _ _ _ _ _ _ _ _ (v .curve-of .ensures) (outgo-discounted b s g) refl (omega arith) (y .outgo-in) (d .1),
+      in-discounted b _ _ _ _ _ _ _ _ _ (v .curve-of .ensures) (premium-discounted b s g) refl (omega arith)
+          (y .premium-in) (d .0),
+      in-discounted b _ _ _ _ _ _ _ _ _ (v .curve-of .ensures) (outgo-discounted b s g) refl (omega arith) (y .outgo-in)
+          (d .1),
     )
 
 abbrev start : tie.At-loop Inv-loop μ-loop → tie.Start Inv-loop μ-loop
-start m = m .before .before .before .before .before .before .before .before .before .before .before .before .before .before
+start m = m .before .before .before .before .before .before .before .before .before .before .before .before .before
+    .before
 
 -- the table keeps its length
 long : (m : tie.At-loop Inv-loop μ-loop) → length (m .loop .table) ≡ length (start m .args .table .now)
@@ -83,7 +96,8 @@ long m =
     let l = m .loop in
     let a = start m .args in
     let s : 200 ≤ length (a .table .now) = start m .pre .3 in
-    years-length (terms (a .book .now) (a .s .number) (a .group)) (cells (a .book .now) (a .s .number) (a .group)) (l .k) (a .table .now) (l .table) (omega arith) (l .inv .1)
+    years-length (terms (a .book .now) (a .s .number) (a .group)) (cells (a .book .now) (a .s .number) (a .group))
+    (l .k) (a .table .now) (l .table) (omega arith) (l .inv .1)
 
 put-year-requires : tie.Need-put-year-requires Inv-loop μ-loop
 put-year-requires c κs =
@@ -115,7 +129,8 @@ loop-again c =
     let size : 200 ≤ length (a .table .now) = start m .pre .3 in
     let p = l .inv .8 in
     let o = l .inv .9 in
-    let e = year-is t cs (l .k) _ _ _ _ (l .inv .6 .are (l .k) lt (omega arith)) (l .inv .7 .are (l .k) lt (omega arith)) (p .are (l .k) lt (omega arith)) (o .are (l .k) lt (omega arith)) in (
+    let e = year-is t cs (l .k) _ _ _ _ (l .inv .6 .are (l .k) lt (omega arith))
+    (l .inv .7 .are (l .k) lt (omega arith)) (p .are (l .k) lt (omega arith)) (o .are (l .k) lt (omega arith)) in (
       omega arith,
       years-more t cs (l .k) _ (a .table .now) (l .table) (w .last .0) e (omega arith) (l .inv .1) (w .ensures),
       sum-more _ (l .k) _ _ (l .inv .2) (o .are (l .k) lt (omega arith)),
@@ -138,7 +153,8 @@ returns c =
     let e : l .k ≡ 50 = omega arith in
     let r = toZ-ofZ w64 (c .less .result) (record { sfits = c .less .ok }) ∙ c .less .ensures in
     record {
-      liability-is = r ∙ liability-is (a .book .now) (a .s .number) (a .group) (l .k) (l .paid) (l .earned) e (l .inv .2) (l .inv .3);
+      liability-is = r ∙ liability-is (a .book .now) (a .s .number) (a .group) (l .k) (l .paid) (l .earned) e
+          (l .inv .2) (l .inv .3);
       table-is = rw e at (l .inv .1);
       size = rw r (less-mag (l .paid) (l .earned) 450_000_000_000_000_000 (omega arith) (omega arith));
     }
@@ -146,6 +162,9 @@ returns c =
 pub value-group-spec : {M : Type 1} → statement M
 value-group-spec =
     tie.close
-    (tie.spec Inv-loop μ-loop curve-of-requires undiscounted-requires discount-requires loop-holds (λ c. omega arith) (λ c. omega arith) (λ c. omega arith)
-    (λ c. omega arith) (λ c. omega arith) (λ c. omega arith) (λ c. omega arith) (λ c. omega arith) put-year-requires (λ c. omega arith) (λ c. omega arith) add-paid
-    (λ c. omega arith) (λ c. omega arith) add-earned (λ c. omega arith) (λ c. omega arith) loop-again (search needs) same-length returns)
+    (tie.spec Inv-loop μ-loop curve-of-requires undiscounted-requires discount-requires loop-holds (λ c. omega arith)
+    (λ c. omega arith) (λ c. omega arith)
+    (λ c. omega arith) (λ c. omega arith) (λ c. omega arith) (λ c. omega arith) (λ c. omega arith) put-year-requires
+    (λ c. omega arith) (λ c. omega arith) add-paid
+    (λ c. omega arith) (λ c. omega arith) add-earned (λ c. omega arith) (λ c. omega arith) loop-again (search needs)
+    same-length returns)

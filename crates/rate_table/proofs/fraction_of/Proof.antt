@@ -1,4 +1,5 @@
--- `rate_table::fraction_of` meets its contract: 2^64 is 18,446,744,073 whole billions and 709,551,616 more. Assumes nothing.
+-- `rate_table::fraction_of` meets its contract: 2^64 is 18,446,744,073 whole billions and 709,551,616 more. Assumes
+-- nothing.
 use mathlib.Core.Path.{_≡_}
 use Prim.Native.Nat.{ℕ, _+_, _*_, _/_, _≤_, _<_}
 use native.Mathlib.Nat.{mul-le-mul-left, div-le-of-le-mul}
@@ -23,7 +24,8 @@ below : (a : tie.Start) → (a .args .rate ≡ 1000000000 → ⊥) → a .args .
 below a h = omega (arith, h)
 
 add-result : tie.Need-add-result
-add-result c = record { fits = fits _ _ (less (c .before .args .rate) _ (omega arith)) (below (c .before) (c .if1 .left)) }
+add-result c = record
+    { fits = fits _ _ (less (c .before .args .rate) _ (omega arith)) (below (c .before) (c .if1 .left)) }
 
 returns-2 : tie.Need-returns-2
 unfolding IsFraction

@@ -10,8 +10,11 @@ returns : tie.Need-returns
 unfolding mortalityOf
 returns c =
     let a = c .before .before in
-    let e = c .read-u32 .ensures .0 in
-    (e, rw e (mortality-high (a .args .book .now) (a .pre .0) (a .args .sex) (a .args .class) (omega arith) (omega arith)))
+    let e = c .read-u32 .ensures .0 in (
+      e,
+      rw e (mortality-high (a .args .book .now) (a .pre .0) (a .args .sex) (a .args .class) (omega arith)
+          (omega arith)),
+    )
 
 pub mortality-of-spec : {M : Type 1} → statement M
 mortality-of-spec =

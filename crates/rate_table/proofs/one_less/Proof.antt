@@ -8,7 +8,8 @@ use Rattle.rate_table.proofs.one_less.Statement.{statement}
 use Rattle.rate_table.proofs.one_less.Tie as tie
 
 mul-weighted : tie.Need-mul-weighted
-mul-weighted c = let p : c .args .rate * c .args .weight ≤ 1000000 * 1300 = mul-le-mul (c .pre .0) (c .pre .1) in omega arith
+mul-weighted c =
+    let p : c .args .rate * c .args .weight ≤ 1000000 * 1300 = mul-le-mul (c .pre .0) (c .pre .1) in omega arith
 
 returns : tie.Need-returns
 unfolding oneLess

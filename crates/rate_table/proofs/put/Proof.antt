@@ -10,7 +10,9 @@ second : tie.Need-slice-write-rows-2
 second c = simp length-set (omega arith)
 
 returns : tie.Need-returns
-returns c = let a = c .before .before .args in put-both (a .rows .now) (a .at) _ _ (omega arith) (c .fraction-of .ensures)
+returns c = let a =
+    c .before .before .args in put-both (a .rows .now) (a .at) _ _ (omega arith) (c .fraction-of .ensures)
 
 pub put-spec : {M : Type 1} → statement M
-put-spec = tie.close (tie.spec (search needs) (search needs) (search needs) (search needs) (search needs) second (search needs) returns)
+put-spec = tie.close
+    (tie.spec (search needs) (search needs) (search needs) (search needs) (search needs) second (search needs) returns)

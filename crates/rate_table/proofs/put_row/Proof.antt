@@ -1,4 +1,5 @@
--- `rate_table::put_row` meets its contract: three columns of what lives on, three of what stays, premium and claims. Assumes nothing.
+-- `rate_table::put_row` meets its contract: three columns of what lives on, three of what stays, premium and claims.
+-- Assumes nothing.
 use mathlib.Core.Path.{_≡_}
 use mathlib.Core.List.{List}
 use Prim.Native.Nat.{ℕ, _+_, _*_, _≤_, _<_}
@@ -52,16 +53,26 @@ put-three-requires-2 c κs =
     )
 
 field-of-requires-2 : tie.Need-field-of-requires-2
-field-of-requires-2 c κs = (inside (c .before .before .before .before .before .before .before .before .before .before .before), omega arith)
+field-of-requires-2 c κs =
+    (inside (c .before .before .before .before .before .before .before .before .before .before .before), omega arith)
 
 put-requires : tie.Need-put-requires
-put-requires c κs = let a = c .before .before .before .before .before .before .before .before .before .before .before .before in omega (arith, place a, a .pre .2 .premium, c .field-of2 .ensures .0, c .before .put-arg .given .0 .1)
+put-requires c κs =
+    let a = c .before .before .before .before .before .before .before .before .before .before .before .before in omega
+    (arith, place a, a .pre .2 .premium, c .field-of2 .ensures .0, c .before .put-arg .given .0 .1)
 
 field-of-requires-3 : tie.Need-field-of-requires-3
-field-of-requires-3 c κs = (inside (c .before .before .before .before .before .before .before .before .before .before .before .before .before .before), omega arith)
+field-of-requires-3 c κs = (
+  inside (c .before .before .before .before .before .before .before .before .before .before .before .before .before
+      .before),
+  omega arith,
+)
 
 put-requires-2 : tie.Need-put-requires-2
-put-requires-2 c κs = let a = c .before .before .before .before .before .before .before .before .before .before .before .before .before .before .before in omega (arith, place a, a .pre .2 .claims, c .field-of3 .ensures .0, c .before .put-arg2 .given .0 .1)
+put-requires-2 c κs =
+    let a = c .before .before .before .before .before .before .before .before .before .before .before .before .before
+    .before .before in omega
+    (arith, place a, a .pre .2 .claims, c .field-of3 .ensures .0, c .before .put-arg2 .given .0 .1)
 
 -- the record's rates, and the first n columns of the row filled with them, in the table as it is then
 abbrev rates : tie.Start → ℕ → ℕ
@@ -70,7 +81,8 @@ rates a = let x = a .args in rateOf (x .book .now) (chainSex (x .chain)) (x .i)
 abbrev Has : tie.Start → ℕ → List ℕ → Type 0
 Has a n t = Filled (rates a) (a .args .rows .now) t (a .args .r) n
 
-survival : (m : tie.After-put-three) → Has (m .before .before .before .before .before .before .before) 3 (m .put-three .last .0)
+survival : (m : tie.After-put-three)
+    → Has (m .before .before .before .before .before .before .before) 3 (m .put-three .last .0)
 unfolding rateOf
 survival m =
     let a = m .before .before .before .before .before .before .before in
@@ -78,11 +90,14 @@ survival m =
     let w = a .pre .0 in
     let survives = survival-is (x .book .now) (chainSex (x .chain)) (x .i) (x .class) _ in
     let deaths = m .before .before .before .before .before .mortality-of .ensures .0 in
-    m .put-three .ensures (rates a) (x .rows .now) (survives 0 _ _ (a .pre .3) deaths (w .base) (m .before .before .before .before .of-sex .ensures))
+    m .put-three .ensures (rates a) (x .rows .now)
+    (survives 0 _ _ (a .pre .3) deaths (w .base) (m .before .before .before .before .of-sex .ensures))
     (survives 1 _ _ (a .pre .3) deaths (w .mortality-up) (m .before .before .before .of-sex2 .ensures))
-    (survives 2 _ _ (a .pre .3) deaths (w .mortality-down) (m .before .before .of-sex3 .ensures)) (filled-none (rates a) (x .rows .now) (x .r))
+    (survives 2 _ _ (a .pre .3) deaths (w .mortality-down) (m .before .before .of-sex3 .ensures))
+    (filled-none (rates a) (x .rows .now) (x .r))
 
-persistency : (m : tie.After-put-three2) → Has (m .before .before .before .before .before .before .before .before .before .before) 6 (m .put-three2 .last .0)
+persistency : (m : tie.After-put-three2)
+    → Has (m .before .before .before .before .before .before .before .before .before .before) 6 (m .put-three2 .last .0)
 unfolding rateOf
 persistency m =
     let a = m .before .before .before .before .before .before .before .before .before .before in
@@ -90,7 +105,8 @@ persistency m =
     let w = a .pre .0 in
     let persists = persistency-is (x .book .now) (x .i) _ in
     let lapse = m .before .before .field-of .ensures .0 in
-    m .put-three2 .ensures (rates a) (x .rows .now) (persists 0 _ lapse (w .base)) (persists 3 _ lapse (w .lapse-up)) (persists 4 _ lapse (w .lapse-down))
+    m .put-three2 .ensures (rates a) (x .rows .now) (persists 0 _ lapse (w .base)) (persists 3 _ lapse (w .lapse-up))
+    (persists 4 _ lapse (w .lapse-down))
     (survival (m .before .before .before))
 
 returns : tie.Need-returns
@@ -98,17 +114,39 @@ unfolding rateOf
 returns c =
     let p = c .before .before .before .before .field-of2 .ensures .0 in
     let q = c .before .field-of3 .ensures .0 in
-    let a = c .before .before .before .before .before .before .before .before .before .before .before .before .before .before .before .before in
+    let a = c .before .before .before .before .before .before .before .before .before .before .before .before .before
+    .before .before .before in
     let x = a .args in
     let k = a .pre .2 in
     row-filled (x .book .now) (chainSex (x .chain)) (x .i) (x .chain) k _ _ (x .r)
     (filled-more (rates a) _ _ _ (x .r) 7 _ (omega arith)
-    (filled-more (rates a) _ _ _ (x .r) 6 _ (omega arith) (persistency (c .before .before .before .before .before .before)) (c .before .before .before .put .ensures) p (omega (arith, p, k .premium)))
+    (filled-more (rates a) _ _ _ (x .r) 6 _ (omega arith)
+    (persistency (c .before .before .before .before .before .before)) (c .before .before .before .put .ensures) p
+    (omega (arith, p, k .premium)))
     (c .put2 .ensures) q (omega (arith, q, k .claims)))
 
 pub put-row-spec : {M : Type 1} → statement M
 put-row-spec =
     tie.close
-    (tie.spec (λ c κs. search needs) (search needs) (search needs) (search needs) put-three-requires field-of-requires put-three-requires-2
-    (λ c. omega (arith, place (c .before .before .before .before .before .before .before .before .before .before .before))) (λ c. omega (arith, place (c .before .before .before .before .before .before .before .before .before .before .before))) field-of-requires-2 put-requires (λ c. omega (arith, place (c .before .before .before .before .before .before .before .before .before .before .before .before .before .before)))
-    (λ c. omega (arith, place (c .before .before .before .before .before .before .before .before .before .before .before .before .before .before))) field-of-requires-3 put-requires-2 returns)
+    (tie.spec (λ c κs. search needs) (search needs) (search needs) (search needs) put-three-requires field-of-requires
+    put-three-requires-2
+    (λ c. omega (
+      arith,
+      place
+          (c .before .before .before .before .before .before .before .before .before .before .before),
+    ))
+    (λ c. omega
+    (arith, place (c .before .before .before .before .before .before .before .before .before .before .before)))
+    field-of-requires-2 put-requires
+    (λ c. omega (
+      arith,
+      place
+          (c .before .before .before .before .before .before .before .before .before .before .before .before .before
+          .before),
+    ))
+    (λ c. omega (
+      arith,
+      place
+          (c .before .before .before .before .before .before .before .before .before .before .before .before .before
+          .before),
+    )) field-of-requires-3 put-requires-2 returns)

@@ -1,5 +1,5 @@
--- `rate_table::read_links` meets its contract. The invariant: every row before r is right, and the record that holds for row r is reached. The
--- measure is the number of rows left. Assumes nothing.
+-- `rate_table::read_links` meets its contract. The invariant: every row before r is right, and the record that holds
+-- for row r is reached. The measure is the number of rows left. Assumes nothing.
 use mathlib.Core.Path.{_∙_}
 use mathlib.Core.Logic.{⊎-elim}
 use Prim.Native.Nat.{_-_, _≤_}
@@ -21,8 +21,12 @@ abbrev μ-loop : tie.MeasureT-loop
 
 loop-holds : tie.Need-loop-holds Inv-loop μ-loop
 loop-holds c =
-    let a = c .before .before in
-    (omega arith, reached-first (a .args .book .now) (a .args .chain) (a .args .i) _ (c .class-of .ensures .0) (a .pre .3), λ j h. absurd (omega arith))
+    let a = c .before .before in (
+      omega arith,
+      reached-first (a .args .book .now) (a .args .chain) (a .args .i) _ (c .class-of .ensures .0)
+          (a .pre .3),
+      λ j h. absurd (omega arith),
+    )
 
 put-row-requires : tie.Need-put-row-requires Inv-loop μ-loop
 put-row-requires c κs =
@@ -39,9 +43,12 @@ loop-again c =
     let b = a .book .now in
     let h = l .inv .1 in (
       omega arith,
-      ⊎-elim (λ w. reached-next b (a .chain) (a .i) (l .r) (l .row) (l .class) h _ _ (omega (arith, w .0 .taken)) (w .2 ∙ w .1 .ensures .0) (w .3))
-          (λ w. reached-same b (a .chain) (a .i) (l .r) (l .row) (l .class) h _ _ (omega (arith, w .0 .left)) (w .1) (w .2)) (c .if1 .came),
-      rows-more b (chainSex (a .chain)) (rowAt b (a .i)) (l .rows) _ (l .r) (l .row) (h .row-is) (l .inv .2) (c .before .put-row .ensures),
+      ⊎-elim (λ w. reached-next b (a .chain) (a .i) (l .r) (l .row) (l .class) h _ _ (omega (arith, w .0 .taken))
+          (w .2 ∙ w .1 .ensures .0) (w .3))
+          (λ w. reached-same b (a .chain) (a .i) (l .r) (l .row) (l .class) h _ _ (omega (arith, w .0 .left)) (w .1)
+          (w .2)) (c .if1 .came),
+      rows-more b (chainSex (a .chain)) (rowAt b (a .i)) (l .rows) _ (l .r) (l .row) (h .row-is) (l .inv .2)
+          (c .before .put-row .ensures),
     )
 
 returns : tie.Need-returns Inv-loop μ-loop

@@ -1,4 +1,5 @@
--- `rate_table::read_rows` meets its contract: the linked records' rows, and the last one again up to the last year. Assumes nothing.
+-- `rate_table::read_rows` meets its contract: the linked records' rows, and the last one again up to the last year.
+-- Assumes nothing.
 use borrow.Author.Needs.{needs}
 use Rattle.rate_table.proofs.Repeats.{rows-repeated}
 use Rattle.rate_table.proofs.read_rows.Statement.{statement}
@@ -14,4 +15,5 @@ returns c =
 
 pub read-rows-spec : {M : Type 1} → statement M
 read-rows-spec = tie.close
-    (tie.spec (λ c κs. search needs) (λ c κs. search needs) (search needs) (search needs) (λ c κs. search needs) returns)
+    (tie.spec (λ c κs. search needs) (λ c κs. search needs) (search needs) (search needs) (λ c κs. search needs)
+    returns)

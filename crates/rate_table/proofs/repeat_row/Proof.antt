@@ -1,5 +1,5 @@
--- `rate_table::repeat_row` meets its contract. The invariant: the numbers before j repeat those a row before. The measure is the number of places
--- left. Assumes nothing.
+-- `rate_table::repeat_row` meets its contract. The invariant: the numbers before j repeat those a row before. The
+-- measure is the number of places left. Assumes nothing.
 use mathlib.Core.Path.{_≡_, refl, _∙_}
 use Prim.Native.Nat.{_-_, _*_, _≤_}
 use native.Mathlib.Omega.{arith}
@@ -43,5 +43,6 @@ returns c =
 pub repeat-row-spec : {M : Type 1} → statement M
 repeat-row-spec =
     tie.close
-    (tie.spec Inv-loop μ-loop (search needs) (search needs) loop-holds (λ c. omega arith) (λ c. omega arith) (λ c. omega arith)
+    (tie.spec Inv-loop μ-loop (search needs) (search needs) loop-holds (λ c. omega arith) (λ c. omega arith)
+    (λ c. omega arith)
     (λ c. omega arith) (λ c. omega arith) (λ c. omega arith) (λ c. omega arith) loop-again same-length returns)

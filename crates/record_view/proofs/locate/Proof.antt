@@ -1,4 +1,5 @@
--- `record_view::locate` meets its contract: the verdict is that of `lookUp`, and the record starts where `record_at` says. Assumes nothing.
+-- `record_view::locate` meets its contract: the verdict is that of `lookUp`, and the record starts where `record_at`
+-- says. Assumes nothing.
 use mathlib.Core.Path.{sym, _∙_}
 use native.Mathlib.Omega.{arith}
 use Rattle.record_view.specs.Looker.{locatedIn}
@@ -18,7 +19,8 @@ returns c = rw (sym (c .before .before .before .look-up .ensures) ∙ c .before 
 
 returns-2 : tie.Need-returns-2
 unfolding locatedIn
-returns-2 c = rw (sym (c .before .before .before .look-up .ensures) ∙ c .before .enum-told .given .1, c .record-at .ensures)
+returns-2 c = rw
+    (sym (c .before .before .before .look-up .ensures) ∙ c .before .enum-told .given .1, c .record-at .ensures)
 
 pub locate-spec : {M : Type 1} → statement M
 locate-spec =

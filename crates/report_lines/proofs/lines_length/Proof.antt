@@ -1,5 +1,5 @@
--- `report_lines::lines_length` meets its contract. The invariant: the bytes counted are those of the lines of the years passed,
--- each of at most 84. The measure is the number of years left. Assumes nothing.
+-- `report_lines::lines_length` meets its contract. The invariant: the bytes counted are those of the lines of the years
+-- passed, each of at most 84. The measure is the number of years left. Assumes nothing.
 use mathlib.Core.List.{[]}
 use mathlib.Core.Path.{_≡_, refl}
 use Prim.Native.Nat.{_≤_, _*_, _-_}

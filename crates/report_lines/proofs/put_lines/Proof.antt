@@ -1,5 +1,5 @@
--- `report_lines::put_lines` meets its contract. The invariant: the lines of the years passed are written, each of at most 84
--- bytes. The measure is the number of years left. Assumes nothing.
+-- `report_lines::put_lines` meets its contract. The invariant: the lines of the years passed are written, each of at
+-- most 84 bytes. The measure is the number of years left. Assumes nothing.
 use mathlib.Core.List.{[]}
 use mathlib.Core.Path.{_≡_}
 use Prim.Native.Nat.{_≤_, _+_, _*_, _-_}

@@ -1,4 +1,5 @@
--- `risk_factors::of_differences` meets its contract: the tests in their order, then the root of the form. Assumes nothing.
+-- `risk_factors::of_differences` meets its contract: the tests in their order, then the root of the form. Assumes
+-- nothing.
 use mathlib.Core.Path.{_≡_, sym, ap, _∙_}
 use mathlib.Core.Bool.{true}
 use Prim.Native.Nat.{ℕ, _/_}
@@ -50,7 +51,7 @@ form-requires c κs =
     let correlation = model-correlation _ (right (m .before .before .before .before .before .before)) in
     (correlation-most _ correlation, factors-most _ (small m))
 
--- the form that was reckoned is the definition's
+-- the form that was computed is the definition's
 form-is : (c : tie.After-form)
     → let s = c .before .before .before .before .before .before .before .before .before .before .before .before in
     c .form .result .number ≡ formFor (s .args .differences .now) (s .args .model)

@@ -12,7 +12,8 @@ mul-div-requires : tie.Need-mul-div-requires
 mul-div-requires c κs =
     let a = c .before .args in
     let m = c .size .result / 100000 in
-    let capacity = scaled-capacity m (a .coefficient) (a .span) (omega arith) (omega arith) (omega arith) (omega arith) in
+    let capacity = scaled-capacity m (a .coefficient) (a .span) (omega arith) (omega arith) (omega arith)
+    (omega arith) in
     (omega arith, omega (arith, capacity))
 
 with-size-requires : tie.Need-with-size-requires

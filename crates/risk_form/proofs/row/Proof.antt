@@ -43,7 +43,8 @@ loop-again c =
     let a = m .before .args in
     let l = m .loop in (
       omega arith,
-      sum-more (termOf (a .correlation .now) (a .f .now) (a .i)) (l .j) _ _ _ (l .inv .1) (t .ensures) (c .plus .ensures),
+      sum-more (termOf (a .correlation .now) (a .f .now) (a .i)) (l .j) _ _ _ (l .inv .1) (t .ensures)
+          (c .plus .ensures),
     )
 
 returns : tie.Need-returns Inv-loop μ-loop

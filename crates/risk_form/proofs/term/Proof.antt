@@ -1,4 +1,4 @@
--- `risk_form::term` meets its contract: two products, for which the bounds leave room. Assumes nothing.
+-- `risk_form::term` meets its contract: two products, for which the bounds leave space. Assumes nothing.
 use native.Mathlib.Omega.{arith}
 use borrow.Author.Needs.{needs}
 use Rattle.risk_form.proofs.Bounds.{half-most, whole-most}

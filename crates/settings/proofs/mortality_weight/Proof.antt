@@ -14,7 +14,8 @@ percent-of-requires c κs = (c .before .pre .1, c .before .pre .2)
 bound : (c : tie.After-weight) → c .before .percent-of .result * c .weight .result ≤ 1200
 bound c =
     let a = c .before .before .before in
-    let multiple : c .weight .result ≤ 12 = omega (arith, multiple-most (a .args .setting) (a .args .sex) (a .args .k) (a .pre .1), c .weight .ensures .0) in
+    let multiple : c .weight .result ≤ 12 =
+    omega (arith, multiple-most (a .args .setting) (a .args .sex) (a .args .k) (a .pre .1), c .weight .ensures .0) in
     mul-le-mul (c .before .percent-of .ensures .1) multiple
 
 mul-result : tie.Need-mul-result

@@ -14,7 +14,8 @@ read : (s p : ℕ) (own : Columns) (r t : Bool) → own ≡ columnsOf s → r �
     → sameColumns (columnsOf s) (columnsOf p) ≡ t
 read s p own r t e er et = rw e at (sym er) ∙ et
 
-first : (m : tie.After-are-of) (t : Bool) → m .are-of .result ≡ t → sameColumns (columnsOf (m .before .before .args .setting)) (columnsOf 0) ≡ t
+first : (m : tie.After-are-of) (t : Bool) → m .are-of .result ≡ t
+    → sameColumns (columnsOf (m .before .before .args .setting)) (columnsOf 0) ≡ t
 first m t e = read _ 0 _ _ t (m .before .new .ensures) (m .are-of .ensures) e
 
 second : (m : tie.After-are-of2) (t : Bool) → m .are-of2 .result ≡ t
@@ -26,8 +27,10 @@ third : (m : tie.After-are-of3) (t : Bool) → m .are-of3 .result ≡ t
 third m t e = read _ 2 _ _ t (m .before .before .before .before .before .new .ensures) (m .are-of3 .ensures) e
 
 fourth : (m : tie.After-are-of4) (t : Bool) → m .are-of4 .result ≡ t
-    → sameColumns (columnsOf (m .before .before .before .before .before .before .before .before .args .setting)) (columnsOf 3) ≡ t
-fourth m t e = read _ 3 _ _ t (m .before .before .before .before .before .before .before .new .ensures) (m .are-of4 .ensures) e
+    → sameColumns (columnsOf (m .before .before .before .before .before .before .before .before .args .setting))
+    (columnsOf 3) ≡ t
+fourth m t e = read _ 3 _ _ t (m .before .before .before .before .before .before .before .new .ensures)
+    (m .are-of4 .ensures) e
 
 returns : tie.Need-returns
 unfolding projectionOf
@@ -43,26 +46,50 @@ returns-3 : tie.Need-returns-3
 unfolding projectionOf
 returns-3 c =
     let m = c .before in
-    let n = m .before .before in
-    (rw (first (n .before .before) false (n .before .if1 .left), second n false (m .before .if2 .left), third m true (c .if3 .taken)), omega arith)
+    let n = m .before .before in (
+      rw (
+        first (n .before .before) false (n .before .if1 .left),
+        second n false (m .before .if2 .left),
+        third m true
+            (c .if3 .taken),
+      ),
+      omega arith,
+    )
 
 returns-4 : tie.Need-returns-4
 unfolding projectionOf
 returns-4 c =
     let m = c .before in
     let n = m .before .before in
-    let o = n .before .before in
-    (rw (first (o .before .before) false (o .before .if1 .left), second o false (n .before .if2 .left), third n false (m .before .if3 .left), fourth m true (c .if4 .taken)), omega arith)
+    let o = n .before .before in (
+      rw (
+        first (o .before .before) false (o .before .if1 .left),
+        second o false (n .before .if2 .left),
+        third n false
+            (m .before .if3 .left),
+        fourth m true (c .if4 .taken),
+      ),
+      omega arith,
+    )
 
 returns-5 : tie.Need-returns-5
 unfolding projectionOf
 returns-5 c =
     let m = c .before in
     let n = m .before .before in
-    let o = n .before .before in
-    (rw (first (o .before .before) false (o .before .if1 .left), second o false (n .before .if2 .left), third n false (m .before .if3 .left), fourth m false (c .if4 .left)), omega arith)
+    let o = n .before .before in (
+      rw (
+        first (o .before .before) false (o .before .if1 .left),
+        second o false (n .before .if2 .left),
+        third n false
+            (m .before .if3 .left),
+        fourth m false (c .if4 .left),
+      ),
+      omega arith,
+    )
 
 pub projection-of-spec : {M : Type 1} → statement M
 projection-of-spec =
     tie.close
-    (tie.spec (λ c κs. search needs) (λ c κs. search needs) returns (λ c κs. search needs) returns-2 (λ c κs. search needs) returns-3 (λ c κs. search needs) returns-4 returns-5)
+    (tie.spec (λ c κs. search needs) (λ c κs. search needs) returns (λ c κs. search needs) returns-2
+    (λ c κs. search needs) returns-3 (λ c κs. search needs) returns-4 returns-5)

@@ -32,7 +32,8 @@ right : ℕ → ℕ → Bool
 right n x = eqb x (weightIn (ltb (n % 10) 5) (n / 10) (n % 5))
 
 -- the rule at the entry j of a setting
-entry : (early : Bool) (setting kind n j : ℕ) → n ≡ 10 * setting + j → j < 10 → setting < 8 → ltb j 5 ≡ early → n % 5 ≡ kind
+entry : (early : Bool) (setting kind n j : ℕ) → n ≡ 10 * setting + j → j < 10 → setting < 8 → ltb j 5 ≡ early
+    → n % 5 ≡ kind
     → getD weights n 0 ≡ weightIn early setting kind
 unfolding weights right
 entry early setting kind n j e hj hs he hk =
@@ -58,7 +59,8 @@ unfolding weights weightOf
 returns-2 c =
     let a = c .before .args in
     bounded (a .setting) (a .kind) (a .k)
-    (entry false (a .setting) (a .kind) (10 * a .setting + 5 + a .kind) (5 + a .kind) (omega arith) (omega arith) (omega arith)
+    (entry false (a .setting) (a .kind) (10 * a .setting + 5 + a .kind) (5 + a .kind) (omega arith) (omega arith)
+    (omega arith)
     (le-ltb (5 + a .kind) 5 (omega arith)) (omega arith)
     ∙ ap (λ (t : Bool). weightIn t (a .setting) (a .kind)) (sym (le-ltb (a .k) 5 (c .if1 .left))))
 

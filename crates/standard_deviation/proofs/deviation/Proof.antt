@@ -1,4 +1,5 @@
--- `standard_deviation::deviation` meets its contract: the book's refusal as Totals gives it, or what its four differences give.
+-- `standard_deviation::deviation` meets its contract: the book's refusal as Totals gives it, or what its four
+-- differences give.
 -- Assumes nothing.
 use mathlib.Core.Path.{sym, ap, _∙_}
 use mathlib.Core.List.{List}
@@ -7,7 +8,8 @@ use lib.IntN.{ℤ}
 use Rattle.verdict.specs.Verdicts.{_andThen_}
 use Rattle.risk_factors.specs.Replies.{factorsReply}
 use Rattle.standard_deviation.specs.Deviation.{checkDeviation, deviationReply}
-use Rattle.standard_deviation.proofs.DeviationContract.{book-refused, book-accepted, book-differences, book-first, promised}
+use Rattle.standard_deviation.proofs.DeviationContract.{book-refused, book-accepted, book-differences}
+use Rattle.standard_deviation.proofs.DeviationContract.{book-first, promised}
 use Rattle.standard_deviation.proofs.deviation.Statement.{statement}
 use Rattle.standard_deviation.proofs.deviation.Tie as tie
 

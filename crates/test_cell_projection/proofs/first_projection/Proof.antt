@@ -1,4 +1,5 @@
--- `test_cell_projection::first_projection` is safe: the reading of the rows and the walk have what they ask for, from the check. Assumes nothing.
+-- `test_cell_projection::first_projection` is safe: the reading of the rows and the projection have what they ask for,
+-- from the check. Assumes nothing.
 use mathlib.Core.Path.{_≡_, refl, sym, _∙_}
 use Prim.Native.Nat.{_<_}
 use native.Mathlib.Omega.{arith}
@@ -13,7 +14,8 @@ use Rattle.test_cell_projection.proofs.first_projection.Statement.{stat
 use Rattle.test_cell_projection.proofs.first_projection.Tie as tie
 
 -- the book is accepted, and the head's record stands in its chain
-accepted : (m : tie.Else3) → ValidBook 1 (m .before .before .before .before .before .before .before .before .args .book .now)
+accepted : (m : tie.Else3)
+    → ValidBook 1 (m .before .before .before .before .before .before .before .before .args .book .now)
 accepted m =
     let e = m .before .before in
     valid 1 _ _ (sym (e .before .before .check .ensures) ∙ e .enum-told .given .1)
@@ -21,11 +23,15 @@ accepted m =
 few : (m : tie.Else3) → m .before .before .before .before .before .before .before .before .args .chain < 14
 few m = omega arith
 
-stands : (m : tie.Else3) → Standing (m .before .before .before .before .before .before .before .before .args .book .now) 120 (m .before .before .before .before .before .before .before .before .args .chain) (m .before .head-of .result)
+stands : (m : tie.Else3)
+    → Standing (m .before .before .before .before .before .before .before .before .args .book .now) 120
+    (m .before .before .before .before .before .before .before .before .args .chain) (m .before .head-of .result)
 stands m =
     let a = m .before .before .before .before .before .before .before .before .args in
     let h = m .before .head-of in
-    chain-standing (a .book .now) (a .chain) _ (h .result) (head-chain (a .book .now) (accepted m) (a .chain) (few m) (h .result) _ (h .ensures .0) (m .if3 .left) refl) (omega arith)
+    chain-standing (a .book .now) (a .chain) _ (h .result)
+    (head-chain (a .book .now) (accepted m) (a .chain) (few m) (h .result) _ (h .ensures .0) (m .if3 .left) refl)
+    (omega arith)
 
 head-of-requires : tie.Need-head-of-requires
 head-of-requires c κs =
@@ -50,16 +56,23 @@ unfolding rowAt
 project-requires c κs =
     let m = c .before .before .before .before .before .before .before in
     let read = c .before .before .before .before .read-rows .ensures in (
-      projectable-here _ _ _ (stands m) _ read 0 _ _ (omega arith) refl (c .before .before .before .field-of .ensures .0),
+      projectable-here _ _ _ (stands m) _ read 0 _ _ (omega arith) refl
+          (c .before .before .before .field-of .ensures .0),
       λ j. omega (arith, zero-most 500 j),
       c .before .new2 .ensures,
     )
 
 years-of-requires : tie.Need-years-of-requires
-years-of-requires c κs = omega (arith, c .before .before .before .before .before .before .before .before .before .before .before .before .before .before .if1 .left)
+years-of-requires c κs =
+    omega (
+      arith,
+      c .before .before .before .before .before .before .before .before .before .before .before .before
+          .before .before .if1 .left,
+    )
 
 pub first-projection-spec : {M : Type 1} → statement M
 first-projection-spec =
     tie.close
-    (tie.spec (search needs) (search needs) (search needs) (search needs) (search needs) (search needs) head-of-requires (search needs)
+    (tie.spec (search needs) (search needs) (search needs) (search needs) (search needs) (search needs) head-of-requires
+    (search needs)
     new-requires read-rows-requires field-of-requires (λ c κs. tt) project-requires years-of-requires (search needs))

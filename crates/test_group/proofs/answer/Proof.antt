@@ -1,4 +1,4 @@
--- `test_group::answer` is safe: the part of the table that is lent lies in it. Assumes nothing.
+-- `test_group::answer` is safe: the part of the table that is passed lies in it. Assumes nothing.
 use mathlib.Core.Path.{sym}
 use native.Mathlib.Omega.{arith}
 use lib.ListN.{length-take}

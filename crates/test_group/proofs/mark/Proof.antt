@@ -1,4 +1,5 @@
--- `test_group::mark` is safe and ends: the table keeps its length, and the measure is what is left of it. Assumes nothing.
+-- `test_group::mark` is safe and ends: the table keeps its length, and the measure is what is left of it. Assumes
+-- nothing.
 use mathlib.Core.Path.{_≡_}
 use Prim.Native.Nat.{_-_, _≤_}
 use native.Mathlib.Omega.{arith}
@@ -19,4 +20,5 @@ loop-again c = simp length-set (omega arith, omega arith)
 pub mark-spec : {M : Type 1} → statement M
 mark-spec =
     tie.close
-    (tie.spec Inv-loop μ-loop (search needs) (search needs) (search needs) (search needs) (search needs) (search needs) loop-again (search needs) (search needs))
+    (tie.spec Inv-loop μ-loop (search needs) (search needs) (search needs) (search needs) (search needs) (search needs)
+    loop-again (search needs) (search needs))

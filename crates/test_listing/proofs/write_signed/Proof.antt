@@ -12,4 +12,5 @@ slice-aggregate-write-all-2 c = sym (length-take-le _ _ (omega arith))
 pub write-signed-spec : {M : Type 1} → statement M
 write-signed-spec =
     tie.close
-    (tie.spec (search needs) (search needs) (search needs) (search needs) (search needs) slice-aggregate-write-all-2 (search needs) (search needs))
+    (tie.spec (search needs) (search needs) (search needs) (search needs) (search needs) slice-aggregate-write-all-2
+    (search needs) (search needs))

@@ -1,6 +1,7 @@
--- `test_record_view::write_record` is safe and ends: a walk of its MIR, by hand. The `Shown` that `record_view::look` returns is held
--- in a local and taken apart, and `write_shown` is called on its fields. All that the proof knows of the two is that
--- each meets its contract. A `&[u8]` is Copy, so what it owns is had again for the exit. Assumes nothing.
+-- `test_record_view::write_record` is safe and ends: its MIR followed by hand. The `Shown` that `record_view::look`
+-- returns is held in a local and taken apart, and `write_shown` is called on its fields. All that the proof knows of
+-- the two is that each meets its contract. A `&[u8]` is Copy, so what it owns is had again for the exit. Assumes
+-- nothing.
 use mathlib.Core.Path.{_≡_, refl, ap}
 use Prim.Native.Nat.{ℕ, _<_, _^_}
 use mathlib.Core.List.{List, [], _∷_}
@@ -168,7 +169,7 @@ module _ {M : Type 1} (𝓤 : URA M) (H : Heap 𝓤) (A : Atoms 𝓤) (W : Given
         alloc1 ! (λ l₄. alloc1 ! (λ l₅. alloc1 ! (λ l₆. alloc1 ! (λ l₇. alloc0 ! $ params1 ! $
         pass1 ! (init ! 12 refl (shr-slice-lawful 𝓤 H A W (named 0) κ u8 .typed s (val s ∷ []) p .0)) $
         pass1 ! (init ! 10 refl (tt, record { fits = i-fits })) $ pass0 ! $
-        -- [room for _7; …; room for _3; …; _2; …; _1; …; room for _0; …; the entry]
+        -- [space for _7; …; space for _3; …; _2; …; _1; …; space for _0; …; the entry]
         move ! (16 ∷ []) $ use1 W (raw (Looks 𝓤 H A mem run .pre to-look) ⊛ ‵ Own) goes-look $ split ! $
         calls-at ! fm (Looks 𝓤 H A mem run) known-look to-look
         (and-then ! (load ! (from ! (stop !)) (look ! 14 refl))
@@ -178,7 +179,7 @@ module _ {M : Type 1} (𝓤 : URA M) (H : Heap 𝓤) (A : Atoms 𝓤) (W : Given
         ((‵ (flft κ q) ⊛ ‵ ftrue) ⊛ ‵ (B .own r (u ∷ [])))
         ⊛ raw (ensured 𝓤 H A looks.ended (looks.clauses 𝓤 H A mem run) (κ, tt) (s, (i, tt)) tt r))))
         (id⊢ 𝓤 _) $ await ! tt $ pick ! (λ r. split ! $ move ! (1 ∷ []) $ drop ! $ split ! $ move ! (1 ∷ []) $
-        -- [what the Shown owns; the token; what s owns; room for _7; …; room for _3; …]
+        -- [what the Shown owns; the token; what s owns; space for _7; …; space for _3; …]
         peeks ! B (Is B) (shows 𝓤 H A B) r (u ∷ []) (λ is. land ! (from ! (stop !)) (init ! 11 refl (typed r u is)) $
         rewrite ! 11 (λ (w : Val). ‵ (fat fullShare (T′.mir erased) l₃ 0 w))
         (ap only (LL.tells D L r (u ∷ []) is)) refl $
@@ -190,7 +191,7 @@ module _ {M : Type 1} (𝓤 : URA M) (H : Heap 𝓤) (A : Atoms 𝓤) (W : Given
         (from ! (stop !)) (init ! 5 refl (tt, typed r (T′.lowered r) is′ .1 .1 .0)) $
         assigns ! (of-opd ! (load ! (from ! (fld ! refl (stop !))) (look-in ! 11 (sub ! 2 refl (whole !)))))
         (from ! (stop !)) (init ! 3 refl (tt, typed r (T′.lowered r) is′ .1 .1 .1 .0)) $
-        -- [what the Shown owns; the token; what s owns; _7; …; _6; …; _5; …; room for _4; …]
+        -- [what the Shown owns; the token; what s owns; _7; …; _6; …; _5; …; space for _4; …]
         use2 W (raw (Prints 𝓤 H A mem run .pre (to-print r))) (goes-print r) $
         calls-at ! fm (Prints 𝓤 H A mem run) known-print (to-print r)
         (and-then ! (load ! (from ! (stop !)) (look ! 6 refl))

@@ -1,4 +1,5 @@
--- `test_stream::next_bytes` meets its contract: what was read lies in the part that was lent, and so in the buffer. Assumes nothing.
+-- `test_stream::next_bytes` meets its contract: what was read lies in the part that was passed, and so in the buffer.
+-- Assumes nothing.
 use mathlib.Core.Path.{sym}
 use native.Mathlib.Omega.{arith}
 use lib.ListN.{length-append}

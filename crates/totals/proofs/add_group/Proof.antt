@@ -1,4 +1,5 @@
--- `totals::add_group` meets its contract. The invariant: the totals of the settings before j have the group, the others not yet.
+-- `totals::add_group` meets its contract. The invariant: the totals of the settings before j have the group, the others
+-- not yet.
 -- The measure is the number of settings left. Assumes nothing.
 use mathlib.Core.Path.{_≡_}
 use Prim.Native.Nat.{_-_, _≤_, _<_}
@@ -9,20 +10,33 @@ use mir.Syntax.{w64}
 use mir.Val.{toZ, ofZ}
 use Rattle.settings.proofs.Serving.{projection-low}
 use Rattle.totals.specs.Sums.{Sum}
-use Rattle.totals.proofs.SignedTotals.{Growing, growing-start, growing-more, growing-end, Liability, liability-read, sum-read, sum-stored, sum-capacity}
+use Rattle.totals.proofs.SignedTotals.{Growing, growing-start, growing-more, growing-end, Liability}
+use Rattle.totals.proofs.SignedTotals.{liability-read, sum-read, sum-stored, sum-capacity}
 use Rattle.totals.proofs.add_group.Statement.{statement}
 use Rattle.totals.proofs.add_group.Tie as tie
 
 abbrev Inv-loop : tie.InvT-loop
-Inv-loop book divisors fractions group numbers totals₀ settings base shared j₀ totals j = (j ≤ 8) × Growing book group j totals
+Inv-loop book divisors fractions group numbers totals₀ settings base shared j₀ totals j =
+    (j ≤ 8) × Growing book group j totals
 
 abbrev μ-loop : tie.MeasureT-loop
 μ-loop book divisors fractions group numbers totals₀ settings base shared j₀ totals j = 8 - j
 
 amounts-in-requires : tie.Need-amounts-in-requires Inv-loop μ-loop
 amounts-in-requires c κs =
-    let a = c .before .before .pre in
-    ((a .0 0 (omega arith) .setting-is, a .1 .low, a .1 .high, omega arith, omega arith, a .1 .valid, a .1 .table _ (projection-low _)), a .2)
+    let a = c .before .before .pre in (
+      (
+        a .0 0 (omega arith) .setting-is,
+        a .1 .low,
+        a .1 .high,
+        omega arith,
+        omega arith,
+        a .1 .valid,
+        a .1 .table _
+            (projection-low _),
+      ),
+      a .2,
+    )
 
 loop-holds : tie.Need-loop-holds Inv-loop μ-loop
 loop-holds c = (omega arith, growing-start _ _ _ (c .before .before .before .pre .3))
@@ -30,8 +44,14 @@ loop-holds c = (omega arith, growing-start _ _ _ (c .before .before .before .pre
 liability-of-requires : tie.Need-liability-of-requires Inv-loop μ-loop
 liability-of-requires c κs =
     let l = c .before .before in
-    let a = l .before .before .before .before .pre in
-    (a .0 (l .loop .j) (c .before .loop-test .taken) .setting-is, a .0 0 (omega arith) .setting-is, a .1, a .2, l .before .amounts-in .ensures)
+    let a = l .before .before .before .before .pre in (
+      a .0 (l .loop .j) (c .before .loop-test .taken) .setting-is,
+      a .0 0 (omega arith) .setting-is,
+      a .1,
+      a .2,
+      l
+          .before .amounts-in .ensures,
+    )
 
 -- the group's liability in setting j, and the total that it is added to
 liability : (m : tie.After-liability-of Inv-loop μ-loop) →
@@ -41,7 +61,8 @@ liability : (m : tie.After-liability-of Inv-loop μ-loop) →
 liability m =
     let l = m .before .before .before in
     let a = l .before .before .before .before in
-    rw (a .pre .0 (l .loop .j) (m .before .before .loop-test .taken) .number-is) at (liability-read _ _ _ _ (m .liability-of .ok) (m .liability-of .ensures))
+    rw (a .pre .0 (l .loop .j) (m .before .before .loop-test .taken) .number-is) at
+    (liability-read _ _ _ _ (m .liability-of .ok) (m .liability-of .ensures))
 
 due : (m : tie.After-liability-of Inv-loop μ-loop) →
     let l = m .before .before .before in
@@ -49,7 +70,8 @@ due : (m : tie.After-liability-of Inv-loop μ-loop) →
     Sum (a .book .now) (l .loop .j) (a .group - 1) (toZ w64 (ofZ w64 (getD (l .loop .totals) (l .loop .j) (pos 0))))
 due m =
     let l = m .before .before .before in
-    sum-read _ _ _ _ (omega (arith, l .before .before .before .before .pre .1 .high)) (l .loop .inv .1 .due (l .loop .j) (omega arith) (m .before .before .loop-test .taken))
+    sum-read _ _ _ _ (omega (arith, l .before .before .before .before .pre .1 .high))
+    (l .loop .inv .1 .due (l .loop .j) (omega arith) (m .before .before .loop-test .taken))
 
 plus-requires : tie.Need-plus-requires Inv-loop μ-loop
 plus-requires c κs =
@@ -61,8 +83,11 @@ loop-again c =
     let m = c .before .before in
     let l = m .before .before .before in
     let few = m .before .before .loop-test .taken in
-    let a = l .before .before .before .before .pre in
-    (omega (arith, few), growing-more _ _ (l .loop .j) _ _ few (l .loop .inv .1) (sum-stored _ _ _ _ _ _ (a .1 .low) (c .plus .ok) (due m) (liability m) (c .plus .ensures)))
+    let a = l .before .before .before .before .pre in (
+      omega (arith, few),
+      growing-more _ _ (l .loop .j) _ _ few (l .loop .inv .1)
+          (sum-stored _ _ _ _ _ _ (a .1 .low) (c .plus .ok) (due m) (liability m) (c .plus .ensures)),
+    )
 
 returns : tie.Need-returns Inv-loop μ-loop
 returns c =
@@ -71,5 +96,6 @@ returns c =
 
 pub add-group-spec : {M : Type 1} → statement M
 add-group-spec = tie.close
-    (tie.spec Inv-loop μ-loop (λ c. omega arith) amounts-in-requires loop-holds (λ c. omega arith) (λ c. omega arith) liability-of-requires (λ c. omega arith) (λ c. omega arith) plus-requires
+    (tie.spec Inv-loop μ-loop (λ c. omega arith) amounts-in-requires loop-holds (λ c. omega arith) (λ c. omega arith)
+    liability-of-requires (λ c. omega arith) (λ c. omega arith) plus-requires
     (λ c. omega arith) (λ c. omega arith) (λ c. omega arith) (λ c. omega arith) loop-again returns)

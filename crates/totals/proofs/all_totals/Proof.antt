@@ -1,4 +1,5 @@
--- `totals::all_totals` meets its contract. The invariant: the totals have the groups before this one. The measure is the number of groups left.
+-- `totals::all_totals` meets its contract. The invariant: the totals have the groups before this one. The measure is
+-- the number of groups left.
 -- Assumes nothing.
 use mathlib.Core.Logic.{inl}
 use mathlib.Core.Path.{_≡_, refl}
@@ -11,7 +12,8 @@ use Rattle.totals.proofs.all_totals.Statement.{statement}
 use Rattle.totals.proofs.all_totals.Tie as tie
 
 abbrev Inv-loop : tie.InvT-loop
-Inv-loop book divisors fractions w settings rows₀ totals₀ group₀ rows totals group = (1 ≤ group) × (group ≤ 6) × Sums book (group - 1) totals
+Inv-loop book divisors fractions w settings rows₀ totals₀ group₀ rows totals group =
+    (1 ≤ group) × (group ≤ 6) × Sums book (group - 1) totals
 
 abbrev μ-loop : tie.MeasureT-loop
 μ-loop book divisors fractions w settings rows₀ totals₀ group₀ rows totals group = 6 - group
@@ -30,7 +32,14 @@ add-group-requires c κs =
     let n = l .before .before in
     let v = n .before .before .before in (
       l .before .eight-settings .ensures,
-      record { valid = v .before .before .pre; low = l .loop .inv .0; high = omega (arith, g .before .before .before .loop-test .taken); table = λ s h. g .group-sums .ensures .table s h (inl refl) },
+      record {
+        valid = v .before .before .pre;
+        low = l .loop .inv .0;
+        high = omega
+            (arith, g .before .before .before .loop-test .taken);
+        table = λ s h. g .group-sums .ensures .table s h
+            (inl refl);
+      },
       v .curve-of .ensures,
       l .loop .inv .2,
     )
@@ -38,8 +47,12 @@ add-group-requires c κs =
 loop-again : tie.Need-loop-again Inv-loop μ-loop
 loop-again c =
     let l = c .before .before .before .before .before .before .before .before .before in
-    let e : l .loop .group + 1 - 1 ≡ l .loop .group = omega arith in
-    (omega arith, omega (arith, c .before .before .before .before .before .before .before .before .loop-test .taken), rw e (c .add-group .ensures))
+    let e : l .loop .group + 1 - 1 ≡ l .loop .group = omega arith in (
+      omega arith,
+      omega (arith, c .before .before .before .before .before .before .before .before .loop-test .taken),
+      rw
+          e (c .add-group .ensures),
+    )
 
 returns : tie.Need-returns Inv-loop μ-loop
 returns c =
@@ -49,5 +62,6 @@ returns c =
 
 pub all-totals-spec : {M : Type 1} → statement M
 all-totals-spec = tie.close
-    (tie.spec Inv-loop μ-loop (λ c κs. c .before .pre) (λ c κs. c .before .before .before .before .pre) (λ c κs. tt) (λ c. (omega arith, omega arith, sums-none _)) group-sums-requires add-group-requires
+    (tie.spec Inv-loop μ-loop (λ c κs. c .before .pre) (λ c κs. c .before .before .before .before .pre) (λ c κs. tt)
+    (λ c. (omega arith, omega arith, sums-none _)) group-sums-requires add-group-requires
     (λ c. omega arith) (λ c. omega arith) loop-again returns)

@@ -7,20 +7,28 @@ use Rattle.totals.proofs.computed.Statement.{statement}
 use Rattle.totals.proofs.computed.Tie as tie
 
 minus-requires : tie.Need-minus-requires
-minus-requires c κs = let h = c .before .before .all-totals .ensures in omega (arith, total-small _ _ h 1, total-small _ _ h 2)
+minus-requires c κs =
+    let h = c .before .before .all-totals .ensures in omega (arith, total-small _ _ h 1, total-small _ _ h 2)
 
 minus-requires-2 : tie.Need-minus-requires-2
-minus-requires-2 c κs = let h = c .before .before .before .before .before .all-totals .ensures in omega (arith, total-small _ _ h 3, total-small _ _ h 4)
+minus-requires-2 c κs =
+    let h = c .before .before .before .before .before .all-totals .ensures in omega
+    (arith, total-small _ _ h 3, total-small _ _ h 4)
 
 minus-requires-3 : tie.Need-minus-requires-3
-minus-requires-3 c κs = let h = c .before .before .before .before .before .before .before .before .all-totals .ensures in omega (arith, total-small _ _ h 5, total-small _ _ h 6)
+minus-requires-3 c κs =
+    let h = c .before .before .before .before .before .before .before .before .all-totals .ensures in omega
+    (arith, total-small _ _ h 5, total-small _ _ h 6)
 
 minus-requires-4 : tie.Need-minus-requires-4
-minus-requires-4 c κs = let h = c .before .before .before .before .before .before .before .before .before .before .before .all-totals .ensures in omega (arith, total-small _ _ h 7, total-small _ _ h 0)
+minus-requires-4 c κs =
+    let h = c .before .before .before .before .before .before .before .before .before .before .before .all-totals
+    .ensures in omega (arith, total-small _ _ h 7, total-small _ _ h 0)
 
 returns : tie.Need-returns
 returns c =
-    let h = c .before .before .before .before .before .before .before .before .before .before .before .before .all-totals .ensures in
+    let h = c .before .before .before .before .before .before .before .before .before .before .before .before
+    .all-totals .ensures in
     let d1 = c .before .before .before .before .before .before .before .before .before .minus in
     let d2 = c .before .before .before .before .before .before .minus2 in
     let d3 = c .before .before .before .minus3 in
@@ -36,5 +44,6 @@ returns c =
 pub computed-spec : {M : Type 1} → statement M
 computed-spec =
     tie.close
-    (tie.spec (λ c κs. c .before .pre) (search needs) (search needs) minus-requires (search needs) (search needs) minus-requires-2 (search needs) (search needs) minus-requires-3
+    (tie.spec (λ c κs. c .before .pre) (search needs) (search needs) minus-requires (search needs) (search needs)
+    minus-requires-2 (search needs) (search needs) minus-requires-3
     (search needs) (search needs) minus-requires-4 returns)

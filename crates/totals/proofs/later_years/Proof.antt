@@ -1,4 +1,5 @@
--- `totals::later_years` meets its contract: a setting whose later years are the base's has what these give. Assumes nothing.
+-- `totals::later_years` meets its contract: a setting whose later years are the base's has what these give. Assumes
+-- nothing.
 use mathlib.Core.Path.{sym, _∙_}
 use native.Mathlib.Omega.{arith}
 use Rattle.settings.proofs.Serving.{projection-low, later-decrements, later-outgo}
@@ -10,7 +11,8 @@ returns : tie.Need-returns
 returns c =
     let a = c .before .before .before in
     let same = sym (c .before .later-as .ensures) ∙ c .if1 .taken in
-    later-same _ _ _ (later-decrements _ _ (a .pre .0) (a .pre .1) same _) (later-outgo _ _ (a .pre .0) (a .pre .1) same) _ _ (a .pre .4)
+    later-same _ _ _ (later-decrements _ _ (a .pre .0) (a .pre .1) same _)
+    (later-outgo _ _ (a .pre .0) (a .pre .1) same) _ _ (a .pre .4)
 
 amounts-in-requires : tie.Need-amounts-in-requires
 amounts-in-requires c κs =

@@ -40,4 +40,5 @@ returns c =
     (e ∙ both-parts _ _ _ _ _ f l, rw e (parts-most _ _ _ _ _ f l))
 
 pub liability-of-spec : {M : Type 1} → statement M
-liability-of-spec = tie.close (tie.spec amounts-in-requires later-years-requires add-less add-less-2 less-requires returns)
+liability-of-spec =
+    tie.close (tie.spec amounts-in-requires later-years-requires add-less add-less-2 less-requires returns)

@@ -1,4 +1,4 @@
--- `totals::minus` meets its contract: the sizes leave room for the difference. Assumes nothing.
+-- `totals::minus` meets its contract: the sizes leave space for the difference. Assumes nothing.
 use mathlib.Core.Path.{_≡_}
 use native.Mathlib.Omega.{arith}
 use lib.IntN.{_-ℤ_}

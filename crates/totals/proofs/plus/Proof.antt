@@ -1,4 +1,4 @@
--- `totals::plus` meets its contract: the sizes leave room for the sum. Assumes nothing.
+-- `totals::plus` meets its contract: the sizes leave space for the sum. Assumes nothing.
 use mathlib.Core.Path.{_≡_, sym, subst}
 use Prim.Native.Nat.{_≤_, _+_}
 use native.Mathlib.Omega.{arith}
@@ -23,7 +23,8 @@ add-result c = rw (back c .0, back c .1) (fits c)
 
 returns : tie.Need-returns
 returns c =
-    let e : toZ w64 (ofZ w64 (toZ w64 (ofZ w64 (c .args .a)) +ℤ toZ w64 (ofZ w64 (c .args .b)))) ≡ c .args .a +ℤ c .args .b =
+    let e : toZ w64 (ofZ w64 (toZ w64 (ofZ w64 (c .args .a)) +ℤ toZ w64 (ofZ w64 (c .args .b)))) ≡ c .args .a +ℤ c .args
+    .b =
     rw (back c .0, back c .1) (toZ-ofZ w64 (c .args .a +ℤ c .args .b) (fits c)) in
     (e, subst (λ (z : ℤ). mag z ≤ mag (c .args .a) + mag (c .args .b) + 1) (sym e) (plus-mag (c .args .a) (c .args .b)))
 

@@ -1,4 +1,5 @@
--- `totals::totals` meets its contract: the reply is that of the verdict, and what is promised of it follows from the equation. Assumes nothing.
+-- `totals::totals` meets its contract: the reply is that of the verdict, and what is promised of it follows from the
+-- equation. Assumes nothing.
 use mathlib.Core.Path.{sym, _∙_}
 use borrow.Author.Needs.{needs}
 use Rattle.book.proofs.Valid.{valid}
@@ -24,4 +25,5 @@ returns-2 c =
     totals-promised _ _ (c .refused .ensures ∙ rw e)
 
 pub totals-spec : {M : Type 1} → statement M
-totals-spec = tie.close (tie.spec (search needs) (search needs) computed-requires (search needs) (search needs) returns returns-2)
+totals-spec = tie.close
+    (tie.spec (search needs) (search needs) computed-requires (search needs) (search needs) returns returns-2)

@@ -1,5 +1,6 @@
--- `year_report::measured_years` meets its contract. The invariant: the tables of the groups passed stand at their places,
--- and the bytes counted are those of the heading and of these groups' lines. The measure is the number of groups left.
+-- `year_report::measured_years` meets its contract. The invariant: the tables of the groups passed stand at their
+-- places, and the bytes counted are those of the heading and of these groups' lines. The measure is the number of
+-- groups left.
 -- Assumes nothing.
 use mathlib.Core.List.{_++_}
 use mathlib.Core.Path.{_≡_, refl, ap, _∙_}
@@ -36,7 +37,14 @@ loop-holds c = (search needs, refl, λ i h. absurd (omega arith), refl, search n
 year-table-requires : tie.Need-year-table-requires Inv-loop μ-loop
 year-table-requires c κs =
     let m = c .before .before in
-    record { setting-is = m .before .new .ensures .1; lo = omega arith; hi = omega (arith, c .loop-test .taken); book = m .before .before .before .pre .1; weights = m .new2 .ensures }
+    record {
+      setting-is = m .before .new .ensures .1;
+      lo = omega arith;
+      hi = omega (arith, c .loop-test .taken);
+      book =
+          m .before .before .before .pre .1;
+      weights = m .new2 .ensures;
+    }
 
 loop-again : tie.Need-loop-again Inv-loop μ-loop
 loop-again c =
@@ -62,5 +70,6 @@ returns c =
 pub measured-years-spec : {M : Type 1} → statement M
 measured-years-spec =
     tie.close
-    (tie.spec Inv-loop μ-loop new-requires new-requires-2 loop-holds (search needs) year-table-requires (search needs) (search needs)
+    (tie.spec Inv-loop μ-loop new-requires new-requires-2 loop-holds (search needs) year-table-requires (search needs)
+    (search needs)
     (search needs) (search needs) (search needs) (search needs) (search needs) loop-again returns)

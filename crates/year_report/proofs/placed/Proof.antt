@@ -1,4 +1,5 @@
--- `year_report::placed` meets its contract. The invariant: the years before k stand at their places. The measure is the number of years left.
+-- `year_report::placed` meets its contract. The invariant: the years before k stand at their places. The measure is the
+-- number of years left.
 -- Assumes nothing.
 use mathlib.Core.Path.{_≡_, refl, _∙_}
 use Prim.Native.Nat.{_+_, _-_, _*_, _≤_, _<_}
@@ -20,8 +21,13 @@ loop-again c =
     let l = c .before .before .before .loop in
     let a = c .before .before .before .before .args in
     let x = getD (a .premium .now) (l .k) 0 in
-    let y = getD (a .outgo .now) (l .k) 0 in
-    (omega arith, length-set (set (l .numbers) (4 * l .k) x) (4 * l .k + 1) y ∙ length-set (l .numbers) (4 * l .k) x ∙ l .inv .1, placed-more (a .premium .now) (a .outgo .now) (l .numbers) (l .k) (l .inv .1) (c .before .before .loop-test .taken) (l .inv .2))
+    let y = getD (a .outgo .now) (l .k) 0 in (
+      omega arith,
+      length-set (set (l .numbers) (4 * l .k) x) (4 * l .k + 1) y ∙ length-set (l .numbers) (4 * l .k) x ∙ l
+          .inv .1,
+      placed-more (a .premium .now) (a .outgo .now) (l .numbers) (l .k) (l .inv .1)
+          (c .before .before .loop-test .taken) (l .inv .2),
+    )
 
 returns : tie.Need-returns Inv-loop μ-loop
 returns c =
@@ -31,5 +37,8 @@ returns c =
 
 pub placed-spec : {M : Type 1} → statement M
 placed-spec = tie.close
-    (tie.spec Inv-loop μ-loop (λ c. (omega arith, refl, placed-none _ _ _)) (λ c. omega arith) (λ c. omega arith) (λ c. omega arith) (λ c. omega arith) (λ c. omega (arith, c .before .before .loop .inv .1)) (λ c. omega arith)
-    (λ c. omega arith) (λ c. omega arith) (λ c. omega arith) (λ c. omega arith) (λ c. omega (arith, c .before .before .before .loop .inv .1)) (λ c. omega arith) (λ c. omega arith) loop-again returns)
+    (tie.spec Inv-loop μ-loop (λ c. (omega arith, refl, placed-none _ _ _)) (λ c. omega arith) (λ c. omega arith)
+    (λ c. omega arith) (λ c. omega arith) (λ c. omega (arith, c .before .before .loop .inv .1)) (λ c. omega arith)
+    (λ c. omega arith) (λ c. omega arith) (λ c. omega arith) (λ c. omega arith)
+    (λ c. omega (arith, c .before .before .before .loop .inv .1)) (λ c. omega arith) (λ c. omega arith) loop-again
+    returns)

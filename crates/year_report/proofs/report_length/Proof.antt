@@ -1,5 +1,5 @@
--- `year_report::report_length` meets its contract: the verdict's refusal, else the length that the reckoning gives; what is
--- promised of it follows. Assumes nothing.
+-- `year_report::report_length` meets its contract: the verdict's refusal, else the length that the valuation gives;
+-- what is promised of it follows. Assumes nothing.
 use mathlib.Core.Path.{sym, ap, _∙_}
 use borrow.Author.Needs.{needs}
 use Rattle.buffer.specs.declared.TextReply.the-variants.{Bytes}

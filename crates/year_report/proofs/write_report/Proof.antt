@@ -1,5 +1,5 @@
 -- `year_report::write_report` meets its contract: where a refusal applies it is given and nothing is written; else
--- length and text are those of one reckoning, whose report is the book's. Assumes nothing.
+-- length and text are those of one valuation, whose report is the book's. Assumes nothing.
 use mathlib.Core.Path.{sym, _∙_}
 use native.Mathlib.Omega.{arith}
 use borrow.Author.Needs.{needs}

@@ -10,13 +10,28 @@ use Rattle.year_report.proofs.year_table.Tie as tie
 
 group-sums-requires : tie.Need-group-sums-requires
 group-sums-requires c κs =
-    let asked = c .before .before .before .pre in
-    (asked .weights, asked .book, asked .lo, asked .hi, omega (arith, asked .setting-is .projection-is, projection-low (c .before .before .before .args .s .number)), refl)
+    let asked = c .before .before .before .pre in (
+      asked .weights,
+      asked .book,
+      asked .lo,
+      asked .hi,
+      omega
+          (arith, asked .setting-is .projection-is, projection-low (c .before .before .before .args .s .number)),
+      refl,
+    )
 
 undiscounted-requires : tie.Need-undiscounted-requires
 undiscounted-requires c κs =
-    let asked = c .before .before .before .before .before .pre in
-    (asked .setting-is, asked .lo, asked .hi, omega arith, omega arith, asked .book, c .before .group-sums .ensures .table _ (projection-low _) (inr (asked .setting-is .projection-is)))
+    let asked = c .before .before .before .before .before .pre in (
+      asked .setting-is,
+      asked .lo,
+      asked .hi,
+      omega arith,
+      omega arith,
+      asked .book,
+      c .before .group-sums .ensures
+          .table _ (projection-low _) (inr (asked .setting-is .projection-is)),
+    )
 
 returns : tie.Need-returns
 returns c =

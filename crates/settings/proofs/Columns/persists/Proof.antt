@@ -1,4 +1,5 @@
--- `settings::Columns::persists` meets its contract: the test on the year picks the same column as the definition. Assumes nothing.
+-- `settings::Columns::persists` meets its contract: the test on the year picks the same column as the definition.
+-- Assumes nothing.
 use borrow.Author.Tests.{lt-ltb, le-ltb}
 use Rattle.settings.proofs.Columns.persists.Statement.{statement}
 use Rattle.settings.proofs.Columns.persists.Tie as tie

@@ -1,4 +1,5 @@
--- `settings::DecrementWeights::of_sex` meets its contract: the test on the sex picks the same weight as the definition. Assumes nothing.
+-- `settings::DecrementWeights::of_sex` meets its contract: the test on the sex picks the same weight as the definition.
+-- Assumes nothing.
 use borrow.Author.Tests.{eq-eqb, ne-eqb}
 use Rattle.settings.proofs.DecrementWeights.of_sex.Statement.{statement}
 use Rattle.settings.proofs.DecrementWeights.of_sex.Tie as tie

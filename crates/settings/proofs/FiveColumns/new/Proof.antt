@@ -6,7 +6,16 @@ use Rattle.settings.proofs.FiveColumns.new.Tie as tie
 
 returns : tie.Need-returns
 unfolding fiveColumns
-returns c = rw (c .before .before .before .before .new .ensures, c .before .before .before .new2 .ensures, c .before .before .new3 .ensures, c .before .new4 .ensures, c .new5 .ensures)
+returns c = rw (
+  c .before .before .before .before .new .ensures,
+  c .before .before .before .new2 .ensures,
+  c .before
+      .before .new3 .ensures,
+  c .before .new4 .ensures,
+  c .new5 .ensures,
+)
 
 pub new-spec : {M : Type 1} → statement M
-new-spec = tie.close (tie.spec (λ c κs. omega arith) (λ c κs. omega arith) (λ c κs. omega arith) (λ c κs. omega arith) (λ c κs. omega arith) returns)
+new-spec = tie.close
+    (tie.spec (λ c κs. omega arith) (λ c κs. omega arith) (λ c κs. omega arith) (λ c κs. omega arith)
+    (λ c κs. omega arith) returns)

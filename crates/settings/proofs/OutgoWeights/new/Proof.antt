@@ -1,4 +1,5 @@
--- `settings::OutgoWeights::new` meets its contract: each weight is the one read, and costs and claims have bounds of their own. Assumes nothing.
+-- `settings::OutgoWeights::new` meets its contract: each weight is the one read, and costs and claims have bounds of
+-- their own. Assumes nothing.
 use native.Mathlib.Omega.{arith}
 use Rattle.settings.proofs.Weights.{cost-weight-most, claims-weight-most}
 use borrow.Author.Needs.{needs}

@@ -1,4 +1,5 @@
--- `settings::Outgoings::cost_weight` meets its contract: the test on the year picks the same weights as the definition. Assumes nothing.
+-- `settings::Outgoings::cost_weight` meets its contract: the test on the year picks the same weights as the definition.
+-- Assumes nothing.
 use borrow.Author.Tests.{lt-ltb, le-ltb}
 use Rattle.settings.proofs.Outgoings.cost_weight.Statement.{statement}
 use Rattle.settings.proofs.Outgoings.cost_weight.Tie as tie

@@ -1,4 +1,5 @@
--- `settings::Outgoings::new` meets its contract: the first years are as year 0, the later ones as year 5. Assumes nothing.
+-- `settings::Outgoings::new` meets its contract: the first years are as year 0, the later ones as year 5. Assumes
+-- nothing.
 use Rattle.settings.specs.Settings.{outgoingsOf}
 use borrow.Author.Needs.{needs}
 use Rattle.settings.proofs.Outgoings.new.Statement.{statement}

@@ -9,7 +9,8 @@ use Rattle.settings.proofs.Shifts.new.Statement.{statement}
 use Rattle.settings.proofs.Shifts.new.Tie as tie
 
 -- what was read, as its record
-weights : (b : List ℕ) (setting : ℕ) (w : DecrementWeights) → (w ≡ decrementsAt b setting 0) × (w .men ≤ 1300) × (w .women ≤ 1300) × (w .lapse ≤ 1300) → WeightsOf b setting w
+weights : (b : List ℕ) (setting : ℕ) (w : DecrementWeights) → (w ≡ decrementsAt b setting 0) × (w .men ≤ 1300)
+    × (w .women ≤ 1300) × (w .lapse ≤ 1300) → WeightsOf b setting w
 weights b setting w h = record { are = h .0; men = h .1; women = h .2; lapse = h .3 }
 
 new-requires : tie.Need-new-requires

@@ -1,4 +1,4 @@
--- `Signed::plus` meets its contract: the sizes leave room for the sum. Assumes nothing.
+-- `Signed::plus` meets its contract: the sizes leave space for the sum. Assumes nothing.
 use mathlib.Core.Path.{refl}
 use native.Mathlib.Omega.{arith}
 use lib.IntN.{_+ℤ_}

@@ -1,4 +1,4 @@
--- `Signed::times` meets its contract: the sizes leave room for the product. Assumes nothing.
+-- `Signed::times` meets its contract: the sizes leave space for the product. Assumes nothing.
 use mathlib.Core.Path.{refl}
 use native.Mathlib.Omega.{arith}
 use lib.IntN.{_*ℤ_}
