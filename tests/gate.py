@@ -38,9 +38,9 @@ def script(name, module, least, *words):
     return Part(name, [sys.executable, "-m", module, *words], least)
 
 
-PROOFS = Part("proofs, must-fail edits and programs", ["rt", "ci"], 413)
+PROOFS = Part("proofs, must-fail edits and programs", ["rt", "ci"], 414)
 # The proofs of `quick`: a crate that is as it was when it was proved is not proved again.
-QUICK_PROOFS = Part("proofs and programs", ["rt", "check"], 59)
+QUICK_PROOFS = Part("proofs and programs", ["rt", "check"], 60)
 # What runs on the proved programs, two parts at once.
 PROGRAMS = [
     script("must-fail edits fit the proof files", "tests.repository.must_fail_reasons", 2),

@@ -10,7 +10,7 @@ use lib.Dec.{ltb}
 use Rattle.book.specs.Layout.{chainSex, sexOf, classOf, fieldOf, countOffset, lapseOffset, premiumOffset, claimsOffset}
 use Rattle.book.specs.Reading.{Standing}
 use Rattle.settings.specs.Settings.{weightOf, mortalityWeight, decrementsOf, mortalityIn, lapseIn, sameMortality}
-use Rattle.settings.specs.Settings.{livingColumn, stayingColumn}
+use Rattle.settings.specs.Settings.{survivalColumn, persistencyColumn}
 use Rattle.settings.proofs.Weights.{each-setting}
 use Rattle.settings.proofs.Held.{survival-low, persistency-low}
 use Rattle.settings.specs.declared.Decrements.{Decrements}
@@ -33,11 +33,11 @@ row-sum b i j (suc k) = rw (add-suc j k) (ap (onward b) (row-sum b i j k))
 module _ (b : List ℕ) (sex i k : ℕ) where
   Lives : ℕ → Type 0
   Lives setting =
-      rateOf b sex i (livingColumn setting k) ≡ oneLess (mortalityOf b sex (classOf b i))
+      rateOf b sex i (survivalColumn setting k) ≡ oneLess (mortalityOf b sex (classOf b i))
       (mortalityIn (decrementsOf b setting) sex k)
 
   column-survival : (setting : ℕ) → setting < 8 → Lives setting
-  unfolding Lives rateOf livingColumn sameMortality decrementsOf mortalityWeight weightOf
+  unfolding Lives rateOf survivalColumn sameMortality decrementsOf mortalityWeight weightOf
   column-survival = by (ltb k 5) refl
     where
       by : (early : Bool) → ltb k 5 ≡ early → (setting : ℕ) → setting < 8 → Lives setting
@@ -46,10 +46,10 @@ module _ (b : List ℕ) (sex i k : ℕ) where
 
   Stays : ℕ → Type 0
   Stays setting =
-      rateOf b sex i (stayingColumn setting k) ≡ oneLess (fieldOf b i lapseOffset) (lapseIn (decrementsOf b setting) k)
+      rateOf b sex i (persistencyColumn setting k) ≡ oneLess (fieldOf b i lapseOffset) (lapseIn (decrementsOf b setting) k)
 
   column-persistency : (setting : ℕ) → setting < 8 → Stays setting
-  unfolding Stays rateOf stayingColumn decrementsOf weightOf
+  unfolding Stays rateOf persistencyColumn decrementsOf weightOf
   column-persistency = by (ltb k 5) refl
     where
       by : (early : Bool) → ltb k 5 ≡ early → (setting : ℕ) → setting < 8 → Stays setting
@@ -81,7 +81,7 @@ module _ (b : List ℕ) (chain i : ℕ) (s : Standing b 120 chain i) (t : List �
 
   module _ (setting : ℕ) (known : setting < 8) where
     survival-is : (k : ℕ) → k < 50
-        → rate t (own + k) (livingColumn setting k) ≡ oneLess
+        → rate t (own + k) (survivalColumn setting k) ≡ oneLess
         (mortalityOf b (sexOf b record-of) (classOf b (rowAt b record-of k)))
         (mortalityIn (decrementsOf b setting) (sexOf b record-of) k)
     unfolding Lives
@@ -90,7 +90,7 @@ module _ (b : List ℕ) (chain i : ℕ) (s : Standing b 120 chain i) (t : List �
         (rowAt b record-of k) k setting known)
 
     persistency-is : (k : ℕ) → k < 50
-        → rate t (own + k) (stayingColumn setting k) ≡ oneLess (fieldOf b (rowAt b record-of k) lapseOffset)
+        → rate t (own + k) (persistencyColumn setting k) ≡ oneLess (fieldOf b (rowAt b record-of k) lapseOffset)
         (lapseIn (decrementsOf b setting) k)
     unfolding Stays
     persistency-is k h =

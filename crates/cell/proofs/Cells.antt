@@ -7,7 +7,7 @@ use Prim.Native.Nat.{ℕ, zero, suc, _+_, _*_, _/_, _≤_, _<_}
 use native.Mathlib.Nat.{add-zero, le-trans, mul-le-mul, mul-le-mul-left, div-le-of-le-mul}
 use native.Mathlib.Numerals.{add-one}
 use native.Mathlib.Omega.{arith}
-use Rattle.settings.specs.Settings.{livingColumn, stayingColumn, columnsOf, livesIn, staysIn}
+use Rattle.settings.specs.Settings.{survivalColumn, persistencyColumn, columnsOf, survivesIn, persistsIn}
 use Rattle.settings.specs.declared.Columns.{Columns}
 use Rattle.settings.proofs.Held.{survival-low, persistency-low, survives-is, persists-is}
 use Rattle.valuation.specs.Arithmetic.{rounded}
@@ -35,14 +35,14 @@ module _ (t : List ℕ) (c : Cell) (r : Ready t c) where
 
 -- the columns of a setting are those of its year k
 module _ (setting k : ℕ) (columns : Columns) (e : columns ≡ columnsOf setting) where
-  pub held-low : (livesIn columns k ≤ 5) × (staysIn columns k ≤ 5)
+  pub held-low : (survivesIn columns k ≤ 5) × (persistsIn columns k ≤ 5)
   held-low = rw e (
     omega (arith, survives-is setting k, survival-low setting k),
     omega
         (arith, persists-is setting k, persistency-low setting k),
   )
 
-  pub next-held : (t : List ℕ) (c r : Cell) → r ≡ nextBy t (livesIn columns k) (staysIn columns k) c
+  pub next-held : (t : List ℕ) (c r : Cell) → r ≡ nextBy t (survivesIn columns k) (persistsIn columns k) c
       → r ≡ nextYear t setting k c
   unfolding nextYear
   next-held t c r h = h ∙ rw (e, survives-is setting k, persists-is setting k)
@@ -79,8 +79,8 @@ module _ (t : List ℕ) (r n setting : ℕ) where
     inforce-le zero h = omega (arith, s .few)
     inforce-le (suc k) h =
         let row = s .rows k (omega arith) in
-        le-trans (share-le _ _ (row .shares (stayingColumn setting k) (omega (arith, persistency-low setting k))))
-        (le-trans (share-le _ _ (row .shares (livingColumn setting k) (omega (arith, survival-low setting k))))
+        le-trans (share-le _ _ (row .shares (persistencyColumn setting k) (omega (arith, persistency-low setting k))))
+        (le-trans (share-le _ _ (row .shares (survivalColumn setting k) (omega (arith, survival-low setting k))))
         (inforce-le k (omega arith)))
 
     -- every state of the valuation can go on

@@ -4,7 +4,7 @@ use mathlib.Core.List.{List}
 use Prim.Native.Nat.{ℕ, _+_, _*_, _/_, _<_, _≤_}
 use lib.ListN.{getD}
 use Rattle.arith.specs.Fractions.{IsFraction}
-use Rattle.settings.specs.Settings.{livingColumn, stayingColumn}
+use Rattle.settings.specs.Settings.{survivalColumn, persistencyColumn}
 use Rattle.settings.specs.declared.Decrements.{Decrements}
 use Rattle.valuation.specs.Arithmetic.{rounded}
 use Rattle.valuation.specs.Steps as steps
@@ -17,8 +17,8 @@ use Rattle.cell.specs.declared.Cell.{Cell}
 unfoldable pub cellIn : List ℕ → ℕ → ℕ → ℕ → steps.Cell
 cellIn t r n setting = record {
   count = n;
-  survival = λ k. rate t (r + k) (livingColumn setting k);
-  persistency = λ k. rate t (r + k) (stayingColumn setting k);
+  survival = λ k. rate t (r + k) (survivalColumn setting k);
+  persistency = λ k. rate t (r + k) (persistencyColumn setting k);
   premium = λ k. rate t (r + k) 6;
   claims = λ k. rate t (r + k) 7;
 }
@@ -56,7 +56,7 @@ nextBy t survives persists c = record {
 
 -- the state a year after year k of a setting
 unfoldable pub nextYear : List ℕ → ℕ → ℕ → Cell → Cell
-nextYear t setting k = nextBy t (livingColumn setting k) (stayingColumn setting k)
+nextYear t setting k = nextBy t (survivalColumn setting k) (persistencyColumn setting k)
 
 -- the state in year k of a setting, as the valuation has it
 unfoldable pub stateIn : List ℕ → ℕ → ℕ → ℕ → ℕ → Cell

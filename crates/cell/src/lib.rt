@@ -3,7 +3,7 @@
 // Internal: the functions ask for rows as `rows` reads them from an accepted book.
 ghost use mathlib.Core.Path.{_≡_};
 ghost use Prim.Native.Nat.{_*_, _<_, _≤_};
-ghost use Rattle.settings.specs.Settings.{livesIn, staysIn};
+ghost use Rattle.settings.specs.Settings.{survivesIn, persistsIn};
 ghost use Rattle.cell.specs.States.{Ready, ShareAt, shareOf, nextBy, premiumIn, claimsIn};
 use rate_table::CLAIMS;
 use rate_table::COLUMNS;
@@ -67,9 +67,9 @@ impl Cell {
     // The state a year after year k of the setting that has these columns.
     pub fn next_year(self, rows: &RateTable, columns: Columns, k: usize) -> Cell
         requires { ⌜ Ready (now rows) self
-            × (livesIn columns k ≤ 5)
-            × (staysIn columns k ≤ 5) ⌝ }
-        ensures { λ r. ⌜ r ≡ nextBy (now (rows .entry)) (livesIn columns k) (staysIn columns k) self
+            × (survivesIn columns k ≤ 5)
+            × (persistsIn columns k ≤ 5) ⌝ }
+        ensures { λ r. ⌜ r ≡ nextBy (now (rows .entry)) (survivesIn columns k) (persistsIn columns k) self
             ⌝ }
     {
         self.next_by(rows, columns.survives(k), columns.persists(k))

@@ -1,6 +1,4 @@
-pub mod Years
 pub mod Ends
+pub mod Years
 pub mod Single
-pub mod Fives
-pub mod Least
 pub mod Records

@@ -16,8 +16,7 @@ use Rattle.valuation.specs.Steps.{inForce}
 use Rattle.cell.specs.declared.Cell.{Cell}
 use Rattle.cell.specs.States.{cellIn, stateIn, nextYear, Ready, Projectable}
 use Rattle.cell.proofs.Cells.{state-ready, state-next, inforce-is, premium-is, claims-is, premium-by-le, claims-by-le}
-use Rattle.cell_projection.specs.Tables.{amountBy, added, sumWithin, chosen, Among, twoMore, AtMost}
-use Rattle.cell_projection.specs.Five.{yearMore}
+use Rattle.cell_projection.specs.Tables.{amountBy, added, sumWithin, chosen, Among, twoMore, AtMost, yearMore}
 use Rattle.cell_projection.specs.Projected.{ReachedIn, ProjectedIn}
 use Rattle.cell_projection.proofs.Years.{two-added, added-rest, added-same, added-join, added-most}
 use Rattle.cell_projection.proofs.Years.{amount-premium, amount-claims, amount-each}

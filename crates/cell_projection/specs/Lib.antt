@@ -1,4 +1,3 @@
 pub mod Tables
 pub mod Ends
-pub mod Five
 pub mod Projected

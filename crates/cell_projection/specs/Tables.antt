@@ -4,13 +4,14 @@ use mathlib.Core.Bool.{cond}
 use mathlib.Core.List.{List, [], _∷_}
 use mathlib.Core.Logic.{_⊎_}
 use mathlib.Core.Path.{_≡_}
-use Prim.Native.Nat.{ℕ, zero, suc, _+_, _/_, _%_, _≤_}
+use Prim.Native.Nat.{ℕ, zero, suc, _+_, _*_, _/_, _%_, _≤_}
 use lib.Dec.{ltb, eqb}
 use lib.ListN.{getD, set}
 use Rattle.settings.specs.Settings.{decrementsOf}
 use Rattle.valuation.specs.Steps.{Cell}
 use Rattle.valuation.specs.Portfolio.{cellOf}
-use Rattle.cell.specs.States.{premiumBy, claimsBy}
+use Rattle.cell.specs.declared.Cell.{Cell as State}
+use Rattle.cell.specs.States.{premiumBy, claimsBy, premiumIn, claimsIn}
 
 -- what a cell adds to number j, where c gives it in each projection: premium at the even places, claims at the odd ones
 unfoldable pub amountBy : (ℕ → Cell) → ℕ → ℕ
@@ -60,3 +61,7 @@ oneMore t j x = set t j (getD t j 0 + x)
 
 unfoldable pub twoMore : List ℕ → ℕ → ℕ → ℕ → List ℕ
 twoMore t j x y = oneMore (oneMore t j x) (j + 1) y
+
+-- premium and claims of a state in year k of a projection, added at their places
+abbrev pub yearMore : List ℕ → ℕ → ℕ → State → List ℕ → List ℕ
+yearMore t setting k c u = twoMore u (10 * k + 2 * setting) (premiumIn t c) (claimsIn t c)

@@ -18,7 +18,7 @@ use settings::FiveColumns;
 use settings::Shifts;
 
 // In place of a projection: all five.
-pub const ALL: usize = cell_projection::ALL;
+pub const ALL: usize = five_projections::ALL;
 
 // The first chain of a product group.
 fn first_chain(group: usize) -> usize
@@ -69,7 +69,7 @@ fn add_cells(
     let mut n: u64 = 0;
     loop {
         let count = book::field_of(book, i, book::COUNT_OFFSET);
-        cell_projection::project_by(rows, own, count, five, one, which, sums);
+        five_projections::project_by(rows, own, count, five, one, which, sums);
         n += book::holds(book, i);
         if above == 0 {
             return n;

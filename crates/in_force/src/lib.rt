@@ -5,7 +5,7 @@ ghost use mathlib.Core.List.{_++_};
 ghost use Prim.Native.Nat.{_<_, _≤_};
 ghost use lib.ListN.{length, drop};
 ghost use Rattle.book.specs.Reading.{Standing, ValidBook};
-ghost use Rattle.settings.specs.Settings.{decrementsOf, livesIn, staysIn};
+ghost use Rattle.settings.specs.Settings.{decrementsOf, survivesIn, persistsIn};
 ghost use Rattle.cell.specs.States.{Ready, nextBy};
 ghost use Rattle.valuation.specs.Arithmetic.{rounded};
 ghost use Rattle.valuation.specs.Steps.{inForce};
@@ -70,9 +70,9 @@ fn record_of(book: &[u8], k: usize, class: usize) -> usize
 // nothing in any later year.
 fn year_later(rows: &RateTable, cell: Cell, columns: Columns, k: usize) -> Cell
     requires { ⌜ Ready (now rows) cell
-        × (livesIn columns k ≤ 5)
-        × (staysIn columns k ≤ 5) ⌝ }
-    ensures { λ r. ⌜ r ≡ nextBy (now (rows .entry)) (livesIn columns k) (staysIn columns k) cell ⌝ }
+        × (survivesIn columns k ≤ 5)
+        × (persistsIn columns k ≤ 5) ⌝ }
+    ensures { λ r. ⌜ r ≡ nextBy (now (rows .entry)) (survivesIn columns k) (persistsIn columns k) cell ⌝ }
 {
     if cell.inforce == 0 {
         return Cell {

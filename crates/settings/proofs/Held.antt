@@ -4,24 +4,24 @@ use mathlib.Core.Bool.{Bool, true, false, _&&_, cond}
 use Prim.Native.Nat.{ℕ, _≤_}
 use native.Mathlib.Omega.{arith}
 use lib.Dec.{ltb, eqb}
-use Rattle.settings.specs.Settings.{weightIn, weightOf, sameMortality, livingColumn, stayingColumn, columnsOf}
-use Rattle.settings.specs.Settings.{livesIn, staysIn}
+use Rattle.settings.specs.Settings.{weightIn, weightOf, sameMortality, survivalColumn, persistencyColumn, columnsOf}
+use Rattle.settings.specs.Settings.{survivesIn, persistsIn}
 use Rattle.settings.proofs.Weights.{pick-le}
 
 module _ (setting k : ℕ) where
-  pub survival-low : livingColumn setting k ≤ 2
-  unfolding livingColumn
+  pub survival-low : survivalColumn setting k ≤ 2
+  unfolding survivalColumn
   survival-low = pick-le (sameMortality setting k 0) 2 (omega arith)
       (pick-le (sameMortality setting k 1) 2 (omega arith) (omega arith))
 
-  pub persistency-low : stayingColumn setting k ≤ 5
-  unfolding stayingColumn
+  pub persistency-low : persistencyColumn setting k ≤ 5
+  unfolding persistencyColumn
   persistency-low =
       pick-le (eqb (weightOf setting 2 k) (weightOf 0 2 0)) 5 (omega arith)
       (pick-le (eqb (weightOf setting 2 k) (weightOf 3 2 0)) 5 (omega arith) (omega arith))
 
-  pub survives-is : livesIn (columnsOf setting) k ≡ livingColumn setting k
-  unfolding columnsOf livingColumn sameMortality weightOf
+  pub survives-is : survivesIn (columnsOf setting) k ≡ survivalColumn setting k
+  unfolding columnsOf survivalColumn sameMortality weightOf
   survives-is = by (ltb k 5)
     where
       same : Bool → ℕ → Bool
@@ -34,8 +34,8 @@ module _ (setting k : ℕ) where
       by true = refl
       by false = refl
 
-  pub persists-is : staysIn (columnsOf setting) k ≡ stayingColumn setting k
-  unfolding columnsOf stayingColumn weightOf
+  pub persists-is : persistsIn (columnsOf setting) k ≡ persistencyColumn setting k
+  unfolding columnsOf persistencyColumn weightOf
   persists-is = by (ltb k 5)
     where
       of : Bool → ℕ

@@ -7,7 +7,7 @@ use Prim.Native.Nat.{ℕ, _<_, _≤_}
 use native.Mathlib.Omega.{arith}
 use lib.Dec.{eqb}
 use borrow.Author.Tests.{eqb-true}
-use Rattle.settings.specs.Settings.{weightOf, mortalityWeight, sameMortality, livingColumn, stayingColumn}
+use Rattle.settings.specs.Settings.{weightOf, mortalityWeight, sameMortality, survivalColumn, persistencyColumn}
 use Rattle.settings.specs.Settings.{columnsOf, sameColumns}
 use Rattle.settings.specs.Settings.{decrementsOf, outgoingsOf, projectionOf, SettingOf, laterAs}
 use Rattle.settings.specs.declared.Setting.{Setting}
@@ -15,7 +15,7 @@ use Rattle.settings.proofs.Weights.{pick-le, each-setting}
 
 -- a setting has the weights of mortality and lapse of the projection that serves it
 pub served : (b : List ℕ) (setting : ℕ) → setting < 8 → decrementsOf b (projectionOf setting) ≡ decrementsOf b setting
-unfolding projectionOf sameColumns columnsOf livingColumn sameMortality stayingColumn decrementsOf mortalityWeight
+unfolding projectionOf sameColumns columnsOf survivalColumn sameMortality persistencyColumn decrementsOf mortalityWeight
     weightOf
 served b = each-setting (λ s. decrementsOf b (projectionOf s) ≡ decrementsOf b s) refl refl refl refl refl refl refl
     refl

@@ -118,28 +118,28 @@ sameMortality setting k other =
     eqb (weightOf setting 0 k) (weightOf other 0 0) && eqb (weightOf setting 1 k) (weightOf other 1 0)
 
 -- the column of the weights of mortality that hold in year k of a setting: 0 the base's, 1 of more deaths, 2 of fewer
-unfoldable pub livingColumn : ℕ → ℕ → ℕ
-livingColumn setting k = cond (sameMortality setting k 0) 0 (cond (sameMortality setting k 1) 1 2)
+unfoldable pub survivalColumn : ℕ → ℕ → ℕ
+survivalColumn setting k = cond (sameMortality setting k 0) 0 (cond (sameMortality setting k 1) 1 2)
 
 -- the column of the weight of the lapse: 3 the base's, 4 of more lapses, 5 of fewer
-unfoldable pub stayingColumn : ℕ → ℕ → ℕ
-stayingColumn setting k =
+unfoldable pub persistencyColumn : ℕ → ℕ → ℕ
+persistencyColumn setting k =
     cond (eqb (weightOf setting 2 k) (weightOf 0 2 0)) 3 (cond (eqb (weightOf setting 2 k) (weightOf 3 2 0)) 4 5)
 
 -- both for the first five years and for the later ones
 unfoldable pub columnsOf : ℕ → Columns
 columnsOf setting = record {
-  firstlives = livingColumn setting 0;
-  firststays = stayingColumn setting 0;
-  laterlives = livingColumn setting 5;
-  laterstays = stayingColumn setting 5;
+  firstlives = survivalColumn setting 0;
+  firststays = persistencyColumn setting 0;
+  laterlives = survivalColumn setting 5;
+  laterstays = persistencyColumn setting 5;
 }
 
-abbrev pub livesIn : Columns → ℕ → ℕ
-livesIn c k = cond (ltb k 5) (c .firstlives) (c .laterlives)
+abbrev pub survivesIn : Columns → ℕ → ℕ
+survivesIn c k = cond (ltb k 5) (c .firstlives) (c .laterlives)
 
-abbrev pub staysIn : Columns → ℕ → ℕ
-staysIn c k = cond (ltb k 5) (c .firststays) (c .laterstays)
+abbrev pub persistsIn : Columns → ℕ → ℕ
+persistsIn c k = cond (ltb k 5) (c .firststays) (c .laterstays)
 
 -- those of the five settings that serve all
 unfoldable pub fiveColumns : FiveColumns

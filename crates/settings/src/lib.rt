@@ -7,8 +7,8 @@ ghost use Prim.Native.Nat.{_<_, _≤_};
 ghost use Rattle.book.specs.Reading.{ValidBook};
 ghost use Rattle.settings.specs.Settings.{weightOf, percentOf, mortalityWeight, decrementsAt};
 ghost use Rattle.settings.specs.Settings.{outgoAt, outgoingsOf};
-ghost use Rattle.settings.specs.Settings.{livingColumn, stayingColumn, columnsOf, livesIn};
-ghost use Rattle.settings.specs.Settings.{staysIn, fiveColumns};
+ghost use Rattle.settings.specs.Settings.{survivalColumn, persistencyColumn, columnsOf, survivesIn};
+ghost use Rattle.settings.specs.Settings.{persistsIn, fiveColumns};
 ghost use Rattle.settings.specs.Settings.{ofSex, costsIn, claimsWeightIn, ShiftsOf};
 ghost use Rattle.settings.specs.Settings.{OutgoWeighed};
 ghost use Rattle.settings.specs.Settings.{sameMortality, sameColumns, projectionOf};
@@ -311,7 +311,7 @@ fn same_mortality(setting: usize, k: usize, other: usize) -> bool
 // weights which hold, 0 the base's, 1 of more deaths, 2 of fewer.
 fn survival_column(setting: usize, k: usize) -> usize
     requires { ⌜ setting < 8 ⌝ }
-    ensures { λ r. ⌜ r ≡ livingColumn setting k ⌝ }
+    ensures { λ r. ⌜ r ≡ survivalColumn setting k ⌝ }
 {
     if same_mortality(setting, k, 0) {
         return 0;
@@ -322,7 +322,7 @@ fn survival_column(setting: usize, k: usize) -> usize
 // The one of what stays: 3 the base's, 4 of more lapses, 5 of fewer.
 fn persistency_column(setting: usize, k: usize) -> usize
     requires { ⌜ setting < 8 ⌝ }
-    ensures { λ r. ⌜ r ≡ stayingColumn setting k ⌝ }
+    ensures { λ r. ⌜ r ≡ persistencyColumn setting k ⌝ }
 {
     let held = weight(setting, LAPSE, k);
     let base = weight(0, LAPSE, 0);
@@ -357,7 +357,7 @@ impl Columns {
 
     // The column of what lives on in the year k.
     pub fn survives(self, k: usize) -> usize
-        ensures { λ r. ⌜ r ≡ livesIn self k ⌝ }
+        ensures { λ r. ⌜ r ≡ survivesIn self k ⌝ }
     {
         if k < 5 {
             self.firstlives
@@ -368,7 +368,7 @@ impl Columns {
 
     // The column of what stays in the year k.
     pub fn persists(self, k: usize) -> usize
-        ensures { λ r. ⌜ r ≡ staysIn self k ⌝ }
+        ensures { λ r. ⌜ r ≡ persistsIn self k ⌝ }
     {
         if k < 5 {
             self.firststays

@@ -3,12 +3,12 @@
 use native.Mathlib.Omega.{arith}
 use borrow.Author.Needs.{needs}
 use borrow.Author.Tests.{eq-eqb, ne-eqb}
-use Rattle.settings.specs.Settings.{stayingColumn}
+use Rattle.settings.specs.Settings.{persistencyColumn}
 use Rattle.settings.proofs.persistency_column.Statement.{statement}
 use Rattle.settings.proofs.persistency_column.Tie as tie
 
 returns : tie.Need-returns
-unfolding stayingColumn
+unfolding persistencyColumn
 returns c =
     let m = c .before in
     rw (
@@ -20,7 +20,7 @@ returns c =
     )
 
 returns-2 : tie.Need-returns-2
-unfolding stayingColumn
+unfolding persistencyColumn
 returns-2 c =
     let m = c .before .before in
     rw (
@@ -33,7 +33,7 @@ returns-2 c =
     )
 
 returns-3 : tie.Need-returns-3
-unfolding stayingColumn
+unfolding persistencyColumn
 returns-3 c =
     let m = c .before .before in
     rw (

@@ -3,16 +3,16 @@
 use mathlib.Core.Path.{sym, _∙_}
 use native.Mathlib.Omega.{arith}
 use borrow.Author.Needs.{needs}
-use Rattle.settings.specs.Settings.{livingColumn}
+use Rattle.settings.specs.Settings.{survivalColumn}
 use Rattle.settings.proofs.survival_column.Statement.{statement}
 use Rattle.settings.proofs.survival_column.Tie as tie
 
 returns : tie.Need-returns
-unfolding livingColumn
+unfolding survivalColumn
 returns c = rw (sym (c .before .same-mortality .ensures) ∙ c .if1 .taken)
 
 returns-2 : tie.Need-returns-2
-unfolding livingColumn
+unfolding survivalColumn
 returns-2 c =
     let m = c .before .before in
     rw (
@@ -22,7 +22,7 @@ returns-2 c =
     )
 
 returns-3 : tie.Need-returns-3
-unfolding livingColumn
+unfolding survivalColumn
 returns-3 c =
     let m = c .before .before in
     rw (

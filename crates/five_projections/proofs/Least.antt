@@ -7,13 +7,13 @@ use Prim.Native.Nat.{ℕ, zero, suc, _+_, _*_, _/_, _≤_, _<_}
 use native.Mathlib.Nat.{mul-le-mul}
 use native.Mathlib.Omega.{arith}
 use lib.Dec.{ltb}
-use Rattle.settings.specs.Settings.{weightOf, sameMortality, livingColumn, stayingColumn}
+use Rattle.settings.specs.Settings.{weightOf, sameMortality, survivalColumn, persistencyColumn}
 use Rattle.valuation.specs.Arithmetic.{rounded}
 use Rattle.valuation.specs.Steps.{Cell, inForce}
 use Rattle.rate_table.specs.Rows.{rate, RowOrdered}
 use Rattle.cell.specs.States.{cellIn, stateIn, Projectable}
-use Rattle.cell_projection.specs.Five.{fiveIn, LeastInForce, AllInForce}
-use Rattle.cell_projection.specs.declared.Five.{Five}
+use Rattle.five_projections.specs.Five.{fiveIn, LeastInForce, AllInForce}
+use Rattle.five_projections.specs.declared.Five.{Five}
 
 share-mono : (a b x y : ℕ) → a ≤ b → x ≤ y → a * x / 1_000_000_000 ≤ b * y / 1_000_000_000
 share-mono a b x y h g = omega (arith, mul-le-mul h g)
@@ -35,13 +35,13 @@ module _ (t : List ℕ) (r n : ℕ) (s : Projectable t r n) where
     o = s .ordered k h
 
     Survives : ℕ → ℕ → Type 0
-    Survives a b = rate t (r + k) (livingColumn a k) ≤ rate t (r + k) (livingColumn b k)
+    Survives a b = rate t (r + k) (survivalColumn a k) ≤ rate t (r + k) (survivalColumn b k)
 
     Persists : ℕ → ℕ → Type 0
-    Persists a b = rate t (r + k) (stayingColumn a k) ≤ rate t (r + k) (stayingColumn b k)
+    Persists a b = rate t (r + k) (persistencyColumn a k) ≤ rate t (r + k) (persistencyColumn b k)
 
     mortality-up-survives : Survives 1 0
-    unfolding Survives livingColumn sameMortality weightOf
+    unfolding Survives survivalColumn sameMortality weightOf
     mortality-up-survives = by (ltb k 5) refl
       where
         by : (early : Bool) → ltb k 5 ≡ early → Survives 1 0
@@ -49,7 +49,7 @@ module _ (t : List ℕ) (r n : ℕ) (s : Projectable t r n) where
         by false e = rw e (omega arith)
 
     mortality-down-survives : Survives 0 2
-    unfolding Survives livingColumn sameMortality weightOf
+    unfolding Survives survivalColumn sameMortality weightOf
     mortality-down-survives = by (ltb k 5) refl
       where
         by : (early : Bool) → ltb k 5 ≡ early → Survives 0 2
@@ -57,7 +57,7 @@ module _ (t : List ℕ) (r n : ℕ) (s : Projectable t r n) where
         by false e = rw e (omega arith)
 
     base-survives : (Survives 3 0) × (Survives 0 4)
-    unfolding Survives livingColumn sameMortality weightOf
+    unfolding Survives survivalColumn sameMortality weightOf
     base-survives = by (ltb k 5) refl
       where
         by : (early : Bool) → ltb k 5 ≡ early → (Survives 3 0) × (Survives 0 4)
@@ -65,7 +65,7 @@ module _ (t : List ℕ) (r n : ℕ) (s : Projectable t r n) where
         by false e = (rw e (omega arith), rw e (omega arith))
 
     lapses : (Persists 3 0) × (Persists 0 4)
-    unfolding Persists stayingColumn weightOf
+    unfolding Persists persistencyColumn weightOf
     lapses = by (ltb k 5) refl
       where
         by : (early : Bool) → ltb k 5 ≡ early → (Persists 3 0) × (Persists 0 4)
@@ -73,7 +73,7 @@ module _ (t : List ℕ) (r n : ℕ) (s : Projectable t r n) where
         by false e = (rw e (o .lapse-up), rw e (o .lapse-down))
 
     base-persists : (Persists 1 0) × (Persists 0 2)
-    unfolding Persists stayingColumn weightOf
+    unfolding Persists persistencyColumn weightOf
     base-persists = by (ltb k 5) refl
       where
         by : (early : Bool) → ltb k 5 ≡ early → (Persists 1 0) × (Persists 0 2)

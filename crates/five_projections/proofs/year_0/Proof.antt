@@ -1,4 +1,4 @@
--- `cell_projection::year_0` meets its contract: a share of whole contracts is so many times the amount of one. Assumes
+-- `five_projections::year_0` meets its contract: a share of whole contracts is so many times the amount of one. Assumes
 -- nothing.
 use mathlib.Core.Path.{_≡_, ap, _∙_}
 use mathlib.Core.List.{List}
@@ -7,16 +7,16 @@ use native.Mathlib.Nat.{add-zero, mul-le-mul, le-trans}
 use native.Mathlib.Omega.{arith}
 use borrow.Author.Needs.{needs}
 use lib.ListN.{getD}
-use Rattle.settings.specs.Settings.{columnsOf, fiveColumns, livesIn, staysIn}
+use Rattle.settings.specs.Settings.{columnsOf, fiveColumns, survivesIn, persistsIn}
 use Rattle.settings.specs.declared.Columns.{Columns}
 use Rattle.settings.specs.declared.FiveColumns.{FiveColumns}
 use Rattle.rate_table.specs.Rows.{rate, RowReady}
 use Rattle.cell.specs.declared.Cell.{Cell}
 use Rattle.cell.specs.States.{Projectable, Ready, nextBy, nextYear}
 use Rattle.cell.proofs.Cells.{state-ready, state-start, held-low, next-held}
-use Rattle.cell_projection.specs.Five.{startOf, nextFive, tenMore, fiveTimesMore}
-use Rattle.cell_projection.proofs.year_0.Statement.{statement}
-use Rattle.cell_projection.proofs.year_0.Tie as tie
+use Rattle.five_projections.specs.Five.{startOf, nextFive, tenMore, fiveTimesMore}
+use Rattle.five_projections.proofs.year_0.Statement.{statement}
+use Rattle.five_projections.proofs.year_0.Tie as tie
 
 -- the cell's first row, and what its contracts bring in at most
 first-row : (t : List ℕ) (r n : ℕ) → Projectable t r n → RowReady t r
@@ -42,7 +42,7 @@ add-year-0-requires c κs =
 -- the state that is stepped, by the columns of a projection
 steps : (t : List ℕ) (r n setting : ℕ) (c : Cell) (d : Columns) → Projectable t r n
     → c ≡ record { row = r; inforce = n * 1000000000 } → d ≡ columnsOf setting
-    → Ready t c × (livesIn d 0 ≤ 5) × (staysIn d 0 ≤ 5)
+    → Ready t c × (survivesIn d 0 ≤ 5) × (persistsIn d 0 ≤ 5)
 steps t r n setting c d s e h =
     let low = held-low setting 0 d h in
     (rw e (rw (state-start t r n setting) at (state-ready t r n setting s 0 (omega arith))), low .0, low .1)
@@ -82,7 +82,7 @@ next-year-requires-5 c κs =
 
 stepped : (t : List ℕ) (r n setting : ℕ) (c x : Cell) (d : Columns) → c ≡ record { row = r; inforce = n * 1000000000 }
     → d ≡ columnsOf setting
-    → x ≡ nextBy t (livesIn d 0) (staysIn d 0) c
+    → x ≡ nextBy t (survivesIn d 0) (persistsIn d 0) c
     → x ≡ nextYear t setting 0 (record { row = r; inforce = n * 1000000000 })
 stepped t r n setting c x d e h f = rw e at (next-held setting 0 d h t c x f)
 

@@ -1,4 +1,4 @@
--- `cell_projection::year` meets its contract: five times one year, each at its own places. Assumes nothing.
+-- `five_projections::year` meets its contract: five times one year, each at its own places. Assumes nothing.
 use mathlib.Core.Path.{_≡_, ap, _∙_}
 use mathlib.Core.List.{List}
 use Prim.Native.Nat.{ℕ, _+_, _*_, _≤_, _<_}
@@ -9,12 +9,13 @@ use Rattle.settings.specs.declared.FiveColumns.{FiveColumns}
 use Rattle.cell.specs.declared.Cell.{Cell}
 use Rattle.cell.specs.States.{Ready}
 use Rattle.cell.proofs.Cells.{premium-in-le, claims-in-le}
 use Rattle.cell_projection.specs.Tables.{AtMost}
-use Rattle.cell_projection.specs.Five.{nextFive, yearMore, tenMore}
-use Rattle.cell_projection.specs.declared.Five.{Five}
+use Rattle.five_projections.specs.Five.{nextFive, tenMore}
+use Rattle.cell_projection.specs.Tables.{yearMore}
+use Rattle.five_projections.specs.declared.Five.{Five}
 use Rattle.cell_projection.proofs.Years.{two-most}
-use Rattle.cell_projection.proofs.year.Statement.{statement}
-use Rattle.cell_projection.proofs.year.Tie as tie
+use Rattle.five_projections.proofs.year.Statement.{statement}
+use Rattle.five_projections.proofs.year.Tie as tie
 
 -- how much a year of one projection adds at most
 more : (t : List ℕ) (setting k m : ℕ) (c : Cell) (u v : List ℕ) → Ready t c → AtMost m u → v ≡ yearMore t setting k c u

@@ -1,13 +1,13 @@
--- `cell_projection::together` meets its contract. The invariant is `Run`; the measure is the number of years left.
+-- `five_projections::together` meets its contract. The invariant is `Run`; the measure is the number of years left.
 -- Assumes nothing.
 use mathlib.Core.Path.{_≡_, refl}
 use Prim.Native.Nat.{ℕ, _-_, _≤_, _<_}
 use native.Mathlib.Omega.{arith}
 use Rattle.cell_projection.proofs.Years.{late-start}
-use Rattle.cell_projection.proofs.Fives.{Run, run-ready, run-capacity, run-more}
-use Rattle.cell_projection.proofs.Least.{all-in-force}
-use Rattle.cell_projection.proofs.together.Statement.{statement}
-use Rattle.cell_projection.proofs.together.Tie as tie
+use Rattle.five_projections.proofs.Fives.{Run, run-ready, run-capacity, run-more}
+use Rattle.five_projections.proofs.Least.{all-in-force}
+use Rattle.five_projections.proofs.together.Statement.{statement}
+use Rattle.five_projections.proofs.together.Tie as tie
 
 abbrev Inv-loop : tie.InvT-loop
 Inv-loop rows own count columns from to sums₀ cells₀ k₀ sums cells k =

@@ -1,8 +1,8 @@
--- `cell_projection::all` meets its contract: each of the two is asked. Assumes nothing.
+-- `five_projections::all` meets its contract: each of the two is asked. Assumes nothing.
 use native.Mathlib.Omega.{arith}
 use borrow.Author.Tests.{ltb-true}
-use Rattle.cell_projection.proofs.all.Statement.{statement}
-use Rattle.cell_projection.proofs.all.Tie as tie
+use Rattle.five_projections.proofs.all.Statement.{statement}
+use Rattle.five_projections.proofs.all.Tie as tie
 
 returns : tie.Need-returns
 returns c = λ e. record { mortality-up = c .before .if1 .taken; lapse-up = ltb-true 0 _ e }

@@ -1,12 +1,12 @@
--- `cell_projection::side_by_side` meets its contract: year 0, the first five years, and the later ones where all have
+-- `five_projections::side_by_side` meets its contract: year 0, the first five years, and the later ones where all have
 -- something in force. Assumes nothing.
 use mathlib.Core.Path.{_≡_, refl}
 use native.Mathlib.Omega.{arith}
-use Rattle.cell_projection.specs.Projected.{ProjectedTo}
+use Rattle.five_projections.specs.SideBySide.{ProjectedTo}
 use Rattle.cell_projection.proofs.Years.{late-start}
-use Rattle.cell_projection.proofs.Fives.{Run, run-capacity, reached-start, first-run, run-then}
-use Rattle.cell_projection.proofs.side_by_side.Statement.{statement}
-use Rattle.cell_projection.proofs.side_by_side.Tie as tie
+use Rattle.five_projections.proofs.Fives.{Run, run-capacity, reached-start, first-run, run-then}
+use Rattle.five_projections.proofs.side_by_side.Statement.{statement}
+use Rattle.five_projections.proofs.side_by_side.Tie as tie
 
 returns : tie.Need-returns
 returns c = record {

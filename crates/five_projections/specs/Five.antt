@@ -1,11 +1,10 @@
 -- The states of a cell in the five projections side by side: those of settings 0 to 4, which serve the other settings
 -- too.
 use mathlib.Core.List.{List}
-use Prim.Native.Nat.{ℕ, _+_, _*_, _<_}
-use Rattle.cell.specs.declared.Cell.{Cell}
-use Rattle.cell.specs.States.{stateIn, nextYear, premiumIn, claimsIn, Ready}
-use Rattle.cell_projection.specs.declared.Five.{Five}
-use Rattle.cell_projection.specs.Tables.{twoMore}
+use Prim.Native.Nat.{ℕ, _*_, _<_}
+use Rattle.cell.specs.States.{stateIn, nextYear, Ready}
+use Rattle.five_projections.specs.declared.Five.{Five}
+use Rattle.cell_projection.specs.Tables.{twoMore, yearMore}
 
 -- the states in year k of the cell that starts at row r of the table t with n contracts
 unfoldable pub fiveIn : List ℕ → ℕ → ℕ → ℕ → Five
@@ -44,10 +43,6 @@ nextFive t k c = record {
   «lapse_up» = nextYear t 3 k (c .«lapse_up»);
   «lapse_down» = nextYear t 4 k (c .«lapse_down»);
 }
-
--- premium and claims of a state in year k of a projection, added at their places
-abbrev pub yearMore : List ℕ → ℕ → ℕ → Cell → List ℕ → List ℕ
-yearMore t setting k c u = twoMore u (10 * k + 2 * setting) (premiumIn t c) (claimsIn t c)
 
 -- the same for all five
 unfoldable pub tenMore : List ℕ → ℕ → Five → List ℕ → List ℕ

@@ -1,14 +1,14 @@
--- `cell_projection::add_year_0` meets its contract: five times two additions. Assumes nothing.
+-- `five_projections::add_year_0` meets its contract: five times two additions. Assumes nothing.
 use mathlib.Core.Path.{_≡_, ap}
 use mathlib.Core.List.{List}
 use Prim.Native.Nat.{ℕ, _+_, _≤_}
 use native.Mathlib.Omega.{arith}
 use lib.ListN.{getD}
 use Rattle.cell_projection.specs.Tables.{AtMost, twoMore}
-use Rattle.cell_projection.specs.Five.{fiveTimesMore}
+use Rattle.five_projections.specs.Five.{fiveTimesMore}
 use Rattle.cell_projection.proofs.Years.{two-most}
-use Rattle.cell_projection.proofs.add_year_0.Statement.{statement}
-use Rattle.cell_projection.proofs.add_year_0.Tie as tie
+use Rattle.five_projections.proofs.add_year_0.Statement.{statement}
+use Rattle.five_projections.proofs.add_year_0.Tie as tie
 
 -- how much two additions add at most
 more : (j m x y : ℕ) (u v : List ℕ) → AtMost m u → x ≤ 1000000000000 → y ≤ 1000000000000 → v ≡ twoMore u j x y

@@ -13,17 +13,18 @@ use Rattle.valuation.specs.Steps.{inForce}
 use Rattle.cell.specs.declared.Cell.{Cell}
 use Rattle.cell.specs.States.{cellIn, stateIn, Projectable}
 use Rattle.cell.proofs.Cells.{state-ready, state-start, state-next, premium-is, claims-is}
 use Rattle.cell_projection.specs.Tables.{amountBy, added, late, sumWithin, AtMost}
 use Rattle.cell_projection.specs.Ends.{Going}
-use Rattle.cell_projection.specs.Five.{fiveIn, startOf, FiveReady, AllInForce, nextFive, tenMore, yearMore}
-use Rattle.cell_projection.specs.Projected.{Reached, ProjectedTo}
-use Rattle.cell_projection.specs.declared.Five.{Five}
-use Rattle.cell_projection.specs.declared.Stop.{Stop}
+use Rattle.five_projections.specs.Five.{fiveIn, startOf, FiveReady, AllInForce, nextFive, tenMore}
+use Rattle.cell_projection.specs.Tables.{yearMore}
+use Rattle.five_projections.specs.SideBySide.{Reached, ProjectedTo}
+use Rattle.five_projections.specs.declared.Five.{Five}
+use Rattle.five_projections.specs.declared.Stop.{Stop}
 use Rattle.cell_projection.proofs.Years.{two-added, amount-premium, amount-claims, added-most, added-rest}
 use Rattle.cell_projection.proofs.Years.{added-same, added-join, late-low, late-high, late-start, from-start}
 use Rattle.cell_projection.proofs.Years.{joined}
 use Rattle.cell_projection.proofs.Ends.{going-start, going-on, each-five}
 use Rattle.cell_projection.proofs.Single.{amount-le, within-other, within-early, within-own}
 
 module _ (t : List ℕ) (r n : ℕ) where
   -- the start

@@ -1,11 +1,11 @@
--- `cell_projection::add_two` meets its contract: two additions, of which neither reaches the other's number. Assumes
+-- `five_projections::add_two` meets its contract: two additions, of which neither reaches the other's number. Assumes
 -- nothing.
 use mathlib.Core.Path.{refl}
 use native.Mathlib.Omega.{arith}
 use borrow.Author.Needs.{needs}
 use Rattle.cell_projection.proofs.Years.{capacity, both}
-use Rattle.cell_projection.proofs.add_two.Statement.{statement}
-use Rattle.cell_projection.proofs.add_two.Tie as tie
+use Rattle.five_projections.proofs.add_two.Statement.{statement}
+use Rattle.five_projections.proofs.add_two.Tie as tie
 
 add-at-requires : tie.Need-add-at-requires
 add-at-requires c κs = let a = c .before in (omega (arith, a .pre .0), omega (arith, a .pre .1, a .pre .3 (a .args .j)))

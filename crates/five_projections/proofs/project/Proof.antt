@@ -1,16 +1,16 @@
--- `cell_projection::project` meets its contract: all five side by side, and then each alone. Assumes nothing.
+-- `five_projections::project` meets its contract: all five side by side, and then each alone. Assumes nothing.
 use mathlib.Core.Path.{_≡_, ap}
 use Prim.Native.Nat.{ℕ, _≤_, _<_}
 use native.Mathlib.Omega.{arith}
 use Rattle.settings.specs.Settings.{fiveColumns}
 use Rattle.settings.specs.declared.FiveColumns.{FiveColumns}
 use Rattle.cell_projection.specs.Tables.{AtMost}
-use Rattle.cell_projection.specs.Five.{fiveIn}
-use Rattle.cell_projection.specs.declared.Five.{Five}
+use Rattle.five_projections.specs.Five.{fiveIn}
+use Rattle.five_projections.specs.declared.Five.{Five}
 use Rattle.cell_projection.proofs.Single.{within-capacity}
-use Rattle.cell_projection.proofs.Fives.{run-capacity, all-added}
-use Rattle.cell_projection.proofs.project.Statement.{statement}
-use Rattle.cell_projection.proofs.project.Tie as tie
+use Rattle.five_projections.proofs.Fives.{run-capacity, all-added}
+use Rattle.five_projections.proofs.project.Statement.{statement}
+use Rattle.five_projections.proofs.project.Tie as tie
 
 -- the table after each but the last
 capacity : (m : tie.After-side-by-side) → AtMost 2001000000000000 (m .side-by-side .last .1 .1 .1 .1 .0)

@@ -1,11 +1,11 @@
--- `cell_projection::project_by` meets its contract, by what is asked for. Assumes nothing.
+-- `five_projections::project_by` meets its contract, by what is asked for. Assumes nothing.
 use mathlib.Core.Path.{sym, _∙_}
 use Prim.Native.Nat.{_<_}
 use native.Mathlib.Omega.{arith}
 use Rattle.cell_projection.proofs.Years.{added-same}
 use Rattle.cell_projection.proofs.Single.{chosen-all, chosen-one}
-use Rattle.cell_projection.proofs.project_by.Statement.{statement}
-use Rattle.cell_projection.proofs.project_by.Tie as tie
+use Rattle.five_projections.proofs.project_by.Statement.{statement}
+use Rattle.five_projections.proofs.project_by.Tie as tie
 
 project-requires : tie.Need-project-requires
 project-requires c κs = let a = c .before .before in (a .pre .0, a .pre .2, a .pre .3)
