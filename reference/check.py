@@ -24,7 +24,7 @@ def check(book, basis=BASIS_1):
         return "refused", refusal.number, refusal.place
 
 
-def look(book, number):
+def view(book, number):
     """(refusal, place, part): the record's 24 bytes, or an empty part with a refusal."""
     verdict = check(book)
     if verdict[0] == "refused":

@@ -1,12 +1,7 @@
-"""Conversions worked by hand, and the buffers that the Python module takes or turns away."""
+"""Conversions worked by hand."""
 
-import ctypes
-from array import array
-
-from reference.age_basis import convert
-from reference.layout import (AGE_BASIS, CHAINS, CURVE, EDITION, MORTALITY, PERCENTAGES, RECORD_COUNT, SST_YEAR, changed,
-                           record, record_start)
-from tests.api.arguments import raises
+from reference.layout import (AGE_BASIS, CHAINS, CURVE, EDITION, MORTALITY, PERCENTAGES,
+                              RECORD_COUNT, SST_YEAR, changed, record, record_start)
 
 
 def pair_book(first_class, second_class, *changes):
@@ -40,38 +35,3 @@ CASES = [
     ("a chain that ends at class 120 is refused", pair_book(119, 120), (13, 1_248, 0)),
     ("a chain that goes on from class 121 is refused", pair_book(121, 122), (13, 1_224, 0)),
 ]
-
-
-def test_cases(report, library):
-    """Each reply, by the library and by the second reading; a buffer one byte short; which bytes change."""
-    for rule, book, due in CASES:
-        out = bytearray(len(book))
-        given, second = tuple(library.convert(book, out)), convert(book, len(book))[:3]
-        report.test(rule, given == due == second, (given, second))
-        short = bytearray(b"\xa5" * (len(book) - 1))
-        report.test(f"{rule}: a buffer one byte short comes first",
-                    library.convert(book, short) == (16, 0, 0) and set(short) == {0xA5})
-    book = pair_book(120, 121, (record(3).age_class, 7))
-    out = bytearray(book)
-    library.convert(book, out)
-    changes = {place: byte for place, (byte, before) in enumerate(zip(out, book)) if byte != before}
-    report.test("byte 1 and the linked classes change, and nothing else", changes == {1: 1, 1_222: 119, 1_246: 120},
-                changes)
-
-
-def test_arguments(report, library):
-    """What can be lent to be written, and what cannot."""
-    book = pair_book(120, 121)
-    due = convert(book, len(book))[3]
-    shared = bytearray(book)
-    for words, out in (("a bytearray", bytearray(len(book))), ("an array", array("B", bytes(len(book)))),
-                       ("an array of ctypes", (ctypes.c_uint8 * len(book))()),
-                       ("a view", memoryview(bytearray(len(book)))), ("the book's own memory", shared)):
-        lent = shared if out is shared else book
-        report.test(f"{words} is written", library.convert(lent, out) == (0, 0, 1) and bytes(out) == due)
-    report.test("an empty buffer is too short", library.convert(book, bytearray()) == (16, 0, 0))
-    report.test("an empty buffer takes no bytes", library.convert(b"", bytearray()) == (1, 0, 0))
-    for words, out in (("bytes that cannot be written are", bytes(len(book))),
-                       ("an array of two bytes each is", array("H", bytes(len(book)))),
-                       ("a buffer of two rows is", memoryview(bytearray(2 * len(book))).cast("B", (2, len(book))))):
-        report.test(f"{words} turned away", raises(TypeError, library.convert, book, out))

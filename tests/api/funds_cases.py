@@ -1,19 +1,18 @@
-"""Pairs of funds worked by hand, and what the Python module takes or turns away."""
+"""Pairs of funds worked by hand."""
 
-import ctypes
 from array import array
 from typing import NamedTuple
 
 from reference.book import Cell, Portfolio, Values, make_book, one_record_book
-from reference.funds import FRONT_BYTES, TABLE_BYTES, funds
-from reference.layout import (AGE_BASIS, CHAINS, COST_RATES, CURVE, EDITION, FIRST_RECORD_PLACE, HEADER_SPARE,
-                           LONGEST_BOOK, MORTALITY, PERCENTAGES, RECORD_COUNT, SST_YEAR, changed, record)
-from tests.api.arguments import raises
+from reference.funds import FRONT_BYTES, TABLE_BYTES
+from reference.layout import (AGE_BASIS, CHAINS, COST_RATES, CURVE, EDITION, FIRST_RECORD_PLACE,
+                              HEADER_SPARE, LONGEST_BOOK, MORTALITY, PERCENTAGES, RECORD_COUNT,
+                              SST_YEAR, changed, record)
 
 PG3_WOMEN = 9
 # The longest fund file that makes a book.
 LONGEST_FUND = LONGEST_BOOK - TABLE_BYTES
-# Numbers lent beside the sixteen, to be left alone.
+# Numbers passed beside the sixteen, to be left alone.
 MORE = 4
 
 
@@ -122,41 +121,3 @@ def after_of(case, before):
         if half is not None:
             after[start:start + 8] = half
     return after
-
-
-def test_cases(report, library):
-    """Replies and numbers, by the library and by the second reading; and that 16 comes before everything."""
-    for case in CASES:
-        lent = marks(16 + MORE)
-        due = (case.due, after_of(case, lent))
-        second = funds(case.table, case.first, case.second, lent)
-        given = library.funds(case.table, case.first, case.second, lent)
-        report.test(case.rule, (given, list(lent)) == due == second, (given, second))
-        short = marks(15)
-        given = library.funds(case.table, case.first, case.second, short)
-        report.test(f"{case.rule}: 15 numbers come first", given == ((16, 0, 0),) * 2 and short == marks(15), given)
-    deadly = marks(16)
-    given = library.funds(DEADLY_TABLE, WOMEN, WOMEN, deadly)
-    report.test("the table file's mortality is that of both funds",
-                given == BOTH and list(deadly) == 2 * DEADLY_TOTALS, list(deadly))
-
-
-def test_arguments(report, library):
-    """What can be lent, and what cannot."""
-    due = MEN_TOTALS + WOMEN_TOTALS
-    for words, numbers in (("an array", marks(16)), ("an array of ctypes", (ctypes.c_int64 * 16)()),
-                           ("a view of a bytearray", memoryview(bytearray(128)).cast("l"))):
-        given = library.funds(TABLE, MEN, WOMEN, numbers)
-        report.test(f"{words} takes the totals", given == BOTH and list(numbers) == due, given)
-    forms = library.funds(bytearray(TABLE), memoryview(MEN), bytearray(WOMEN), marks(16))
-    report.test("files of every form are taken", forms == BOTH, forms)
-    empty = library.funds(TABLE, MEN, WOMEN, array("q"))
-    report.test("an empty array has no numbers", empty == ((16, 0, 0),) * 2, empty)
-    misaligned = memoryview(bytearray(136))[1:129].cast("q")
-    for words, error, numbers in (
-            ("unsigned numbers are", TypeError, array("Q", bytes(128))),
-            ("numbers of 32 bits are", TypeError, array("i", bytes(64))),
-            ("two rows are", TypeError, memoryview(bytearray(128)).cast("q", (2, 8))),
-            ("numbers that cannot be written are", TypeError, memoryview(bytes(128)).cast("q")),
-            ("numbers that start at no multiple of 8 bytes are", ValueError, misaligned)):
-        report.test(f"{words} turned away", raises(error, library.funds, TABLE, MEN, WOMEN, numbers))

@@ -6,7 +6,7 @@ import sys
 import unittest
 
 from reference.book import Cell, Portfolio, Values, empty_book, full_book, make_book, one_record_book
-from reference.check import check, look
+from reference.check import check, view
 from reference.layout import BASIS_2
 from tests.support.report import run_unit_tests
 
@@ -227,16 +227,16 @@ class Looker(unittest.TestCase):
     def test_record_is_handed_back_whole(self):
         junk = bytes(range(24))
         book = packed(heads={0: 1}, records=[packed_record(), junk])
-        self.assertEqual(look(book, 1), (0, 0, packed_record()))
-        self.assertEqual(look(book, 2), (0, 0, junk))
+        self.assertEqual(view(book, 1), (0, 0, packed_record()))
+        self.assertEqual(view(book, 2), (0, 0, junk))
 
     def test_number_0_or_above_n_is_9_without_place(self):
         for number in (0, 2, 2**32 + 1, 2**64 - 1):
-            self.assertEqual(look(one_record_book(), number), (9, 0, b""))
+            self.assertEqual(view(one_record_book(), number), (9, 0, b""))
 
     def test_refusal_of_the_book_comes_first(self):
-        self.assertEqual(look(bytes(1_219), 0), (1, 1_219, b""))
-        self.assertEqual(look(packed(heads={5: 1}), 0), (9, 18, b""))
+        self.assertEqual(view(bytes(1_219), 0), (1, 1_219, b""))
+        self.assertEqual(view(packed(heads={5: 1}), 0), (9, 18, b""))
 
 
 class BookMaker(unittest.TestCase):

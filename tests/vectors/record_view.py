@@ -6,7 +6,7 @@ from typing import NamedTuple
 
 from reference.book import (empty_book, full_book, make_book, one_record_book, shuffled, slots_in_chain_order,
                          with_junk)
-from reference.check import look
+from reference.check import view
 from reference.layout import CHAINS, LONGEST_BOOK, RECORD_COUNT, RECORD_SIZE, changed, record_start
 from tests.fixtures.defects import without_unlinked
 from tests.vectors.check_cases_header import base_values
@@ -73,7 +73,7 @@ def reply_line(reply):
 
 def build():
     """All entries, and the bytes of the two files."""
-    entries = [Entry(name, number, book, look(book, number))
+    entries = [Entry(name, number, book, view(book, number))
                for name, number, book in (*accepted_cases(), *refused_cases())]
     stdin = b"".join(entry.number.to_bytes(8, "little") + book_frame(entry.book)
                      for entry in entries)
