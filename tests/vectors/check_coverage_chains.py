@@ -6,7 +6,7 @@ from reference.layout import CHAINS, LONGEST_BOOK, RECORD_COUNT, record
 from tests.fixtures.defects import without_unlinked
 
 
-def cover_chains(report, entries):
+def cover_chains(case, entries):
     """Odd shapes of chains, and the full book."""
     cyclic = [entry for entry in entries
               if any(len(set(path)) < len(path) for path in entry.paths)]
@@ -18,12 +18,12 @@ def cover_chains(report, entries):
                                 ("chains into themselves", into_itself, {11, 13}),
                                 ("two heads on one record", shared_heads, {10}),
                                 ("crossing chains", crossing, {10})):
-        report.covers(f"{words}, refused by {' and by '.join(map(str, sorted(numbers)))}",
+        case.covers(f"{words}, refused by {' and by '.join(map(str, sorted(numbers)))}",
                       numbers, {entry.refusal[0] for entry in odd if not entry.accepted})
-        report.test(f"{words}, never accepted", not any(entry.accepted for entry in odd))
+        case.check(f"{words}, never accepted", not any(entry.accepted for entry in odd))
     full = [entry for entry in entries if entry.accepted
             and len(entry.book) == LONGEST_BOOK and without_unlinked(entry.book) == entry.book]
-    report.test("a valid full book with every record linked", full)
+    case.check("a valid full book with every record linked", full)
 
 
 def shares_a_head(paths):
@@ -39,7 +39,7 @@ def crosses(paths):
                for before, number in zip(one, one[1:]))
 
 
-def cover_links(report, entries):
+def cover_links(case, entries):
     """Heads and nexts at 0, N, N + 1 and 65,535."""
     heads, nexts = set(), set()
     for entry in entries:
@@ -52,25 +52,25 @@ def cover_links(report, entries):
                 if words and (entry.accepted or refused_here):
                     outcome = 0 if entry.accepted else entry.refusal[0]
                     (nexts if step else heads).add((words, outcome))
-    report.covers("heads at 0, N, N + 1 and 65,535",
+    case.covers("heads at 0, N, N + 1 and 65,535",
                   {("0", 0), ("N", 0), ("N + 1", 9), ("65,535", 9)}, heads)
-    report.covers("nexts at 0, N, N + 1 and 65,535, by 9 below class 120 and by 13 at it",
+    case.covers("nexts at 0, N, N + 1 and 65,535, by 9 below class 120 and by 13 at it",
                   {("0", 0), ("0", 13), ("N", 0), ("N", 13), ("N + 1", 9), ("N + 1", 13),
                    ("65,535", 9), ("65,535", 13)}, nexts)
 
 
-def cover_unlinked(report, entries):
+def cover_unlinked(case, entries):
     """The same books with other bytes in their unlinked records."""
     alike = defaultdict(dict)
     for entry in entries:
         alike[without_unlinked(entry.book)][entry.book] = entry.verdict
     groups = [verdicts for verdicts in alike.values() if len(verdicts) > 1]
     verdicts = [set(group.values()) for group in groups]
-    report.test("changed junk never changes a verdict", all(len(v) == 1 for v in verdicts))
+    case.check("changed junk never changes a verdict", all(len(v) == 1 for v in verdicts))
     kinds = {verdict[0] for group in verdicts for verdict in group}
-    report.covers("changed junk in accepted and in refused books", {"accepted", "refused"}, kinds)
+    case.covers("changed junk in accepted and in refused books", {"accepted", "refused"}, kinds)
     counts = {entry.verdict[1] != linked_records(entry) for entry in entries if entry.accepted}
-    report.covers("n with and without records of count 0", {True, False}, counts)
+    case.covers("n with and without records of count 0", {True, False}, counts)
 
 
 def linked_records(entry):

@@ -1,7 +1,6 @@
-"""The walk stream: how many years the first cell of a chain is reckoned, written for the program or tested."""
+"""The stream of cell projections: how many years the first cell of a chain is computed."""
 
 import random
-import sys
 from typing import NamedTuple
 
 from reference.book import (PG2_MEN, Cell, Portfolio, Values, empty_book, make_book, read_values, realistic_cell,
@@ -11,7 +10,7 @@ from reference.layout import CHAINS, CLASSES, OLDEST_CLASS, SETTINGS
 from reference.valuation import YEARS, years_in_force
 from tests.fixtures.trial_books import contract, in_force_book
 from tests.vectors.check_cases_order import BOOK_REFUSALS, spoiled
-from tests.vectors.files import book_frame, run_verbs, stream_output
+from tests.vectors.files import book_frame, stream_output
 
 PG2_WOMEN = PG2_MEN + 1
 NO_CELL = "none"
@@ -143,24 +142,3 @@ def build():
     entries = [Entry(case, years_of(case)) for case in cases]
     stdin = b"".join(entry.frame() for entry in entries)
     return entries, stdin, stream_output(str(entry.years) for entry in entries)
-
-
-def cover(report, entries):
-    """What the stream covers, counted from its cases and their years."""
-    reckoned = [entry for entry in entries if entry.years != NO_CELL]
-    worked = [entry for entry in reckoned if entry.case.worked is not None]
-    wrong = [entry.name for entry in entries if entry.case.worked not in (None, entry.years)]
-    report.test("what was worked by hand", not wrong, wrong[:5])
-    report.test("34 cells worked by hand", len(worked) == 34, len(worked))
-    report.test("22 entries without a cell", len(entries) - len(reckoned) == 22, len(entries) - len(reckoned))
-    for chain in (PG2_MEN, PG2_WOMEN):
-        seen = {entry.years for entry in worked if entry.case.chain == chain}
-        report.covers(f"cells of chain {chain} that end at 0, 1, 4, 5, 49 and never", ENDS, seen)
-    report.covers("every setting", SETTINGS, {entry.case.setting for entry in reckoned})
-    report.covers("every chain", range(len(CHAINS)), {entry.case.chain for entry in reckoned})
-    others = {entry.years for entry in reckoned if entry.case.worked is None}
-    report.test("a dozen different ends among the others", len(others) >= 12, sorted(others))
-
-
-if __name__ == "__main__":
-    sys.exit(run_verbs(__doc__, "test_cell_projection", build, cover))

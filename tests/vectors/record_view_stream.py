@@ -1,7 +1,6 @@
-"""The record stream: books and record numbers for the looker, written or tested."""
+"""The stream of record views: books and record numbers, with the record's bytes."""
 
 import random
-import sys
 from typing import NamedTuple
 
 from reference.book import (empty_book, full_book, make_book, one_record_book, shuffled, slots_in_chain_order,
@@ -11,13 +10,13 @@ from reference.layout import CHAINS, LONGEST_BOOK, RECORD_COUNT, RECORD_SIZE, ch
 from tests.fixtures.defects import without_unlinked
 from tests.vectors.check_cases_header import base_values
 from tests.vectors.check_cases_order import BOOK_REFUSALS, spoiled
-from tests.vectors.files import book_frame, run_verbs, stream_output
+from tests.vectors.files import book_frame, stream_output
 
 FAR_NUMBERS = (2**16, 2**16 + 1, 2**32, 2**32 + 1, 2**63, 2**63 + 1, 2**64 - 1)
 
 
 class Entry(NamedTuple):
-    """A book, a record number and the looker's reply."""
+    """A book, a record number and the reply to them."""
 
     name: str
     number: int
@@ -78,52 +77,3 @@ def build():
     stdin = b"".join(entry.number.to_bytes(8, "little") + book_frame(entry.book)
                      for entry in entries)
     return entries, stdin, stream_output(reply_line(entry.reply) for entry in entries)
-
-
-def cover(report, entries):
-    """What the stream covers, counted from its books and replies."""
-    small = shuffled_book()
-    count = RECORD_COUNT.read(small)
-    seen = {entry.number: entry.reply for entry in entries if entry.book == small}
-    report.covers("every record of a small book", range(1, count + 1), seen)
-    report.covers("numbers 0, N + 1, 2^32, 2^63 and 2^64 - 1 are 9 at 0",
-                  {0, count + 1, 2**32, 2**63, 2**64 - 1},
-                  {number for number, reply in seen.items() if reply == (9, 0, b"")})
-    cover_parts(report, entries)
-    unlinked = [number for number in range(1, count + 1)
-                if without_unlinked(small)[record_start(number):][:RECORD_SIZE] != seen[number][2]]
-    report.test("unlinked records are looked at too", len(unlinked) == 4, unlinked)
-    full = {entry.number for entry in entries
-            if len(entry.book) == LONGEST_BOOK and entry.reply[0] == 0}
-    report.covers("first, middle and last of the full book", {1, 847, 1_694}, full)
-    empty = {entry.number for entry in entries
-             if entry.book == empty_book() and entry.reply == (9, 0, b"")}
-    report.covers("an empty book has no record", {0, 1, 2**64 - 1}, empty)
-    cover_refused(report, entries)
-
-
-def cover_parts(report, entries):
-    """Every part is the record's own 24 bytes, and only an acceptance has one."""
-    wrong = []
-    for entry in entries:
-        refusal, place, part = entry.reply
-        start = 1_220 + 24 * (entry.number - 1)
-        due = (entry.book[start:start + 24], 24, 0) if refusal == 0 else (b"", 0, place)
-        if (part, len(part), place) != due:
-            wrong.append(entry.name)
-    report.test("a part is the record's bytes, a refusal has none", not wrong, wrong[:5])
-
-
-def cover_refused(report, entries):
-    """The book's own refusal wins over the number's."""
-    refused = [entry for entry in entries if entry.refused_book]
-    for words, holds in (("in range", lambda number, count: 1 <= number <= count),
-                         ("0", lambda number, count: number == 0),
-                         ("above N", lambda number, count: number > count)):
-        numbers = {entry.reply[0] for entry in refused
-                   if holds(entry.number, RECORD_COUNT.read(entry.book))}
-        report.covers(f"each book refusal with a number {words}", BOOK_REFUSALS, numbers)
-
-
-if __name__ == "__main__":
-    sys.exit(run_verbs(__doc__, "test_record_view", build, cover))
