@@ -1,8 +1,8 @@
-"""The verdict on a book and the looker's reply, worked from the customer's paper alone."""
+"""The verdict on a book and the view of a record, from the customer's paper alone."""
 
-from reference.layout import (AGE_BASIS, BASIS_1, CHAINS, COST_RATES, CURVE, EDITION, FIRST_RECORD_PLACE,
-                           HEADER_SPARE, MORTALITY, PERCENTAGES, RECORD_COUNT, RECORD_SIZE, SST_YEAR, record,
-                           record_start)
+from reference.layout import (AGE_BASIS, BASIS_1, CHAINS, COST_RATES, CURVE, EDITION,
+                              FIRST_RECORD_PLACE, HEADER_SPARE, MORTALITY, PERCENTAGES,
+                              RECORD_COUNT, RECORD_SIZE, SST_YEAR, record, record_start)
 
 
 class Refused(Exception):
@@ -97,7 +97,7 @@ def counted_records(book, chain, basis):
 
 
 def check_record(book, linked, chain, class_before, basis):
-    """Refusals 10, 21, 11, 12 and 13 of one linked record; the first of a chain has no class before."""
+    """Refusals 10, 21, 11, 12 and 13 of a linked record; a chain's first has no class before."""
     owned = linked.code.read(book) == chain.code and linked.sex.read(book) == chain.sex
     spares_zero = all(spare.read(book) == 0 for spare in linked.spares)
     refuse_if(not owned or not spares_zero, 10, linked.start)

@@ -15,25 +15,29 @@ BEGIN, END = "refusals: begin", "refusals: end"
 def in_book(rows):
     """A table's lines."""
     head = ["| number | rule | place | who mends it | broken by |", "|---|---|---|---|---|"]
-    return head + [f"| {row.number} | {row.rule} | {row.place} | {row.mended_by} | {row.example} |" for row in rows]
+    return head + [f"| {row.number} | {row.rule} | {row.place} | {row.mended_by} | {row.example} |"
+                   for row in rows]
 
 
 def in_header(rows):
     """The cases of a function in C."""
     return [line for row in rows
             for line in (f"    case {row.number}:",
-                         f'        return "{row.rule}; place: {row.place}; mended by: {row.mended_by}";')]
+                         f'        return "{row.rule}; place: {row.place};'
+                         f' mended by: {row.mended_by}";')]
 
 
 def in_rust(rows):
     """The arms of a match in Rust."""
     return [line for row in rows
-            for line in (f"        {row.number} => {{", f'            "{row.rule}; mended by: {row.mended_by}"',
+            for line in (f"        {row.number} => {{",
+                         f'            "{row.rule}; mended by: {row.mended_by}"',
                          "        }")]
 
 
 # Where the table stands, and how its lines are made there.
-COPIES = {"docs/BOOK.md": in_book, "include/xaropinto.h": in_header, "bindings/rust/src/refusals.rs": in_rust}
+COPIES = {"docs/BOOK.md": in_book, "include/xaropinto.h": in_header,
+          "bindings/rust/src/refusals.rs": in_rust}
 
 
 def filled(text, lines):

@@ -58,20 +58,24 @@ SAMPLES = [
 
 
 def files():
-    """Each file of samples/ by its name: the books, and beside each its listing and its report in the base setting."""
+    """Each file of samples/ by its name: the books, each with its listing and base report."""
     held = {}
     for name, book, _ in SAMPLES:
-        held |= {f"{name}.book": book, f"{name}.listing": listing(book), f"{name}.report": report_page(book, 0)}
+        held |= {f"{name}.book": book, f"{name}.listing": listing(book),
+                 f"{name}.report": report_page(book, 0)}
     return held
 
 
 def copies():
-    """What the proofs of the programs run them on: a sample, and what comes of it; its report in another setting."""
+    """What the proofs of the programs run them on: a sample, and what comes of it."""
     name, book, _ = SAMPLES[0]
-    listed = {"crates/listing_main/stdin": book, "crates/listing_main/stdout": files()[f"{name}.listing"]}
-    reported = {"crates/year_report_main/stdin": book, "crates/year_report_main/args": f"{REPORTED_SETTING}\n".encode("ascii"),
+    listed = {"crates/listing_main/stdin": book,
+              "crates/listing_main/stdout": files()[f"{name}.listing"]}
+    reported = {"crates/year_report_main/stdin": book,
+                "crates/year_report_main/args": f"{REPORTED_SETTING}\n".encode("ascii"),
                 "crates/year_report_main/stdout": report_page(book, REPORTED_SETTING)}
-    converted = {"crates/age_basis_main/stdin": on_basis_2(worked_book()), "crates/age_basis_main/stdout": worked_book()}
+    converted = {"crates/age_basis_main/stdin": on_basis_2(worked_book()),
+                 "crates/age_basis_main/stdout": worked_book()}
     return listed | reported | converted
 
 

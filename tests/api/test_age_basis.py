@@ -114,10 +114,10 @@ class RandomBooks(LibraryCase, Differential):
         chooser = random.Random(cls.seed)
         full = full_book(chooser, shuffle=True)
         insurer = insurer_book(MANY_PRODUCTS, cls.seed)
-        for name, book in (("full", on_basis_2(full)), ("full-and-a-byte", on_basis_2(full) + b"\0"),
-                           ("full-on-basis-1", full), ("insurer", on_basis_2(insurer)),
-                           ("empty", on_basis_2(empty_book())), ("nothing", b""),
-                           ("zeros", bytes(1_220)),
+        for name, book in (("full", on_basis_2(full)),
+                           ("full-and-a-byte", on_basis_2(full) + b"\0"), ("full-on-basis-1", full),
+                           ("insurer", on_basis_2(insurer)), ("empty", on_basis_2(empty_book())),
+                           ("nothing", b""), ("zeros", bytes(1_220)),
                            ("twice-the-longest", bytes(2 * LONGEST_BOOK))):
             cls.compare(name, name, book, chooser)
 

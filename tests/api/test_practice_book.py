@@ -100,7 +100,7 @@ class RandomStartNumbers(LibraryCase, Differential):
         cls.tally.seen[refusal] += 1
         cls.tally.compare("practice", (tuple(reply), bytes(out)),
                           ((refusal, 0, len(book)), book + marks[len(book):]),
-                          f"of start {start}, {length} bytes: gives {tuple(reply)}, due is {refusal}",
+                          f"of {start}, {length} bytes: gives {tuple(reply)}, due is {refusal}",
                           (start, bytes(out)))
         if not refusal:
             cls.books.add(book)

@@ -1,4 +1,4 @@
-"""Builds the archive, then builds and runs its callers in C and Rust; each of their tests counts."""
+"""Builds the archive, then builds and runs its callers in C and Rust, test by test."""
 
 import re
 import sys

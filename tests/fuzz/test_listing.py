@@ -40,7 +40,7 @@ def damaged_book(chooser):
 
 
 def spoiled_book(chooser):
-    """Each refusal as likely as another, in a book whose rates are drawn from their whole ranges."""
+    """Each refusal as likely as another, in a book with rates from their whole ranges."""
     rates = [(rate, chooser.randint(rate.low, rate.high))
              for rate in (*COST_RATES, *CURVE, *MORTALITY)]
     return spoiled((chooser.randint(1, 13),), changed(base_book(), *rates))

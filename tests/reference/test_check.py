@@ -5,7 +5,8 @@ import struct
 import sys
 import unittest
 
-from reference.book import Cell, Portfolio, Values, empty_book, full_book, make_book, one_record_book
+from reference.book import (Cell, Portfolio, Values, empty_book, full_book, make_book,
+                            one_record_book)
 from reference.check import check, view
 from reference.layout import BASIS_2
 from tests.support.report import run_unit_tests
@@ -34,7 +35,7 @@ def packed_record(code=1, sex=0, age_class=120, following=0, count=1, lapse=0, p
 
 
 def pair_of_records(**second):
-    """A chain of PG1a men at classes 119 and 120, the second record as told."""
+    """A chain of PG1a men at classes 119 and 120, the second record as given."""
     records = [packed_record(age_class=119, following=2), packed_record(**second)]
     return packed(heads={0: 1}, records=records)
 
@@ -70,7 +71,8 @@ class HeaderRules(unittest.TestCase):
             return check(packed(edition=2, spare=men + 256 * women))
 
         self.assertEqual([verdict(1, 100), verdict(100, 1)], [("accepted", 0)] * 2)
-        self.assertEqual([verdict(0, 101), verdict(101, 0), verdict(255, 50)], [("refused", 23, 6)] * 3)
+        self.assertEqual([verdict(0, 101), verdict(101, 0), verdict(255, 50)],
+                         [("refused", 23, 6)] * 3)
         self.assertEqual([verdict(1, 0), verdict(100, 101)], [("refused", 23, 7)] * 2)
 
     def test_percentages_come_after_the_number_of_records_and_before_the_length(self):
@@ -195,7 +197,7 @@ class NewerBasis(unittest.TestCase):
     """Refusal 21, and its place in the order, on age basis 2, where a chain ends at class 121."""
 
     def verdict(self, **second):
-        """That on a chain of PG1a men at classes 120 and 121, the second record as told."""
+        """That on a chain of PG1a men at classes 120 and 121, the second record as given."""
         fields = {"age_class": 121, **second}
         records = [packed_record(age_class=120, following=2), packed_record(**fields)]
         return check(packed(heads={0: 1}, records=records, basis=2), BASIS_2)
@@ -221,10 +223,10 @@ class NewerBasis(unittest.TestCase):
         self.assertEqual(check(book), ("refused", 12, 1_228))
 
 
-class Looker(unittest.TestCase):
-    """The looker's reply."""
+class RecordView(unittest.TestCase):
+    """The view of one record."""
 
-    def test_record_is_handed_back_whole(self):
+    def test_record_is_returned_whole(self):
         junk = bytes(range(24))
         book = packed(heads={0: 1}, records=[packed_record(), junk])
         self.assertEqual(view(book, 1), (0, 0, packed_record()))

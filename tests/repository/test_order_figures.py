@@ -18,9 +18,10 @@ LIST = ROOT / "tests" / "repository" / "order_figures.tsv"
 # Steps of the code, as docs/REVIEW.md names them: no caller depends on these.
 STEPS = {
     "arith/specs/Fractions", "book/specs/Reading", "cell/specs/States", "age_basis/specs/Steps",
-    "cost_rate_shares/specs/Usable", "funds/specs/Valued", "group_projection/specs/Added", "rate_table/specs/Puts",
-    "rate_table/specs/Rows", "cash_flow/specs/CashFlow", "totals/specs/Sums", "claims_estimates/specs/Ranked",
-    "cell_projection/specs/Five", "cell_projection/specs/Tables", "cell_projection/specs/Projected", "year_report/specs/Tables",
+    "cost_rate_shares/specs/Usable", "funds/specs/Valued", "group_projection/specs/Added",
+    "rate_table/specs/Puts", "rate_table/specs/Rows", "cash_flow/specs/CashFlow",
+    "totals/specs/Sums", "claims_estimates/specs/Ranked", "cell_projection/specs/Five",
+    "cell_projection/specs/Tables", "cell_projection/specs/Projected", "year_report/specs/Tables",
     "present_value/specs/Outcome",
 }
 

@@ -262,7 +262,8 @@ class Declarations(Case):
     def test_calls_are_declared_alike(self):
         for name, _, declared, other in self.compared():
             wrong = differing(declared, other)
-            self.check(f"{len(declared.calls)} calls of {name}", declared.calls and not wrong, wrong)
+            self.check(f"{len(declared.calls)} calls of {name}", declared.calls and not wrong,
+                       wrong)
 
     def test_swapped_fields_are_noticed(self):
         for name, language, _, other in self.compared():

@@ -19,7 +19,7 @@ def cover_chains(case, entries):
                                 ("two heads on one record", shared_heads, {10}),
                                 ("crossing chains", crossing, {10})):
         case.covers(f"{words}, refused by {' and by '.join(map(str, sorted(numbers)))}",
-                      numbers, {entry.refusal[0] for entry in odd if not entry.accepted})
+                    numbers, {entry.refusal[0] for entry in odd if not entry.accepted})
         case.check(f"{words}, never accepted", not any(entry.accepted for entry in odd))
     full = [entry for entry in entries if entry.accepted
             and len(entry.book) == LONGEST_BOOK and without_unlinked(entry.book) == entry.book]
@@ -53,10 +53,10 @@ def cover_links(case, entries):
                     outcome = 0 if entry.accepted else entry.refusal[0]
                     (nexts if step else heads).add((words, outcome))
     case.covers("heads at 0, N, N + 1 and 65,535",
-                  {("0", 0), ("N", 0), ("N + 1", 9), ("65,535", 9)}, heads)
+                {("0", 0), ("N", 0), ("N + 1", 9), ("65,535", 9)}, heads)
     case.covers("nexts at 0, N, N + 1 and 65,535, by 9 below class 120 and by 13 at it",
-                  {("0", 0), ("0", 13), ("N", 0), ("N", 13), ("N + 1", 9), ("N + 1", 13),
-                   ("65,535", 9), ("65,535", 13)}, nexts)
+                {("0", 0), ("0", 13), ("N", 0), ("N", 13), ("N + 1", 9), ("N + 1", 13),
+                 ("65,535", 9), ("65,535", 13)}, nexts)
 
 
 def cover_unlinked(case, entries):

@@ -2,8 +2,8 @@
 
 from collections import Counter
 
-from reference.layout import (AGE_BASIS, CHAINS, CLASSES, COST_RATES, CURVE, EDITION, HEADER_SPARE, MORTALITY,
-                           PERCENTAGES, RECORD_COUNT, SST_YEAR, record)
+from reference.layout import (AGE_BASIS, CHAINS, CLASSES, COST_RATES, CURVE, EDITION, HEADER_SPARE,
+                              MORTALITY, PERCENTAGES, RECORD_COUNT, SST_YEAR, record)
 from tests.vectors.check_cases_order import BOOK_REFUSALS
 
 CORNERS = (MORTALITY[0], MORTALITY[CLASSES - 1], MORTALITY[CLASSES], MORTALITY[-1])
@@ -30,30 +30,32 @@ def cover_refusals(case, entries):
                 13: ("ends early", "runs on")}
     for number, kinds in expected.items():
         case.covers(f"refusal {number} by {', '.join(kinds)}, each alone",
-                      {(number, kind) for kind in kinds}, causes)
+                    {(number, kind) for kind in kinds}, causes)
 
 
 def cover_header(case, entries):
     """Lengths, and the first eight bytes."""
     lengths = {(len(entry.book), entry.refusal) for entry in entries}
     case.covers("lengths around the shortest and the longest book",
-                  {(0, (1, 0)), (1, (1, 1)), (1_219, (1, 1_219)), (1_220, (2, 0)), (1_220, None),
-                   (1_221, (5, 1_221)), (41_876, None), (41_877, (5, 41_877))}, lengths)
+                {(0, (1, 0)), (1, (1, 1)), (1_219, (1, 1_219)), (1_220, (2, 0)), (1_220, None),
+                 (1_221, (5, 1_221)), (41_876, None), (41_877, (5, 41_877))}, lengths)
     for number, field, second in ((2, EDITION, None), (3, AGE_BASIS, AGE_BASIS.offset)):
         seen = numbers_seen(entries, [field], number)
         case.covers(f"{field.name} 0, 1, 2, 3 and 255",
-                      {(0, field.offset), (1, None), (2, second), (3, field.offset), (255, field.offset)}, seen)
+                    {(0, field.offset), (1, None), (2, second), (3, field.offset),
+                     (255, field.offset)}, seen)
     case.covers("SST year 2016, 2017, 2100 and 2101",
-                  {(2_016, 2), (2_017, None), (2_100, None), (2_101, 2)},
-                  numbers_seen(entries, [SST_YEAR], 4))
+                {(2_016, 2), (2_017, None), (2_100, None), (2_101, 2)},
+                numbers_seen(entries, [SST_YEAR], 4))
     case.covers("number of records 0, 1,694 and 1,695", {(0, None), (1_694, None), (1_695, 4)},
-                  numbers_seen(entries, [RECORD_COUNT], 4))
+                numbers_seen(entries, [RECORD_COUNT], 4))
     case.covers("spare bytes 6 and 7 each alone", {(0, None), (1, 6), (256, 6)},
-                  numbers_seen(entries, [HEADER_SPARE], 4))
+                numbers_seen(entries, [HEADER_SPARE], 4))
     for field in PERCENTAGES:
         case.covers(f"{field.name} 0, 1, 100, 101 and 255",
-                      {(0, field.offset), (1, None), (100, None), (101, field.offset), (255, field.offset)},
-                      numbers_seen(entries, [field], 23))
+                    {(0, field.offset), (1, None), (100, None), (101, field.offset),
+                     (255, field.offset)},
+                    numbers_seen(entries, [field], 23))
 
 
 def numbers_seen(entries, fields, refusal):
@@ -88,9 +90,9 @@ def cover_ranges(case, entries):
         case.check(f"both ends of the range: {words}", not missing, missing)
     for position, words in enumerate(("count", "lapse", "premium", "claims")):
         case.covers(f"both ends of the range: {words}",
-                      {(number, place is None) for number, place
-                       in range_ends(record(1).amounts[position])},
-                      amounts_seen(entries, position))
+                    {(number, place is None) for number, place
+                     in range_ends(record(1).amounts[position])},
+                    amounts_seen(entries, position))
 
 
 def amounts_seen(entries, position):

@@ -41,13 +41,14 @@ def cover_order(case, entries):
     header = {("header", *pair) for pair in header_pairs()}
     case.covers(f"a header refusal before any it can meet, {len(header)} pairs", header, seen)
     percentages = {(1, 23), (3, 23), (4, 23), *((23, number) for number in range(5, 14))}
-    case.covers(f"23 between 4 and 5, {len(percentages)} pairs", {("header", *pair) for pair in percentages}, seen)
+    case.covers(f"23 between 4 and 5, {len(percentages)} pairs",
+                {("header", *pair) for pair in percentages}, seen)
     case.covers("an earlier chain before a later one, every two numbers",
-                  {("other chain", *pair) for pair in product(in_chain, in_chain)}, seen)
+                {("other chain", *pair) for pair in product(in_chain, in_chain)}, seen)
     case.covers("a record before a later one of its chain",
-                  {("same chain", *pair) for pair in product(("10", "11", "12"), in_record)}, seen)
+                {("same chain", *pair) for pair in product(("10", "11", "12"), in_record)}, seen)
     case.covers("within a record 10, 11, 12, 13, then its next 9",
-                  {("same record", *pair) for pair in combinations(in_record, 2)}, seen)
+                {("same record", *pair) for pair in combinations(in_record, 2)}, seen)
 
 
 def cover_places(case, entries):
@@ -62,4 +63,4 @@ def cover_places(case, entries):
                 against_file.add(scope(first, other))
     case.covers("two bad fields of one kind, the earlier named", {4, 6, 7, 8, 9, 12, 23}, twice)
     case.covers("the chain's order before the file's",
-                  {"same chain", "other chain"}, against_file)
+                {"same chain", "other chain"}, against_file)

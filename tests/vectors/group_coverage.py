@@ -33,9 +33,9 @@ def cover_calls(case, accepted):
     pairs = {(entry.call.setting, entry.call.product_group)
              for entry in accepted if entry.reply[3] != 0}
     case.covers("every setting with every group, accepted",
-                  {(setting, each) for setting in SETTINGS for each in PRODUCT_GROUPS}, pairs)
+                {(setting, each) for setting in SETTINGS for each in PRODUCT_GROUPS}, pairs)
     case.covers("tables of 200, 201 and 300 are long enough", {200, 201, 300},
-                  {entry.call.table_length for entry in accepted})
+                {entry.call.table_length for entry in accepted})
     case.check("two full books", sum(len(e.call.book) == LONGEST_BOOK for e in accepted) == 2)
 
 
@@ -43,7 +43,7 @@ def cover_ends(case, books, cells):
     """Both ends of every range that enters a figure."""
     for position, amount in enumerate(record(1).amounts):
         case.covers(f"both ends of {amount.name.split(', ')[1]}", {amount.low, amount.high},
-                      {cell[position] for cell in cells})
+                    {cell[position] for cell in cells})
     for words, places in (("cost rates", COST_RATES), ("the curve", CURVE),
                           ("mortality", MORTALITY)):
         rates = {place.read(book) for book in books for place in places}
@@ -66,9 +66,9 @@ def cover_figures(case, accepted):
     """Debts and credits, years with and without a cut by the cap."""
     liabilities = [entry.reply[2] for entry in accepted]
     case.check("debts, credits and zero", min(liabilities) < 0 < max(liabilities)
-                and 0 in liabilities)
+               and 0 in liabilities)
     case.check("a cell of class 120 with outgo in all fifty years",
-                any(len(entry.cells()) == 1 and all(entry.reply[4][1::4]) for entry in accepted))
+               any(len(entry.cells()) == 1 and all(entry.reply[4][1::4]) for entry in accepted))
     at_cap, below_cap, above_cap = set(), set(), set()
     for entry in accepted:
         numbers = entry.reply[4]

@@ -38,11 +38,11 @@ def cover_cells(case, accepted):
     case.check("n is the check's", not wrong, wrong[:5])
     case.covers("no cell, one cell and all", {0, 1, MOST_RECORDS}, {e.n for e in accepted})
     case.check("contracts in all five groups, n being none of theirs",
-                any(all(e.n_by_group) and e.n not in e.n_by_group for e in accepted))
+               any(all(e.n_by_group) and e.n not in e.n_by_group for e in accepted))
     alone = {e.n_by_group.index(e.n) + 1 for e in accepted if e.n and e.n in e.n_by_group}
     case.covers("each group alone", PRODUCT_GROUPS, alone)
     case.check("cells, but none with contracts",
-                any(entry.values.portfolios and entry.n == 0 for entry in accepted))
+               any(entry.values.portfolios and entry.n == 0 for entry in accepted))
 
 
 def cover_totals(case, accepted):
@@ -51,9 +51,9 @@ def cover_totals(case, accepted):
     case.check("debts, credits and zero", min(totals) < 0 < max(totals) and 0 in totals)
     case.check("eight totals that all differ", any(len(set(e.totals)) == 8 for e in accepted))
     case.check("a credit in one setting, a debt in another",
-                any(min(entry.totals) < 0 < max(entry.totals) for entry in accepted))
+               any(min(entry.totals) < 0 < max(entry.totals) for entry in accepted))
     case.check("a credit of one group, a debt of another",
-                any(min(parts) < 0 < max(parts) for parts in map(group_liabilities, accepted)))
+               any(min(parts) < 0 < max(parts) for parts in map(group_liabilities, accepted)))
 
 
 def group_liabilities(entry):
@@ -77,9 +77,9 @@ def cover_differences(case, accepted):
 def cover_caps(case, accepted):
     """A product group has one cap, the book has five."""
     case.check("a rich subgroup of PG1 behind a poor one",
-                any(has_rich_subgroup_behind_poor(entry.values, 0) for entry in accepted))
+               any(has_rich_subgroup_behind_poor(entry.values, 0) for entry in accepted))
     case.check("a rich group beside a poor one",
-                any(has_rich_group_beside_poor(entry.values, 0) for entry in accepted))
+               any(has_rich_group_beside_poor(entry.values, 0) for entry in accepted))
 
 
 def has_rich_group_beside_poor(values, setting):

@@ -3,11 +3,10 @@
 import random
 from typing import NamedTuple
 
-from reference.book import (empty_book, full_book, make_book, one_record_book, shuffled, slots_in_chain_order,
-                         with_junk)
+from reference.book import (empty_book, full_book, make_book, one_record_book, shuffled,
+                            slots_in_chain_order, with_junk)
 from reference.check import view
-from reference.layout import CHAINS, LONGEST_BOOK, RECORD_COUNT, RECORD_SIZE, changed, record_start
-from tests.fixtures.defects import without_unlinked
+from reference.layout import CHAINS, RECORD_COUNT, changed
 from tests.vectors.check_cases_header import base_values
 from tests.vectors.check_cases_order import BOOK_REFUSALS, spoiled
 from tests.vectors.files import book_frame, stream_output

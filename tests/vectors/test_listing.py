@@ -30,7 +30,8 @@ class Stream(StreamTests, Case):
 
     def test_ends_of_ranges(self):
         cover_ends(self, [entry.book for entry in self.accepted],
-                   [cell for entry in self.accepted for portfolio in entry.values.portfolios.values()
+                   [cell for entry in self.accepted
+                    for portfolio in entry.values.portfolios.values()
                     for cell in portfolio.cells])
 
     def test_cells(self):
