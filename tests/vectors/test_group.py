@@ -6,14 +6,13 @@ from tests.support.case import Case
 from tests.support.distance import Shares, liability_share
 from tests.support.report import run_unit_tests
 from tests.vectors import group_stream
-from tests.vectors.group_coverage import (cover_amounts, cover_calls, cover_figures,
-                                          cover_refusals)
+from tests.vectors.group_coverage import GroupCoverage
 from tests.vectors.stream_tests import StreamTests
 
 MOST_STDIN_BYTES, MOST_STDOUT_BYTES = 3_000_000, 1_000_000
 
 
-class Stream(StreamTests, Case):
+class Stream(StreamTests, GroupCoverage, Case):
     """What the stream covers, counted from its calls and replies, and every distance in it."""
 
     crate, build = "test_group", group_stream.build
@@ -26,18 +25,6 @@ class Stream(StreamTests, Case):
     def test_sizes(self):
         self.check("stdin stays under 3 MB", len(self.stdin) < MOST_STDIN_BYTES)
         self.check("stdout stays under 1 MB", len(self.stdout) < MOST_STDOUT_BYTES)
-
-    def test_refusals(self):
-        cover_refusals(self, self.entries)
-
-    def test_calls(self):
-        cover_calls(self, self.accepted)
-
-    def test_amounts(self):
-        cover_amounts(self, self.accepted)
-
-    def test_figures(self):
-        cover_figures(self, self.accepted)
 
     def test_distances(self):
         """Every liability against its exact value."""

@@ -7,12 +7,11 @@ from tests.support.distance import Shares, totals_share
 from tests.support.report import run_unit_tests
 from tests.vectors import listing_stream
 from tests.vectors.group_coverage import cover_ends
-from tests.vectors.listing_coverage import (cover_caps, cover_cells, cover_differences,
-                                            cover_refusals, cover_sizes, cover_totals)
+from tests.vectors.listing_coverage import ListingCoverage
 from tests.vectors.stream_tests import StreamTests
 
 
-class Stream(StreamTests, Case):
+class Stream(StreamTests, ListingCoverage, Case):
     """What the stream covers, counted from its books and replies, and every distance in it."""
 
     crate, build = "test_listing", listing_stream.build
@@ -22,29 +21,11 @@ class Stream(StreamTests, Case):
         super().setUpClass()
         cls.accepted = [entry for entry in cls.entries if entry.accepted]
 
-    def test_sizes(self):
-        cover_sizes(self, self.entries)
-
-    def test_refusals(self):
-        cover_refusals(self, self.entries)
-
     def test_ends_of_ranges(self):
         cover_ends(self, [entry.book for entry in self.accepted],
                    [cell for entry in self.accepted
                     for portfolio in entry.values.portfolios.values()
                     for cell in portfolio.cells])
-
-    def test_cells(self):
-        cover_cells(self, self.accepted)
-
-    def test_totals(self):
-        cover_totals(self, self.accepted)
-
-    def test_differences(self):
-        cover_differences(self, self.accepted)
-
-    def test_caps(self):
-        cover_caps(self, self.accepted)
 
     def test_distances(self):
         """Every total against its exact value."""
