@@ -212,8 +212,8 @@ def random_book(chooser, least_class=117, most_chains=4, most_junk=3):
     slots = slots_in_chain_order(values)
     if chooser.random() < 0.6:
         slots = shuffled(slots, chooser)
-    room = MOST_RECORDS - len(slots)
-    return make_book(values, with_junk(slots, min(room, chooser.randint(0, most_junk)), chooser))
+    free = MOST_RECORDS - len(slots)
+    return make_book(values, with_junk(slots, min(free, chooser.randint(0, most_junk)), chooser))
 
 
 def full_book(chooser, shuffle=False):

@@ -47,7 +47,7 @@ def refuse_out_of_range(book, field, number):
 
 
 def check_header(book, basis):
-    """Refusals 1 to 5, and 23, for the desk that writes the file."""
+    """Refusals 1 to 5, and 23."""
     refuse_if(len(book) < FIRST_RECORD_PLACE, 1, len(book))
     refuse_out_of_range(book, EDITION, 2)
     refuse_if(AGE_BASIS.read(book) != basis.number, 3, AGE_BASIS.offset)
@@ -77,7 +77,7 @@ def check_tables(book):
 def counted_records(book, chain, basis):
     """Walk one chain by refusals 9 to 13, and 21; how many of its records have a count.
 
-    The walk ends on any links: the class rises by one at each record, and at
+    It ends on any links: the class rises by one at each record, and at
     the oldest class only a next of zero passes.
     """
     counted = 0

@@ -1,4 +1,4 @@
-"""The exact value of a liability: the same steps with no rounding, apart from the reckoning."""
+"""The exact value of a liability: the same steps with no rounding, apart from the valuation."""
 
 from fractions import Fraction
 

@@ -23,12 +23,12 @@ def in_force_run(book, setting, chain, age_class):
             for in_force in in_force_by_year(values, chain, setting)]
 
 
-def screen_reply(book, setting, code, sex, age_class, lent):
+def screen_reply(book, setting, code, sex, age_class, length):
     """(refusal, place, run) for a buffer of so many numbers; where refused there is no run."""
     if setting not in SETTINGS:
         return 14, 0, None
     chain = chain_of(code, sex)
-    if chain is None or lent < YEARS:
+    if chain is None or length < YEARS:
         return 25, 0, None
     refusal, place = book_refusal(book)
     if refusal:

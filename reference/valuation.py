@@ -1,4 +1,4 @@
-"""The reckoning in whole numbers, every division rounded down, from the paper's six steps."""
+"""The valuation in whole numbers, every division rounded down, from the paper's six steps."""
 
 from typing import NamedTuple
 

@@ -45,7 +45,7 @@ def edition_2_book():
     return make_book(replace(worked_values(), edition=2, percentages=(80, 79)))
 
 
-# Each sample's name, its bytes and the verdict that README or docs/BOOK tells of it.
+# Each sample's name, its bytes and the verdict that the documents name.
 SAMPLES = [
     ("one_record", one_record_book(), "accepted 1"),
     ("worked_example", worked_book(), "accepted 3"),

@@ -1,4 +1,4 @@
-"""Compares the calls Report and Report room with the reference on random books and buffers."""
+"""Compares the calls Report and Report length with the reference on random books and buffers."""
 
 import sys
 from itertools import product

@@ -1,5 +1,6 @@
 """What is installed works where it is put: header, libraries, programs, command, Python package; and make's habits."""
 
+import importlib.util
 import os
 import re
 import shutil
@@ -11,9 +12,11 @@ from pathlib import Path
 
 from tests import ROOT
 from tests.cli.run import sample
+from tests.support.debian import install
 from tests.support.report import run_unit_tests
 
 MOST_SECONDS = 600
+WHEELS = Path("/usr/share/python-wheels")
 VERSION = (ROOT / "VERSION").read_text(encoding="ascii").strip()
 LISTING = (ROOT / "samples" / "small_insurer.listing").read_bytes()
 
@@ -26,6 +29,18 @@ def run(*words, folder=ROOT, env=None):
     """Run a command to its end."""
     return subprocess.run([str(word) for word in words], cwd=folder, stdin=subprocess.DEVNULL, capture_output=True,
                           timeout=MOST_SECONDS, check=False, env=SHELL if env is None else env)
+
+
+def wheel_path():
+    """What PYTHONPATH needs for setuptools to build a wheel: Debian's, where Python has none."""
+    if importlib.util.find_spec("wheel"):
+        return ""
+    if not list(WHEELS.glob("wheel-*.whl")):
+        install(["python3-wheel-whl"])
+    found = sorted(WHEELS.glob("wheel-*.whl"))
+    if not found:
+        raise FileNotFoundError("the package wheel is missing: apt-get install python3-wheel-whl")
+    return str(found[-1])
 
 
 class Installed(unittest.TestCase):
@@ -70,10 +85,14 @@ class Installed(unittest.TestCase):
 
     def test_pip(self):
         shutil.copytree(ROOT / "python", self.folder / "python")
-        ended = run(sys.executable, "-m", "pip", "install", "--quiet", "--no-build-isolation", "--no-deps",
-                    "--no-index", "--disable-pip-version-check", "--target", self.folder / "there",
-                    self.folder / "python")
+        ended = run(sys.executable, "-m", "pip", "install", "--quiet", "--no-build-isolation",
+                    "--no-deps", "--no-index", "--disable-pip-version-check", "--target",
+                    self.folder / "there", self.folder / "python",
+                    env={**SHELL, "PYTHONPATH": wheel_path()})
         self.assertEqual(ended.returncode, 0, ended.stderr)
+        [info] = (self.folder / "there").glob("xaropinto-*.dist-info")
+        self.assertIn("Tag: py3-none-linux_x86_64", (info / "WHEEL").read_text(encoding="utf-8"))
+        self.assertIn("Provides-Extra: xlsx", (info / "METADATA").read_text(encoding="utf-8"))
         self.assertTrue((self.folder / "there" / "bin" / "xaropinto").is_file())
         ended = run(sys.executable, "-c", "import xaropinto, sys; print(xaropinto.__version__, xaropinto.check("
                     "open(sys.argv[1], 'rb').read()))", sample("small_insurer"), folder=self.folder,

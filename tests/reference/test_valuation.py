@@ -1,4 +1,4 @@
-"""Tests of the two reckonings: trial figures, traps, refusals and the distance between them."""
+"""Tests of both valuations, rounded and exact: trial figures, traps, refusals, distances."""
 
 import random
 import sys

@@ -125,7 +125,7 @@ def read_rust(text):
 def c_numbers(text):
     """The whole numbers that the header defines, by name."""
     numbers = {}
-    for name, words in C_NUMBER.findall(text):
+    for name, words in C_NUMBER.findall(re.sub(r"\\\n *", "", text)):
         words = re.sub(r"[A-Z_]+", lambda found: str(numbers[found[0]]), words)
         # By C_NUMBER these are digits, signs and brackets alone.
         numbers[name] = eval(words, {"__builtins__": {}})

@@ -15,7 +15,7 @@ def scope(first, other):
 
 
 def label(defect):
-    """A chain's refusal number, with 9 told apart at heads and at nexts."""
+    """A chain's refusal number, with 9 split into heads and nexts."""
     return f"9 at {defect.cause}" if defect.number == 9 else f"{defect.number}"
 
 

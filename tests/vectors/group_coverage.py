@@ -91,8 +91,9 @@ class GroupCoverage:
                 if outgo != 0:
                     (at_cap if premium == 10 * outgo // 9 else below_cap).add(k)
         self.check("no premium above the cap from k = 5", not above_cap, above_cap)
-        behind = [entry.name for entry in self.accepted if entry.call.product_group == 1
-                  and has_rich_subgroup_behind_poor(read_values(entry.call.book), entry.call.setting)]
+        of_group_1 = [entry.call for entry in self.accepted if entry.call.product_group == 1]
+        behind = [call.name for call in of_group_1
+                  if has_rich_subgroup_behind_poor(read_values(call.book), call.setting)]
         self.check("a rich subgroup of PG1 behind a poor one", behind)
         self.covers("the cap reached in every year from k = 5", range(5, 50), at_cap)
         self.covers("the cap not reached in every year from k = 5", range(5, 50), below_cap)
