@@ -4,6 +4,7 @@ import random
 import struct
 import sys
 import unittest
+from types import SimpleNamespace
 
 from reference.book import (Cell, Portfolio, Values, empty_book, full_book, make_book,
                             one_record_book)
@@ -12,26 +13,39 @@ from reference.layout import BASIS_2
 from tests.support.report import run_unit_tests
 
 
-def packed(year=2021, count=None, spare=0, heads=None, costs=None, curve=None, mortality=None,
-           records=(), edition=1, basis=1):
+HEADER = {"year": 2021, "count": None, "spare": 0, "heads": {}, "costs": {}, "curve": {},
+          "mortality": {}, "records": (), "edition": 1, "basis": 1}
+RECORD = {"code": 1, "sex": 0, "age_class": 120, "following": 0, "count": 1, "lapse": 0,
+          "premium": 0, "claims": 0, "spare_3": 0, "spares": 0}
+
+
+def fields_of(usual, changes):
+    """The usual fields, some of them changed; no other is known."""
+    if not changes.keys() <= usual.keys():
+        raise TypeError(f"no such field: {changes.keys() - usual.keys()}")
+    return SimpleNamespace(**usual | changes)
+
+
+def packed(**changes):
     """A book packed field by field; tables are maps from a position to a number."""
     def table(size, numbers):
-        return [(numbers or {}).get(position, 0) for position in range(size)]
+        return [numbers.get(position, 0) for position in range(size)]
 
-    count = len(records) if count is None else count
-    return (struct.pack("<BBHHH", edition, basis, year, count, spare)
-            + struct.pack("<14H", *table(14, heads))
-            + struct.pack("<5I", *table(5, costs))
-            + struct.pack("<49i", *table(49, curve))
-            + struct.pack("<242I", *table(242, mortality))
-            + b"".join(records))
+    book = fields_of(HEADER, changes)
+    count = len(book.records) if book.count is None else book.count
+    return (struct.pack("<BBHHH", book.edition, book.basis, book.year, count, book.spare)
+            + struct.pack("<14H", *table(14, book.heads))
+            + struct.pack("<5I", *table(5, book.costs))
+            + struct.pack("<49i", *table(49, book.curve))
+            + struct.pack("<242I", *table(242, book.mortality))
+            + b"".join(book.records))
 
 
-def packed_record(code=1, sex=0, age_class=120, following=0, count=1, lapse=0, premium=0,
-                  claims=0, spare_3=0, spares=0):
+def packed_record(**changes):
     """A record's 24 bytes."""
-    return struct.pack("<BBBBHHIIII", code, sex, age_class, spare_3, following, spares,
-                       count, lapse, premium, claims)
+    one = fields_of(RECORD, changes)
+    return struct.pack("<BBBBHHIIII", one.code, one.sex, one.age_class, one.spare_3, one.following,
+                       one.spares, one.count, one.lapse, one.premium, one.claims)
 
 
 def pair_of_records(**second):

@@ -111,8 +111,9 @@ class Modules(unittest.TestCase):
             module = types.ModuleType("made_up", "Made up.")
             module.Tests = type("Tests", (Case,), tests)
             written, details = io.StringIO(), io.StringIO()
+            environ = patch.dict(os.environ, {NUMBER: "", **environment})
             with contextlib.redirect_stdout(written), contextlib.redirect_stderr(details), \
-                    patch.dict(os.environ, {NUMBER: "", **environment}), patch.object(sys, "argv", ["made_up"]):
+                    environ, patch.object(sys, "argv", ["made_up"]):
                 code = run_unit_tests(module)
             return code, written.getvalue().splitlines()[-1]
         return run
