@@ -46,7 +46,6 @@ QUICK_PROOFS = Part("proofs and programs", ["rt", "check"], 59)
 # What runs on the proved programs, two parts at once.
 PROGRAMS = [
     module("must-fail edits fit the proof files", "tests.repository.test_must_fail_reasons", 2),
-    module("formatters and linters", "tests.repository.test_style", 9),
     module("behaviour of the gate", "tests.repository.test_gate", 18),
     module("numbers of the promises, against the order", "tests.repository.test_order_figures", 54),
     module("declarations of the calls in four languages", "tests.repository.test_struct_layouts",
@@ -89,6 +88,7 @@ CALLS = [
     module("the command's behaviour", "tests.cli.test_habits", 15),
     module("the command's answers, against the reference", "tests.cli.test_figures", 19),
     module("what is installed", "tests.cli.test_installed", 14),
+    module("formatters and linters", "tests.repository.test_style", 9),
     module("documents", "tests.repository.test_documents", 15),
 ]
 PARTS = [PROOFS, *PROGRAMS, CALLERS, *CALLS]
