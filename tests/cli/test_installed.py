@@ -11,7 +11,7 @@ import unittest
 from pathlib import Path
 
 from tests import ROOT
-from tests.cli.run import sample
+from tests.cli.run import sample, xaropinto
 from tests.support.debian import install
 from tests.support.report import run_unit_tests
 
@@ -98,6 +98,12 @@ class Installed(unittest.TestCase):
                     "open(sys.argv[1], 'rb').read()))", sample("small_insurer"), folder=self.folder,
                     env={"PYTHONPATH": str(self.folder / "there")})
         self.assertEqual((ended.stdout.decode(), ended.stderr), (f"{VERSION} 315\n", b""))
+        # A refusal in words needs the package's table.
+        words = ("check", sample("lapse_too_large"))
+        ended = run(self.folder / "there" / "bin" / "xaropinto", *words,
+                    env={**SHELL, "PYTHONPATH": str(self.folder / "there")})
+        found = (ended.returncode, ended.stdout, ended.stderr.decode())
+        self.assertEqual(found, tuple(xaropinto(*words)))
 
 
 class Version(unittest.TestCase):
