@@ -1,7 +1,8 @@
 """The gate: proves every crate from nothing, then runs the outside tests; last comes the tally.
 
 `quick` proves only what is not proved as it stands, runs the same tests and tries no must-fail
-edit. `callers` and `fuzz` run some of the tests, one after the other.
+edit. `callers` and `fuzz` run some of the tests, one after the other. A test counts as one, or as
+the checks that it makes, which are its subtests; one that is skipped has failed.
 """
 
 import argparse
