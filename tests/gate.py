@@ -36,9 +36,9 @@ class Part(NamedTuple):
     least: int
 
 
-def module(name, path, least):
+def script(name, module, least):
     """A part that is one of our test modules; these lists are the only ones of them."""
-    return Part(name, [sys.executable, "-m", path], least)
+    return Part(name, [sys.executable, "-m", module], least)
 
 
 PROOFS = Part("proofs, must-fail edits and programs", ["rt", "ci"], 413)
@@ -46,51 +46,51 @@ PROOFS = Part("proofs, must-fail edits and programs", ["rt", "ci"], 413)
 QUICK_PROOFS = Part("proofs and programs", ["rt", "check"], 59)
 # What runs on the proved programs, two parts at once.
 PROGRAMS = [
-    module("must-fail edits fit the proof files", "tests.repository.test_must_fail_reasons", 2),
-    module("behaviour of the gate", "tests.repository.test_gate", 18),
-    module("numbers of the promises, against the order", "tests.repository.test_order_figures", 54),
-    module("declarations of the calls in four languages", "tests.repository.test_struct_layouts",
+    script("must-fail edits fit the proof files", "tests.repository.test_must_fail_reasons", 2),
+    script("behaviour of the gate", "tests.repository.test_gate", 18),
+    script("numbers of the promises, against the order", "tests.repository.test_order_figures", 54),
+    script("declarations of the calls in four languages", "tests.repository.test_struct_layouts",
            20),
-    module("refusals, from one table", "tests.repository.test_refusals", 4),
-    module("reference check, by hand-worked examples", "tests.reference.test_check", 43),
-    module("stream of the check", "tests.vectors.test_check", 53),
-    module("stream of Record", "tests.vectors.test_record_view", 12),
-    module("reference valuation, by hand-worked examples", "tests.reference.test_valuation", 38),
-    module("table of weights, entry by entry", "tests.reference.test_table_of_weights", 80),
-    module("stream of Group, against the fractions", "tests.vectors.test_group", 31),
-    module("stream of listings, against the fractions", "tests.vectors.test_listing", 36),
-    module("stream of projection lengths", "tests.vectors.test_cell_projection", 11),
-    module("listing program, by the paper's figures", "tests.programs.test_listing_main", 9),
-    module("report program", "tests.programs.test_year_report_main", 9),
-    module("convert program, by hand-worked books", "tests.programs.test_age_basis_main", 9),
-    module("sample books", "tests.programs.test_samples", 37),
-    module("random books against the reference check", "tests.fuzz.test_check", 17),
-    module("random listings against the reference valuation and the fractions",
+    script("refusals, from one table", "tests.repository.test_refusals", 4),
+    script("reference check, by hand-worked examples", "tests.reference.test_check", 43),
+    script("stream of the check", "tests.vectors.test_check", 53),
+    script("stream of Record", "tests.vectors.test_record_view", 12),
+    script("reference valuation, by hand-worked examples", "tests.reference.test_valuation", 38),
+    script("table of weights, entry by entry", "tests.reference.test_table_of_weights", 80),
+    script("stream of Group, against the fractions", "tests.vectors.test_group", 31),
+    script("stream of listings, against the fractions", "tests.vectors.test_listing", 36),
+    script("stream of projection lengths", "tests.vectors.test_cell_projection", 11),
+    script("listing program, by the paper's figures", "tests.programs.test_listing_main", 9),
+    script("report program", "tests.programs.test_year_report_main", 9),
+    script("convert program, by hand-worked books", "tests.programs.test_age_basis_main", 9),
+    script("sample books", "tests.programs.test_samples", 37),
+    script("random books against the reference check", "tests.fuzz.test_check", 17),
+    script("random listings against the reference valuation and the fractions",
            "tests.fuzz.test_listing", 25),
 ]
 # What builds the archive and the shared library, and what runs on these once they are built.
-CALLERS = module("callers in C and Rust", "tests.bindings.test_callers", 285)
+CALLERS = script("callers in C and Rust", "tests.bindings.test_callers", 285)
 CALLS = [
-    module("calls from Python, on random books", "tests.api.test_base_calls", 14),
-    module("arguments of the calls from Python", "tests.api.test_arguments", 13),
-    module("cost rates from Python, on random accounts", "tests.api.test_cost_rates", 38),
-    module("calls of the listing", "tests.api.test_listing", 14),
-    module("calls of the report", "tests.api.test_year_report", 27),
-    module("conversions from Python, on random books", "tests.api.test_age_basis", 63),
-    module("Write and Read from Python, on random values and lists", "tests.api.test_write_read",
+    script("calls from Python, on random books", "tests.api.test_base_calls", 14),
+    script("arguments of the calls from Python", "tests.api.test_arguments", 13),
+    script("cost rates from Python, on random accounts", "tests.api.test_cost_rates", 38),
+    script("calls of the listing", "tests.api.test_listing", 14),
+    script("calls of the report", "tests.api.test_year_report", 27),
+    script("conversions from Python, on random books", "tests.api.test_age_basis", 63),
+    script("Write and Read from Python, on random values and lists", "tests.api.test_write_read",
            31),
-    module("two funds from Python, on random pairs", "tests.api.test_funds", 84),
-    module("in force of a cell from Python, on random cells", "tests.api.test_in_force", 27),
-    module("spread of claims from Python, on random claims", "tests.api.test_claims_variation", 32),
-    module("deviations from Python, on random books and risk models",
+    script("two funds from Python, on random pairs", "tests.api.test_funds", 84),
+    script("in force of a cell from Python, on random cells", "tests.api.test_in_force", 27),
+    script("spread of claims from Python, on random claims", "tests.api.test_claims_variation", 32),
+    script("deviations from Python, on random books and risk models",
            "tests.api.test_standard_deviation", 50),
-    module("practice books from Python, on random start numbers", "tests.api.test_practice_book",
+    script("practice books from Python, on random start numbers", "tests.api.test_practice_book",
            19),
-    module("the command's behaviour", "tests.cli.test_habits", 15),
-    module("the command's answers, against the reference", "tests.cli.test_figures", 19),
-    module("what is installed", "tests.cli.test_installed", 14),
-    module("formatters and linters", "tests.repository.test_style", 9),
-    module("documents", "tests.repository.test_documents", 15),
+    script("the command's behaviour", "tests.cli.test_habits", 15),
+    script("the command's answers, against the reference", "tests.cli.test_figures", 19),
+    script("what is installed", "tests.cli.test_installed", 14),
+    script("formatters and linters", "tests.repository.test_style", 9),
+    script("documents", "tests.repository.test_documents", 15),
 ]
 PARTS = [PROOFS, *PROGRAMS, CALLERS, *CALLS]
 # The module that reads what the prover said of each edit; those whose inputs are drawn; and those
