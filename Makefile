@@ -35,7 +35,7 @@ test: ## prove everything from nothing, try every must-fail edit and run the out
 quick: ## for daily work: prove what has changed and run the outside tests; no must-fail edits
 	@exec python3 -m tests.gate quick
 
-check: target/bin/listing_main ## say the verdict on a book in words: make check BOOK=path
+check: target/bin/listing_main ## print the verdict on a book in words: make check BOOK=path
 	@python3 -m tools.say_verdict "$$BOOK_PATH"
 
 list: target/bin/listing_main ## write the listing of a book: make list BOOK=path
@@ -53,15 +53,11 @@ practice: export OUT_PATH := $(if $(value OUT),$(value OUT),target/practice.book
 practice: lib ## write the practice book of a start number: make practice START=1 OUT=path
 	@PYTHONPATH=python python3 -m xaropinto practice "$$START_WORD" -o "$$OUT_PATH"
 
-fuzz: target/bin/test_check target/bin/listing_main lib ## hold programs and calls against Python: make fuzz N=2000 SEED=1
+fuzz: target/bin/test_check target/bin/listing_main lib ## compare programs and calls with the reference: make fuzz N=2000 SEED=1
 	@python3 -m tests.gate fuzz --number $(N) --seed $(SEED)
 
 streams: ## write the test programs' streams anew
-	@python3 -m tests.vectors.check write
-	@python3 -m tests.vectors.record_view write
-	@python3 -m tests.vectors.group write
-	@python3 -m tests.vectors.listing write
-	@python3 -m tests.vectors.cell_projection write
+	@python3 -m tools.streams
 
 samples: ## write the sample books, their listings and their reports anew
 	@python3 -m tools.sample_books write
@@ -76,7 +72,7 @@ lib: ## prove the C boundary and put its archive and shared library under target
 	@cp target/lib.new/$(SHARED) target/lib.new/beside && mv -f target/lib.new/beside python/xaropinto/libxaropinto.so
 	@mv -f target/lib.new/* target/lib/
 
-install: lib target/bin/listing_main target/bin/year_report_main target/bin/age_basis_main ## install under PREFIX, /usr/local unless told, below DESTDIR
+install: lib target/bin/listing_main target/bin/year_report_main target/bin/age_basis_main ## install under PREFIX, by default /usr/local, below DESTDIR
 	@sh packaging/install.sh "$(DESTDIR)$(PREFIX)" $(SHARED) $(VERSION)
 
 dist: lib target/bin/listing_main target/bin/year_report_main target/bin/age_basis_main ## an archive for machines without the toolchain, under target/dist

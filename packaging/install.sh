@@ -1,5 +1,6 @@
 #!/bin/sh
-# Puts header, libraries, programs, man page and Python package under a folder: install.sh FOLDER SHARED VERSION.
+# Puts header, libraries, programs, man page and Python package under a folder:
+# install.sh FOLDER SHARED VERSION
 set -eu
 to=$1 shared=$2 version=$3
 package=$to/share/xaropinto/python/xaropinto
@@ -15,6 +16,7 @@ install -m 755 target/bin/year_report_main "$to/bin/xaropinto-report"
 install -m 755 target/bin/age_basis_main "$to/bin/xaropinto-convert"
 install -m 755 packaging/xaropinto "$to/bin/"
 install -m 644 packaging/xaropinto.1 "$to/share/man/man1/"
-install -m 644 python/xaropinto/*.py python/xaropinto/refusals.tsv python/xaropinto/py.typed "$package/"
+install -m 644 python/xaropinto/*.py "$package/"
+install -m 644 python/xaropinto/refusals.tsv python/xaropinto/py.typed "$package/"
 install -m 644 python/xaropinto/cli/*.py "$package/cli/"
 install -m 755 "target/lib/$shared" "$package/libxaropinto.so"

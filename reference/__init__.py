@@ -1,1 +1,1 @@
-"""The second reading of the papers: layout, book maker, check and reckoning, written from the papers and not from the code."""
+"""The reference implementation, written from the papers alone and not from the code."""

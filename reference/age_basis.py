@@ -4,9 +4,9 @@ from reference.check import check
 from reference.layout import AGE_BASIS, BASIS_1, BASIS_2, CHAINS, record
 
 
-def convert(book, room):
-    """(refusal, place, n, bytes): the converted book, None where the book or a buffer of this room is refused."""
-    if room < len(book):
+def convert(book, length):
+    """(refusal, place, n, bytes): the converted book, None where it or the buffer is refused."""
+    if length < len(book):
         return 16, 0, 0, None
     verdict = check(book, BASIS_2)
     if verdict[0] == "refused":

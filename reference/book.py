@@ -3,8 +3,9 @@
 from dataclasses import dataclass, field, replace
 from typing import NamedTuple
 
-from reference.layout import (AGE_BASIS, CHAINS, CLASSES, COST_RATES, CURVE, EDITION, MORTALITY, MOST_RECORDS,
-                           OLDEST_CLASS, PERCENTAGES, RECORD_COUNT, RECORD_SIZE, SST_YEAR, record, record_start)
+from reference.layout import (AGE_BASIS, CHAINS, CLASSES, COST_RATES, CURVE, EDITION, MORTALITY,
+                              MOST_RECORDS, OLDEST_CLASS, PERCENTAGES, RECORD_COUNT, RECORD_SIZE,
+                              SST_YEAR, record, record_start)
 
 PG2_MEN = 6
 
@@ -134,8 +135,9 @@ def read_values(book):
 
     portfolios = {chain: read_portfolio(book, link.head.read(book))
                   for chain, link in enumerate(CHAINS) if link.head.read(book) != 0}
-    return Values(EDITION.read(book), tuple(numbers(PERCENTAGES)), SST_YEAR.read(book), numbers(COST_RATES),
-                  numbers(CURVE), [numbers(MORTALITY[:CLASSES]), numbers(MORTALITY[CLASSES:])], portfolios)
+    return Values(EDITION.read(book), tuple(numbers(PERCENTAGES)), SST_YEAR.read(book),
+                  numbers(COST_RATES), numbers(CURVE),
+                  [numbers(MORTALITY[:CLASSES]), numbers(MORTALITY[CLASSES:])], portfolios)
 
 
 def read_portfolio(book, number):
@@ -184,15 +186,16 @@ def extreme_tables(chooser):
 
 
 def with_random_edition(values, chooser):
-    """The values in edition 1, or in edition 2 with percentages near 87 and 86, anywhere or at an end of the range."""
+    """The values in edition 1, or in edition 2 with percentages near 87 and 86 or anywhere."""
     if chooser.random() < 0.4:
         return values
-    ranges = chooser.choice((((84, 90), (83, 89)), ((1, 100),) * 2, ((1, 1), (100, 100)), ((100, 100), (1, 1))))
+    ranges = chooser.choice((((84, 90), (83, 89)), ((1, 100),) * 2, ((1, 1), (100, 100)),
+                             ((100, 100), (1, 1))))
     return replace(values, edition=2, percentages=tuple(chooser.randint(*ends) for ends in ranges))
 
 
 def random_values(chooser, chain_count, least_class, extreme=False):
-    """Values of either edition for so many chains, each from a random class at or above the least."""
+    """Values of either edition for so many chains, each from a class at or above the least."""
     values = extreme_tables(chooser) if extreme else realistic_tables(chooser)
     cell = extreme_cell if extreme else realistic_cell
     for chain in chooser.sample(range(len(CHAINS)), chain_count):
@@ -209,8 +212,8 @@ def random_book(chooser, least_class=117, most_chains=4, most_junk=3):
     slots = slots_in_chain_order(values)
     if chooser.random() < 0.6:
         slots = shuffled(slots, chooser)
-    room = MOST_RECORDS - len(slots)
-    return make_book(values, with_junk(slots, min(room, chooser.randint(0, most_junk)), chooser))
+    free = MOST_RECORDS - len(slots)
+    return make_book(values, with_junk(slots, min(free, chooser.randint(0, most_junk)), chooser))
 
 
 def full_book(chooser, shuffle=False):

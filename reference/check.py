@@ -1,8 +1,8 @@
-"""The verdict on a book and the looker's reply, worked from the customer's paper alone."""
+"""The verdict on a book and the view of a record, from the customer's paper alone."""
 
-from reference.layout import (AGE_BASIS, BASIS_1, CHAINS, COST_RATES, CURVE, EDITION, FIRST_RECORD_PLACE,
-                           HEADER_SPARE, MORTALITY, PERCENTAGES, RECORD_COUNT, RECORD_SIZE, SST_YEAR, record,
-                           record_start)
+from reference.layout import (AGE_BASIS, BASIS_1, CHAINS, COST_RATES, CURVE, EDITION,
+                              FIRST_RECORD_PLACE, HEADER_SPARE, MORTALITY, PERCENTAGES,
+                              RECORD_COUNT, RECORD_SIZE, SST_YEAR, record, record_start)
 
 
 class Refused(Exception):
@@ -24,7 +24,7 @@ def check(book, basis=BASIS_1):
         return "refused", refusal.number, refusal.place
 
 
-def look(book, number):
+def view(book, number):
     """(refusal, place, part): the record's 24 bytes, or an empty part with a refusal."""
     verdict = check(book)
     if verdict[0] == "refused":
@@ -47,7 +47,7 @@ def refuse_out_of_range(book, field, number):
 
 
 def check_header(book, basis):
-    """Refusals 1 to 5, and 23, for the desk that writes the file."""
+    """Refusals 1 to 5, and 23."""
     refuse_if(len(book) < FIRST_RECORD_PLACE, 1, len(book))
     refuse_out_of_range(book, EDITION, 2)
     refuse_if(AGE_BASIS.read(book) != basis.number, 3, AGE_BASIS.offset)
@@ -77,7 +77,7 @@ def check_tables(book):
 def counted_records(book, chain, basis):
     """Walk one chain by refusals 9 to 13, and 21; how many of its records have a count.
 
-    The walk ends on any links: the class rises by one at each record, and at
+    It ends on any links: the class rises by one at each record, and at
     the oldest class only a next of zero passes.
     """
     counted = 0
@@ -97,7 +97,7 @@ def counted_records(book, chain, basis):
 
 
 def check_record(book, linked, chain, class_before, basis):
-    """Refusals 10, 21, 11, 12 and 13 of one linked record; the first of a chain has no class before."""
+    """Refusals 10, 21, 11, 12 and 13 of a linked record; a chain's first has no class before."""
     owned = linked.code.read(book) == chain.code and linked.sex.read(book) == chain.sex
     spares_zero = all(spare.read(book) == 0 for spare in linked.spares)
     refuse_if(not owned or not spares_zero, 10, linked.start)

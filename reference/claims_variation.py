@@ -1,8 +1,9 @@
 """The spread of yearly claims: mean and coefficient of variation, worked from the papers alone.
 
-W-210 of the customer's requests, with section 5.2.4.2 of the supervisor's description. The claims are five whole
-numbers of centimes, from the lowest to the highest; xi and eta are Python floats, which are doubles. It is worked
-twice: with the machine's doubles, and with fractions that are rounded to a double after each operation.
+W-210 of the customer's requests, with section 5.2.4.2 of the supervisor's description. The claims
+are five whole numbers of centimes, from the lowest to the highest; xi and eta are Python floats,
+which are doubles. It is computed twice: with the machine's doubles, and with fractions that are
+rounded to a double after each operation.
 """
 
 from fractions import Fraction
@@ -27,15 +28,17 @@ def spread(lowest, first_quartile, median, third_quartile, highest, xi, eta):
 
 
 def spread_in_fractions(lowest, first_quartile, median, third_quartile, highest, xi, eta):
-    """The same, each operation on exact fractions and then rounded to the nearest double, at a tie to the even one.
+    """The same on exact fractions, each rounded to the nearest double, at a tie to the even one.
 
-    Python makes a double of a fraction by whole numbers alone, so the machine's own rounding plays no part.
+    Python makes a double of a fraction by whole numbers alone: the machine's own rounding plays
+    no part.
     """
     five = (lowest, first_quartile, median, third_quartile, highest)
     refusal = refusal_of(five, xi, eta)
     if refusal:
         return (refusal, 0, *NOTHING)
-    exact_mean = Fraction(lowest + 2 * first_quartile + 2 * median + 2 * third_quartile + highest, 8)
+    exact_mean = Fraction(lowest + 2 * first_quartile + 2 * median + 2 * third_quartile + highest,
+                          8)
     mean = float(exact_mean)
     assert Fraction(mean) == exact_mean, "the mean is not exact"
     if lowest == highest:

@@ -1,7 +1,7 @@
-"""The cost rates of five product groups out of three years of accounts, worked from the papers alone.
+"""The cost rates of five product groups from three years of accounts, from the papers alone.
 
-W-201 of the customer's requests, with section 4.4.8 of the supervisor's description. Accounts are three expenses, and
-three rows of five figures each for stock, claims and premium.
+W-201 of the customer's requests, with section 4.4.8 of the supervisor's description. Accounts are
+three expenses, and three rows of five figures each for stock, claims and premium.
 """
 
 from fractions import Fraction
@@ -30,11 +30,12 @@ def cost_rates(expenses, stock, claims, premium):
 def too_large(expenses, stock, claims, premium):
     """Is an amount or a stock of any year above its limit?"""
     amounts = [*expenses, *(amount for rows in (claims, premium) for row in rows for amount in row)]
-    return max(amounts) > HIGHEST_AMOUNT or max(contracts for row in stock for contracts in row) > HIGHEST_STOCK
+    return max(amounts) > HIGHEST_AMOUNT or max(contracts for row in stock
+                                                for contracts in row) > HIGHEST_STOCK
 
 
 def divisible(stock, claims, premium):
-    """Has every year a sum to split by, and every group that is not empty a premium to divide by?"""
+    """Has every year a sum to split by, and every group that is not empty a premium?"""
     if any(sum(row) == 0 for row in (*stock, *claims)):
         return False
     return all(is_empty(stock, claims, premium, group) or all(row[group] != 0 for row in premium)
@@ -52,16 +53,17 @@ def lowered(expense):
 
 
 def shares(expense, row):
-    """Steps 2 to 4: the year's lowered expenses split over the groups, by their figures of that year."""
+    """Steps 2 to 4: the year's lowered expenses split over the groups, by their figures."""
     return [floor(lowered(expense) * Fraction(figure, sum(row))) for figure in row]
 
 
 def rate(expenses, stock, claims, premium, group):
-    """Step 5: both shares averaged over the premium, in millionths, and the mean of the three years."""
+    """Step 5: both shares averaged over the premium, in millionths, and the mean of all years."""
     if is_empty(stock, claims, premium, group):
         return 0
     by_year = []
     for year in YEARS:
-        by_stock, by_claims = (shares(expenses[year], rows[year])[group] for rows in (stock, claims))
+        by_stock, by_claims = (shares(expenses[year], rows[year])[group]
+                               for rows in (stock, claims))
         by_year.append(floor(Fraction(by_stock + by_claims, 2) / premium[year][group] * 1_000_000))
     return floor(Fraction(sum(by_year), len(YEARS)))

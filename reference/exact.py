@@ -1,4 +1,4 @@
-"""The exact value of a liability: the same steps with no rounding, apart from the reckoning."""
+"""The exact value of a liability: the same steps with no rounding, apart from the valuation."""
 
 from fractions import Fraction
 
@@ -10,7 +10,8 @@ MILLIONTH = Fraction(1, 10**6)
 # What stays of a contract in a year is one whole number of billionths times another.
 SHARE = 10**18
 EDITION_1_PERCENTAGES = (87, 86)
-# How far a figure may be from its exact value, in centimes: for each cell with contracts, and for each product group.
+# How far a figure may be from its exact value, in centimes: for each cell with contracts, and for
+# each product group.
 ANY_CURVE, NO_RATE_BELOW_ZERO = (500, 2_850), (250, 1_425)
 # What each setting moves, and by how many percent.
 MOVES = {0: (None, 0), 1: ("mortality", 20), 2: ("mortality", -20), 3: ("lapse", 30),
@@ -26,7 +27,7 @@ def factor(setting, assumption, k):
 
 
 def base_mortality(values, sex):
-    """The share of the book's mortality that is reckoned with: edition 2 carries its own percentage."""
+    """The share of the book's mortality that counts: edition 2 carries its own percentage."""
     percentages = values.percentages if values.edition == 2 else EDITION_1_PERCENTAGES
     return Fraction(percentages[sex], 100)
 
@@ -100,7 +101,8 @@ def exact_liability(book, setting, product_group):
 def exact_totals(book):
     """The exact totals of an accepted book by setting, each its five groups added."""
     values = read_values(book)
-    return [sum(group_liability(values, setting, each) for each in PRODUCT_GROUPS) for setting in MOVES]
+    return [sum(group_liability(values, setting, each) for each in PRODUCT_GROUPS)
+            for setting in MOVES]
 
 
 def has_rate_below_zero(book):
@@ -109,7 +111,7 @@ def has_rate_below_zero(book):
 
 
 def distance_for(book, n, groups):
-    """What is promised of so many product groups with n cells together; W-213: half where no rate is below zero."""
+    """What is promised of product groups with n cells; W-213: half if no rate is below zero."""
     each_cell, each_group = ANY_CURVE if has_rate_below_zero(book) else NO_RATE_BELOW_ZERO
     return each_cell * n + each_group * groups
 

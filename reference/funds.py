@@ -2,10 +2,11 @@
 
 from reference.valuation import totals
 
-# What a fund file has of a book's bytes before the records, and the table file, which is what stands between.
+# What a fund file has of a book's bytes before the records, and the table file, which is what
+# stands between.
 FRONT_BYTES = 56
 TABLE_BYTES = 1_164
-LENT_NUMBERS = 16
+FUND_NUMBERS = 16
 HALVES = (0, 8)
 
 
@@ -14,9 +15,9 @@ def joined_book(table, fund):
     return fund[:FRONT_BYTES] + table + fund[FRONT_BYTES:]
 
 
-def fund_reply(table, fund, lent):
-    """(refusal, place, n, eight totals) of one fund, where so many numbers are lent; no totals with a refusal."""
-    if lent < LENT_NUMBERS:
+def fund_reply(table, fund, numbers):
+    """(refusal, place, n, eight totals) of one fund, for so many numbers; no totals if refused."""
+    if numbers < FUND_NUMBERS:
         return 16, 0, 0, None
     if len(table) != TABLE_BYTES:
         return 24, 0, 0, None
@@ -27,7 +28,7 @@ def fund_reply(table, fund, lent):
 
 
 def funds(table, first, second, numbers):
-    """((refusal, place, n) of each fund, the lent numbers afterwards)."""
+    """((refusal, place, n) of each fund, the numbers afterwards)."""
     after = list(numbers)
     verdicts = []
     for half, fund in zip(HALVES, (first, second)):

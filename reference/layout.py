@@ -1,4 +1,4 @@
-"""Where every field of a parameter book stands and the range each must keep; what Group can be asked for."""
+"""Where every field of a parameter book stands, and the range that each must keep."""
 
 from functools import lru_cache
 from typing import NamedTuple
@@ -57,7 +57,7 @@ class Field(NamedTuple):
 
 
 class Basis(NamedTuple):
-    """An age basis: what byte 1 says, and the first and last class that a chain's records may have."""
+    """An age basis: what byte 1 says, and the first and last class of a chain's records."""
 
     number: int
     youngest_class: int

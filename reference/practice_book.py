@@ -3,7 +3,8 @@
 from typing import NamedTuple
 
 from reference.write_read import book_of
-from reference.layout import CHAINS, COST_RATES, CURVE, LONGEST_BOOK, MORTALITY, MOST_RECORDS, record
+from reference.layout import (CHAINS, COST_RATES, CURVE, LONGEST_BOOK, MORTALITY, MOST_RECORDS,
+                              record)
 
 WORD = 2**64
 COUNTER_STEP = 362_437
@@ -11,7 +12,7 @@ SST_YEAR = 2021
 
 
 class Values(NamedTuple):
-    """What the desk that writes books is given beside the lists."""
+    """What Write is given beside the lists."""
 
     edition: int
     percentages: tuple
@@ -39,18 +40,19 @@ def drawn(field, draw):
 
 
 def practice_book(start):
-    """The book: every field that is drawn takes the next draw, in the order in which they stand in the book."""
+    """The book: every field that is drawn takes the next draw, in the order of the fields."""
     source = draws(start)
-    tables = [tuple(drawn(field, next(source)) for field in fields) for fields in (COST_RATES, CURVE, MORTALITY)]
+    tables = [tuple(drawn(field, next(source)) for field in fields)
+              for fields in (COST_RATES, CURVE, MORTALITY)]
     records = [[drawn(field, next(source)) for field in record(number).amounts]
                for number in range(1, MOST_RECORDS + 1)]
     values = Values(1, (0, 0), SST_YEAR, *tables, (0,) * len(CHAINS))
     return book_of(values, list(zip(*records)))
 
 
-def practice(start, room):
-    """(refusal, book): the bytes of the book, none of them where it is refused; a refusal's place is 0."""
-    if room < LONGEST_BOOK:
+def practice(start, length):
+    """(refusal, book): the book's bytes, none where it is refused; a refusal's place is 0."""
+    if length < LONGEST_BOOK:
         return 16, b""
     if start == 0:
         return 32, b""

@@ -1,7 +1,8 @@
 """One standard deviation of the four factors of a book, worked from the papers alone.
 
-W-212 of the customer's requests, with section 5.2.1 of the supervisor's description. The factors are mortality, lapse,
-costs and claims; their coefficients are in millionths, the correlation is four rows of four in thousandths.
+W-212 of the customer's requests, with section 5.2.1 of the supervisor's description. The factors
+are mortality, lapse, costs and claims; their coefficients are in millionths, the correlation is
+four rows of four in thousandths.
 """
 
 from fractions import Fraction
@@ -40,7 +41,7 @@ def deviation_of(differences, coefficients, correlation):
 
 
 def keeps_rules(coefficients, correlation):
-    """Are the coefficients at most one, and is the correlation symmetric, in range, and one on its diagonal?"""
+    """Are the coefficients at most one, and is the correlation one?"""
     entries = [each for row in correlation for each in row]
     return (all(each <= HIGHEST_COEFFICIENT for each in coefficients)
             and all(-ONE <= each <= ONE for each in entries)
@@ -49,7 +50,7 @@ def keeps_rules(coefficients, correlation):
 
 
 def factor(difference, coefficient, span):
-    """A difference in thousand francs, times its coefficient, over its span; both divisions go towards zero."""
+    """A difference in thousand francs, times coefficient over span; both divisions cut to zero."""
     thousands = trunc(Fraction(difference, THOUSAND_FRANCS))
     return trunc(Fraction(thousands * coefficient, ONE * span))
 

@@ -1,4 +1,4 @@
-"""The reckoning in whole numbers, every division rounded down, from the paper's six steps."""
+"""The valuation in whole numbers, every division rounded down, from the paper's six steps."""
 
 from typing import NamedTuple
 
@@ -20,7 +20,7 @@ EDITION_1_PERCENTAGES = (87, 86)
 
 
 class Weights(NamedTuple):
-    """Thousandths on the book's rates and claims; on mortality so many for each percent of its percentage."""
+    """Thousandths on the book's rates and claims; on mortality, for each of its percents."""
 
     men: int = 10
     women: int = 10
@@ -74,7 +74,7 @@ def next_in_force(in_force, mortality, lapse):
 
 
 def reached(by_class, k):
-    """What a chain has for each class, as its cells meet it in year k: those that come to the last stay there."""
+    """What a chain has for each class, as its cells meet it in year k; in the last they stay."""
     return by_class[k:] + by_class[-1:] * min(k, len(by_class))
 
 
@@ -94,7 +94,7 @@ def in_force_by_year(values, chain, setting):
 
 
 def years_in_force(values, chain, setting):
-    """W-203: the first year in which a chain's first cell has nothing in force, or 50 where there is none."""
+    """W-203: the first year in which a chain's first cell has nothing in force, or 50."""
     for k, in_force in enumerate(in_force_by_year(values, chain, setting)):
         if in_force[0] == 0:
             return k

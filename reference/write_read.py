@@ -1,8 +1,9 @@
-"""The desk that writes books: a book from values and lists, and back, worked from the customer's paper alone."""
+"""A book from values and lists, and back, worked from the customer's paper alone."""
 
 from reference.check import check
-from reference.layout import (AGE_BASIS, CHAINS, CLASSES, COST_RATES, CURVE, EDITION, FIRST_RECORD_PLACE, MORTALITY,
-                           PERCENTAGES, RECORD_COUNT, RECORD_SIZE, SST_YEAR, record, record_start)
+from reference.layout import (AGE_BASIS, CHAINS, CLASSES, COST_RATES, CURVE, EDITION,
+                              FIRST_RECORD_PLACE, MORTALITY, PERCENTAGES, RECORD_COUNT, RECORD_SIZE,
+                              SST_YEAR, record, record_start)
 
 # The first class of a chain that has no records.
 NO_CLASS = CLASSES
@@ -19,18 +20,19 @@ def book_size(first_classes):
     return FIRST_RECORD_PLACE + RECORD_SIZE * sum(list_sizes(first_classes))
 
 
-def write(values, lists, room):
-    """(refusal, book): the bytes of the book, none of them where it is refused; a refusal's place is 0."""
-    refusal = refusal_of(values, lists, room)
+def write(values, lists, length):
+    """(refusal, book): the book's bytes, none where it is refused; a refusal's place is 0."""
+    refusal = refusal_of(values, lists, length)
     return refusal, b"" if refusal else book_of(values, lists)
 
 
-def refusal_of(values, lists, room):
+def refusal_of(values, lists, length):
     """The first rule that is broken, 0 where none is."""
     due = sum(list_sizes(values.first_classes))
     tests = (
         (11, all(first_class <= NO_CLASS for first_class in values.first_classes)),
-        (22, all(len(numbers) == due for numbers in lists) and book_size(values.first_classes) <= room),
+        (22, all(len(numbers) == due for numbers in lists)
+            and book_size(values.first_classes) <= length),
         (2, EDITION.low <= values.edition <= EDITION.high),
         (4, SST_YEAR.low <= values.year <= SST_YEAR.high
             and (values.edition != 1 or tuple(values.percentages) == (0, 0))),
@@ -46,7 +48,8 @@ def refusal_of(values, lists, room):
 
 def keep_ranges(fields, numbers):
     """Does each number keep the range of its field?"""
-    return all(field.low <= number <= field.high for field, number in zip(fields, numbers, strict=True))
+    return all(field.low <= number <= field.high
+               for field, number in zip(fields, numbers, strict=True))
 
 
 def book_of(values, lists):
@@ -58,7 +61,8 @@ def book_of(values, lists):
     AGE_BASIS.put(book, 1)
     SST_YEAR.put(book, values.year)
     RECORD_COUNT.put(book, sum(list_sizes(values.first_classes)))
-    for fields, numbers in ((COST_RATES, values.cost_rates), (CURVE, values.curve), (MORTALITY, values.mortality)):
+    for fields, numbers in ((COST_RATES, values.cost_rates), (CURVE, values.curve),
+                            (MORTALITY, values.mortality)):
         for field, number in zip(fields, numbers, strict=True):
             field.put(book, number)
     number = 1
@@ -83,20 +87,26 @@ def put_record(book, number, chain, age_class, amounts):
         field.put(book, amount)
 
 
-def read(book, rooms):
-    """(refusal, place, values, lists), the last two None where refused; values as (edition, percentages,
-    year, tables .., first classes)."""
+def read(book, lengths):
+    """(refusal, place, values, lists), the last two None where refused.
+
+    Values are (edition, percentages, year, tables, first classes).
+    """
     verdict = check(book)
     if verdict[0] == "refused":
         return *verdict[1:], None, None
     chains = [chain_records(book, chain) for chain in CHAINS]
-    if any(room < sum(map(len, chains)) for room in rooms):
+    if any(length < sum(map(len, chains)) for length in lengths):
         return 22, 0, None, None
-    first_classes = tuple(linked[0].age_class.read(book) if linked else NO_CLASS for linked in chains)
-    tables = (tuple(field.read(book) for field in fields) for fields in (COST_RATES, CURVE, MORTALITY))
-    lists = [[linked.amounts[kind].read(book) for linked in sum(chains, [])] for kind in range(len(KINDS))]
+    first_classes = tuple(linked[0].age_class.read(book) if linked else NO_CLASS
+                          for linked in chains)
+    tables = (tuple(field.read(book) for field in fields)
+              for fields in (COST_RATES, CURVE, MORTALITY))
+    lists = [[linked.amounts[kind].read(book) for linked in sum(chains, [])]
+             for kind in range(len(KINDS))]
     percentages = tuple(field.read(book) for field in PERCENTAGES)
-    return 0, 0, (EDITION.read(book), percentages, SST_YEAR.read(book), *tables, first_classes), lists
+    return 0, 0, (EDITION.read(book), percentages, SST_YEAR.read(book), *tables,
+                  first_classes), lists
 
 
 def chain_records(book, chain):
@@ -112,4 +122,5 @@ def chain_records(book, chain):
 def in_order(book):
     """Are all records of an accepted book linked, and do they stand in chain order?"""
     numbers = [linked.number for chain in CHAINS for linked in chain_records(book, chain)]
-    return numbers == list(range(1, RECORD_COUNT.read(book) + 1)) and len(book) == record_start(len(numbers) + 1)
+    all_linked = numbers == list(range(1, RECORD_COUNT.read(book) + 1))
+    return all_linked and len(book) == record_start(len(numbers) + 1)

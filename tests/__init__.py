@@ -1,4 +1,4 @@
-"""What the gate runs beside the proofs: the built programs and the archive held against the second reading."""
+"""What the gate runs beside the proofs: programs and archive compared with the reference."""
 
 from pathlib import Path
 

@@ -1,19 +1,22 @@
 """The gate: proves every crate from nothing, then runs the outside tests; last comes the tally.
 
 `quick` proves only what is not proved as it stands, runs the same tests and tries no must-fail
-edit. `callers` and `fuzz` run some of the tests, one after the other.
+edit. `callers` and `fuzz` run some of the tests, one after the other. A test counts as one, or as
+the checks that it makes, which are its subtests; one that is skipped has failed.
 """
 
 import argparse
+import os
 import re
 import subprocess
 import sys
 from typing import NamedTuple
 
-from tests.support.checker import checker_line
 from tests import ROOT
+from tests.support.checker import checker_line
 from tests.support.command import run, run_beside
 from tests.support.progress import Line, Work, crates_listed, edits_listed
+from tests.support.report import NUMBER, SEED
 
 TALLY = re.compile(r"^(\d+) passed, (\d+) failed$")
 # The last line of `rt check`, which counts no failures and names them instead.
@@ -21,21 +24,21 @@ PROVED = re.compile(r"^rt: ok, (\d+) crates proved$")
 # What the whole gate may take at the most: a part that takes longer hangs.
 MOST_SECONDS = 90 * 60
 INTERRUPTED = 130
-# What is told of a part that passes: the seed, and the largest distance.
-TOLD = ("seed ", "largest share")
+# What is shown of a part that passes: the seed, and the largest distance.
+SHOWN = ("seed ", "largest share")
 
 
 class Part(NamedTuple):
-    """A part of the gate, as docs/REVIEW.md names it: its command, and the fewest tests that it must count."""
+    """A part, as the documents name it: its command, and the fewest tests that it must count."""
 
     name: str
     command: list
     least: int
 
 
-def script(name, module, least, *words):
-    """A part that is one of our scripts."""
-    return Part(name, [sys.executable, "-m", module, *words], least)
+def script(name, module, least):
+    """A part that is one of our test modules; these lists are the only ones of them."""
+    return Part(name, [sys.executable, "-m", module], least)
 
 
 PROOFS = Part("proofs, must-fail edits and programs", ["rt", "ci"], 414)
@@ -43,56 +46,63 @@ PROOFS = Part("proofs, must-fail edits and programs", ["rt", "ci"], 414)
 QUICK_PROOFS = Part("proofs and programs", ["rt", "check"], 60)
 # What runs on the proved programs, two parts at once.
 PROGRAMS = [
-    script("must-fail edits fit the proof files", "tests.repository.must_fail_reasons", 2),
-    script("documents", "tests.repository.test_documents", 15),
-    script("the gate's own habits", "tests.repository.test_gate", 12),
+    script("must-fail edits fit the proof files", "tests.repository.test_must_fail_reasons", 2),
+    script("behaviour of the gate", "tests.repository.test_gate", 18),
     script("numbers of the promises, against the order", "tests.repository.test_order_figures", 54),
-    script("declarations of the calls in four languages", "tests.repository.test_struct_layouts", 20),
-    script("refusals, from one table", "tools.refusals", 4, "test"),
-    script("second check, by hand-worked examples", "tests.reference.test_check", 43),
-    script("stream of the check", "tests.vectors.check", 53, "test"),
-    script("stream of the looker", "tests.vectors.record_view", 12, "test"),
-    script("second reckoning, by hand-worked examples", "tests.reference.test_valuation", 38),
+    script("declarations of the calls in four languages", "tests.repository.test_struct_layouts",
+           20),
+    script("refusals, from one table", "tests.repository.test_refusals", 4),
+    script("reference check, by hand-worked examples", "tests.reference.test_check", 43),
+    script("stream of the check", "tests.vectors.test_check", 53),
+    script("stream of Record", "tests.vectors.test_record_view", 12),
+    script("reference valuation, by hand-worked examples", "tests.reference.test_valuation", 38),
     script("table of weights, entry by entry", "tests.reference.test_table_of_weights", 80),
-    script("stream of Group, against the fractions", "tests.vectors.group", 31, "test"),
-    script("stream of listings, against the fractions", "tests.vectors.listing", 36, "test"),
-    script("stream of the walk", "tests.vectors.cell_projection", 11, "test"),
+    script("stream of Group, against the fractions", "tests.vectors.test_group", 31),
+    script("stream of listings, against the fractions", "tests.vectors.test_listing", 36),
+    script("stream of projection lengths", "tests.vectors.test_cell_projection", 11),
     script("listing program, by the paper's figures", "tests.programs.test_listing_main", 9),
     script("report program", "tests.programs.test_year_report_main", 9),
     script("convert program, by hand-worked books", "tests.programs.test_age_basis_main", 9),
-    script("sample books", "tools.sample_books", 37, "test"),
-    script("random books against the second check", "tests.fuzz.test_check", 17),
-    script("random listings against the second reckoning and the fractions", "tests.fuzz.test_listing", 25),
+    script("sample books", "tests.programs.test_samples", 37),
+    script("random books against the reference check", "tests.fuzz.test_check", 17),
+    script("random listings against the reference valuation and the fractions",
+           "tests.fuzz.test_listing", 25),
 ]
 # What builds the archive and the shared library, and what runs on these once they are built.
-CALLERS = script("callers in C and Rust", "tests.bindings.test_callers", 283)
+CALLERS = script("callers in C and Rust", "tests.bindings.test_callers", 285)
 CALLS = [
-    script("calls from Python, on random books", "tests.api.test_base_calls", 26),
+    script("calls from Python, on random books", "tests.api.test_base_calls", 14),
+    script("arguments of the calls from Python", "tests.api.test_arguments", 13),
     script("cost rates from Python, on random accounts", "tests.api.test_cost_rates", 38),
     script("calls of the listing", "tests.api.test_listing", 14),
     script("calls of the report", "tests.api.test_year_report", 27),
     script("conversions from Python, on random books", "tests.api.test_age_basis", 63),
-    script("Write and Read from Python, on random values and lists", "tests.api.test_write_read", 31),
-    script("two funds from Python, on random pairs", "tests.api.test_funds", 83),
-    script("one cell on the screen from Python, on random cells", "tests.api.test_in_force", 27),
+    script("Write and Read from Python, on random values and lists", "tests.api.test_write_read",
+           31),
+    script("two funds from Python, on random pairs", "tests.api.test_funds", 84),
+    script("in force of a cell from Python, on random cells", "tests.api.test_in_force", 27),
     script("spread of claims from Python, on random claims", "tests.api.test_claims_variation", 32),
-    script("deviations from Python, on random books and risk models", "tests.api.test_standard_deviation", 50),
-    script("practice books from Python, on random start numbers", "tests.api.test_practice_book", 19),
-    script("the command's habits", "tests.cli.test_habits", 15),
-    script("the command's answers, against the second reading", "tests.cli.test_figures", 19),
-    script("what is installed", "tests.cli.test_installed", 8),
+    script("deviations from Python, on random books and risk models",
+           "tests.api.test_standard_deviation", 50),
+    script("practice books from Python, on random start numbers", "tests.api.test_practice_book",
+           19),
+    script("the command's behaviour", "tests.cli.test_habits", 15),
+    script("the command's answers, against the reference", "tests.cli.test_figures", 19),
+    script("what is installed", "tests.cli.test_installed", 14),
+    script("formatters and linters", "tests.repository.test_style", 9),
+    script("documents", "tests.repository.test_documents", 15),
 ]
 PARTS = [PROOFS, *PROGRAMS, CALLERS, *CALLS]
 # The module that reads what the prover said of each edit; those whose inputs are drawn; and those
 # that take longest: started first, none of them runs on alone at the end.
-OF_EDITS = "tests.repository.must_fail_reasons"
+OF_EDITS = "tests.repository.test_must_fail_reasons"
 DRAWN = ("tests.fuzz.", "tests.api.")
-LONG = ("tests.fuzz.test_listing", "tests.bindings.test_callers", "tests.vectors.listing",
+LONG = ("tests.fuzz.test_listing", "tests.bindings.test_callers", "tests.vectors.test_listing",
         "tests.cli.", "tests.api.test_funds", "tests.api.test_base_calls")
 
 
 def module_of(part):
-    """The module of a part that is one of our scripts; empty for any other."""
+    """The path of a part that is one of our test modules; empty for any other."""
     return "".join(part.command[2:3])
 
 
@@ -110,7 +120,7 @@ def try_parts(parts, work, line):
         line.show(lambda: work.words([parts[number].name for number in written]))
 
     ended = run_beside([part.command for part in parts], MOST_SECONDS, watch)
-    return [tell_part(part, work, line, *each) for part, each in zip(parts, ended)]
+    return [show_part(part, work, line, *each) for part, each in zip(parts, ended)]
 
 
 def count_tests(part, code, lines):
@@ -125,7 +135,7 @@ def count_tests(part, code, lines):
     return passed, failed
 
 
-def tell_part(part, work, line, code, text, seconds):
+def show_part(part, work, line, code, text, seconds):
     """Print the line of a part that has ended, and what it wrote where it failed; its tally."""
     lines = text.rstrip().splitlines()
     work.read(lines)
@@ -135,7 +145,7 @@ def tell_part(part, work, line, code, text, seconds):
     if failed:
         print("\n".join(lines))
     else:
-        print("".join(each + "\n" for each in lines if each.startswith(TOLD)), end="")
+        print("".join(each + "\n" for each in lines if each.startswith(SHOWN)), end="")
     print(f"{'ok' if not failed else 'FAILED'} {part.name}: {passed} passed, {failed} failed"
           f" ({seconds:.0f} s)", flush=True)
     return passed, failed
@@ -161,10 +171,10 @@ def run_gate(proofs, programs, edits):
     return 1 if failed else 0
 
 
-def run_one_by_one(parts, words=()):
+def run_one_by_one(parts):
     """Run parts by themselves up to the first that fails; its exit code."""
     for part in parts:
-        code = subprocess.run([*part.command, *words], cwd=ROOT, check=False).returncode
+        code = subprocess.run(part.command, cwd=ROOT, check=False).returncode
         if code:
             return code
     return 0
@@ -183,11 +193,14 @@ def read_words():
 def main():
     """Run what is wanted; the exit code."""
     wanted = read_words()
+    if wanted.what == "fuzz":
+        os.environ |= {NUMBER: wanted.number, SEED: wanted.seed}
+        return run_one_by_one(drawn([*PROGRAMS, *CALLS]))
+    # Any other run draws as many inputs as each module says: with fewer, kinds could be missed.
+    for name in (NUMBER, SEED):
+        os.environ.pop(name, None)
     if wanted.what == "callers":
         return run_one_by_one([CALLERS, *drawn(CALLS)])
-    if wanted.what == "fuzz":
-        words = ["--number", wanted.number, "--seed", wanted.seed]
-        return run_one_by_one(drawn([*PROGRAMS, *CALLS]), words)
     print(checker_line(run(["rt", "version"], MOST_SECONDS)[1]), flush=True)
     if wanted.what == "quick":
         programs = [part for part in PROGRAMS if module_of(part) != OF_EDITS]

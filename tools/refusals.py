@@ -1,10 +1,9 @@
-"""Writes the one table of refusals into docs/BOOK.md, the header and the Rust wrapper, or tests that they have it."""
+"""Writes the one table of refusals into docs/BOOK.md, the header and the Rust wrapper."""
 
 import argparse
 import sys
 
 from tests import ROOT
-from tests.support.report import Report
 
 sys.path.insert(0, str(ROOT / "python"))
 
@@ -16,25 +15,29 @@ BEGIN, END = "refusals: begin", "refusals: end"
 def in_book(rows):
     """A table's lines."""
     head = ["| number | rule | place | who mends it | broken by |", "|---|---|---|---|---|"]
-    return head + [f"| {row.number} | {row.rule} | {row.place} | {row.mended_by} | {row.example} |" for row in rows]
+    return head + [f"| {row.number} | {row.rule} | {row.place} | {row.mended_by} | {row.example} |"
+                   for row in rows]
 
 
 def in_header(rows):
     """The cases of a function in C."""
     return [line for row in rows
             for line in (f"    case {row.number}:",
-                         f'        return "{row.rule}; place: {row.place}; mended by: {row.mended_by}";')]
+                         f'        return "{row.rule}; place: {row.place};'
+                         f' mended by: {row.mended_by}";')]
 
 
 def in_rust(rows):
     """The arms of a match in Rust."""
     return [line for row in rows
-            for line in (f"        {row.number} => {{", f'            "{row.rule}; mended by: {row.mended_by}"',
+            for line in (f"        {row.number} => {{",
+                         f'            "{row.rule}; mended by: {row.mended_by}"',
                          "        }")]
 
 
 # Where the table stands, and how its lines are made there.
-COPIES = {"docs/BOOK.md": in_book, "include/xaropinto.h": in_header, "bindings/rust/src/refusals.rs": in_rust}
+COPIES = {"docs/BOOK.md": in_book, "include/xaropinto.h": in_header,
+          "bindings/rust/src/refusals.rs": in_rust}
 
 
 def filled(text, lines):
@@ -45,25 +48,23 @@ def filled(text, lines):
     return "\n".join([*held[:begin + 1], *lines, *held[end:]]) + "\n"
 
 
-def main():
-    """Write, or test."""
-    parser = argparse.ArgumentParser(description=__doc__)
-    parser.add_argument("what", choices=("write", "test"))
-    what = parser.parse_args().what
-    rows, report = [refusals()[number] for number in sorted(refusals())], Report()
+def copies():
+    """(path, its text, its text with the table of refusals) of each file that has the table."""
+    rows = [refusals()[number] for number in sorted(refusals())]
     for name, lines_of in COPIES.items():
         path = ROOT / name
         text = path.read_text(encoding="utf-8")
-        due = filled(text, lines_of(rows))
-        if what == "write":
-            path.write_text(due, encoding="utf-8")
-        else:
-            report.test(f"{name} has the table of refusals", text == due, "python3 -m tools.refusals write mends it")
-    if what == "write":
-        return 0
-    numbered = [row.number for row in rows] == list(range(1, len(rows) + 1))
-    report.test("refusals are numbered from 1 without a gap", numbered)
-    return report.finish()
+        yield path, text, filled(text, lines_of(rows))
+
+
+def main():
+    """Write the table into each file."""
+    parser = argparse.ArgumentParser(description=__doc__)
+    parser.add_argument("verb", choices=("write",), help="write the table into each file")
+    parser.parse_args()
+    for path, _, due in copies():
+        path.write_text(due, encoding="utf-8")
+    return 0
 
 
 if __name__ == "__main__":

@@ -1,4 +1,4 @@
-"""The sample books with their listings and reports: written, or tested to be as built and to have the verdict told."""
+"""Writes the sample books with their listings and reports."""
 
 import argparse
 import sys
@@ -11,8 +11,6 @@ from reference.year_report import report_page
 from tests import ROOT
 from tests.fixtures.insurers import MANY_PRODUCTS, dense_full_book, flat_values, insurer_book
 from tests.fixtures.age_basis_2 import on_basis_2
-from tests.support.program import ProgramFailed, verdict_lines
-from tests.support.report import Report
 
 FOLDER = ROOT / "samples"
 # A page of the command, which tests/cli holds.
@@ -47,7 +45,7 @@ def edition_2_book():
     return make_book(replace(worked_values(), edition=2, percentages=(80, 79)))
 
 
-# Each sample's name, its bytes and the verdict that README or docs/BOOK tells of it.
+# Each sample's name, its bytes and the verdict that the documents name.
 SAMPLES = [
     ("one_record", one_record_book(), "accepted 1"),
     ("worked_example", worked_book(), "accepted 3"),
@@ -60,20 +58,24 @@ SAMPLES = [
 
 
 def files():
-    """Each file of samples/ by its name: the books, and beside each its listing and its report in the base setting."""
+    """Each file of samples/ by its name: the books, each with its listing and base report."""
     held = {}
     for name, book, _ in SAMPLES:
-        held |= {f"{name}.book": book, f"{name}.listing": listing(book), f"{name}.report": report_page(book, 0)}
+        held |= {f"{name}.book": book, f"{name}.listing": listing(book),
+                 f"{name}.report": report_page(book, 0)}
     return held
 
 
 def copies():
-    """What the proofs of the programs run them on: a sample, and what comes of it; its report in another setting."""
+    """What the proofs of the programs run them on: a sample, and what comes of it."""
     name, book, _ = SAMPLES[0]
-    listed = {"crates/listing_main/stdin": book, "crates/listing_main/stdout": files()[f"{name}.listing"]}
-    reported = {"crates/year_report_main/stdin": book, "crates/year_report_main/args": f"{REPORTED_SETTING}\n".encode("ascii"),
+    listed = {"crates/listing_main/stdin": book,
+              "crates/listing_main/stdout": files()[f"{name}.listing"]}
+    reported = {"crates/year_report_main/stdin": book,
+                "crates/year_report_main/args": f"{REPORTED_SETTING}\n".encode("ascii"),
                 "crates/year_report_main/stdout": report_page(book, REPORTED_SETTING)}
-    converted = {"crates/age_basis_main/stdin": on_basis_2(worked_book()), "crates/age_basis_main/stdout": worked_book()}
+    converted = {"crates/age_basis_main/stdin": on_basis_2(worked_book()),
+                 "crates/age_basis_main/stdout": worked_book()}
     return listed | reported | converted
 
 
@@ -82,44 +84,16 @@ def all_files():
     return {f"samples/{name}": content for name, content in files().items()} | copies()
 
 
-def write():
+def main():
     """Write every sample."""
+    parser = argparse.ArgumentParser(description=__doc__)
+    parser.add_argument("verb", choices=("write",), help="write the samples anew")
+    parser.parse_args()
     FOLDER.mkdir(exist_ok=True)
     for name, content in all_files().items():
         (ROOT / name).write_bytes(content)
         print(f"{name}: {len(content)} bytes")
     return 0
-
-
-def test():
-    """The files are as built, nothing else lies beside them, and the built check says what is told."""
-    report = Report()
-    for name, due in all_files().items():
-        path = ROOT / name
-        report.test(f"{name} is as built", path.is_file() and path.read_bytes() == due)
-    held = sorted(path.name for path in FOLDER.iterdir())
-    report.test("samples/ holds nothing else", held == sorted([*files(), PAGE]), held)
-    test_verdicts(report)
-    return report.finish()
-
-
-def test_verdicts(report):
-    """The built check says what is told of each book, and ends well."""
-    try:
-        lines, code = verdict_lines([book for _, book, _ in SAMPLES])
-    except ProgramFailed as trouble:
-        report.test("the program gives its verdicts", False, trouble)
-        return
-    report.test("the program ends with code 0", code == 0, f"it ended with {code}")
-    for (name, _, verdict), line in zip(SAMPLES, lines + [""] * len(SAMPLES)):
-        report.test(f"samples/{name}.book is {verdict}", line == verdict, line)
-
-
-def main():
-    """The two verbs."""
-    parser = argparse.ArgumentParser(description=__doc__)
-    parser.add_argument("verb", choices=("write", "test"), help="write the samples anew, or test that they are as built")
-    return write() if parser.parse_args().verb == "write" else test()
 
 
 if __name__ == "__main__":

@@ -1,4 +1,4 @@
-"""The verdict on the book in a file, by the built listing program, with a refusal put into plain words."""
+"""The verdict on the book in a file, by the built listing program; a refusal in plain words."""
 
 import argparse
 import sys
@@ -10,6 +10,7 @@ from tests.support.program import ProgramFailed, run_program
 sys.path.insert(0, str(ROOT / "python"))
 
 from xaropinto.messages import explain  # noqa: E402
+
 
 def verdict_of(book):
     """The verdict line of a book, out of what the listing program says of it."""
@@ -23,7 +24,7 @@ def verdict_of(book):
 
 
 def main():
-    """Say the verdict: 0 where the book is accepted, 1 where it is refused, 2 where no verdict could be had."""
+    """Print the verdict: 0 where the book is accepted, 1 where refused, 2 where it is unknown."""
     parser = argparse.ArgumentParser(description=__doc__)
     parser.add_argument("book", help="the path of a book")
     path = parser.parse_args().book

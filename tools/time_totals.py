@@ -1,4 +1,4 @@
-"""Times Totals of the second reckoning on a book in a file: the median milliseconds, n, totals and differences."""
+"""Times Totals of the reference on a book: median milliseconds, n, totals and differences."""
 
 import argparse
 import statistics

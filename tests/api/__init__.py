@@ -1,1 +1,1 @@
-"""The calls of the shared library, from Python, held against the second reading."""
+"""The calls of the shared library, from Python, compared with the reference implementation."""

@@ -1,76 +1,79 @@
-"""Books on age basis 2, the shared library's conversions of them held against the second reading."""
+"""Compares the library's conversions of age basis 2 with the reference: by hand and at random."""
 
+import ctypes
 import random
 import sys
+from array import array
 from collections import Counter
 
 from reference.book import empty_book, full_book, random_book
 from reference.age_basis import convert, linked_records
 from reference.layout import LONGEST_BOOK, changed, record
+from tests.api.age_basis_cases import CASES, pair_book
+from tests.fixtures.age_basis_2 import on_basis_2
 from tests.fixtures.damage import damaged
 from tests.fixtures.insurers import MANY_PRODUCTS, insurer_book
-from tests.fixtures.age_basis_2 import on_basis_2
-from tests.api.age_basis_cases import test_arguments, test_cases
-from tests.support.library import open_library
-from tests.fuzz.common import keep_book, read_arguments
-from tests.support.report import Report
+from tests.support.differential import Differential
+from tests.support.library import LibraryCase
+from tests.support.report import run_unit_tests
 
-DEFAULT_BOOKS = 2_000
-DEFAULT_SEED = 121
-# Below so many books a refusal may be missed by chance.
-BOOKS_FOR_COVERAGE = 2_000
 LEAST_TIMES = 10
 LEAST_CONVERSIONS = 500
-MOST_DIFFERENCES_SHOWN = 5
 BOOK_REFUSALS = (*range(1, 14), 21, 23)
-# How much longer than the book a lent buffer is, and how many bytes behind it are watched.
-LENT_MORE = (-1, 0, 7)
+# How much longer than the book a buffer is, and how many bytes behind it are watched.
+LONGER = (-1, 0, 7)
 WATCHED = 40
 
 
-class Tally:
-    """Counts replies by refusal, what a 16 came before, and differences; keeps the first books that differ."""
+class Conversions(LibraryCase):
+    """Conversions worked by hand, and the buffers that the Python module takes or rejects."""
 
-    def __init__(self, seed):
-        self.seed = seed
-        self.replies = Counter()
-        self.behind_16 = Counter()
-        self.differences = 0
+    def test_by_hand(self):
+        for rule, book, due in CASES:
+            given = tuple(self.library.convert(book, bytearray(len(book))))
+            second = convert(book, len(book))[:3]
+            self.check(rule, given == due == second, (given, second))
 
-    def differs(self, name, book, what):
-        """One difference."""
-        self.differences += 1
-        if self.differences <= MOST_DIFFERENCES_SHOWN:
-            print(f"difference: {keep_book(book, 'convert', self.seed, name)}: {what}")
+    def test_a_buffer_one_byte_short_comes_first(self):
+        for rule, book, _ in CASES:
+            short = bytearray(b"\xa5" * (len(book) - 1))
+            reply = self.library.convert(book, short)
+            self.check(rule, reply == (16, 0, 0) and set(short) == {0xA5}, reply)
 
-    def test_coverage(self, report):
-        """Conversions enough, and every refusal often enough, also behind a buffer that is too short."""
-        times = self.replies[0]
-        report.test(f"{times} conversions", times >= LEAST_CONVERSIONS, f"at least {LEAST_CONVERSIONS} are due")
-        for words, seen in (("every refusal of the book is seen", self.replies),
-                            ("every refusal of the book stands behind a 16", self.behind_16)):
-            rare = {number: seen[number] for number in BOOK_REFUSALS if seen[number] < LEAST_TIMES}
-            report.test(words, not rare, f"rare: {rare}")
+    def test_byte_1_and_the_linked_classes_change_and_nothing_else(self):
+        book = pair_book(120, 121, (record(3).age_class, 7))
+        out = bytearray(book)
+        self.library.convert(book, out)
+        changes = {place: byte for place, (byte, before) in enumerate(zip(out, book))
+                   if byte != before}
+        self.assertEqual(changes, {1: 1, 1_222: 119, 1_246: 120})
 
+    def test_buffers(self):
+        book = pair_book(120, 121)
+        due = convert(book, len(book))[3]
+        shared = bytearray(book)
+        for words, out in (("a bytearray", bytearray(len(book))),
+                           ("an array", array("B", bytes(len(book)))),
+                           ("an array of ctypes", (ctypes.c_uint8 * len(book))()),
+                           ("a view", memoryview(bytearray(len(book)))),
+                           ("the book's own memory", shared)):
+            passed = shared if out is shared else book
+            reply = self.library.convert(passed, out)
+            self.check(f"{words} is written", reply == (0, 0, 1) and bytes(out) == due, reply)
 
-def hold(tally, library, name, book, chooser):
-    """Convert a book into buffers of every length; hold reply and memory against the second reading."""
-    refusal, _, _, converted = convert(book, len(book))
-    for room in (len(book) + more for more in LENT_MORE if len(book) + more >= 0):
-        marks = chooser.randbytes(room + WATCHED)
-        memory = bytearray(marks)
-        given = tuple(library.convert(book, memoryview(memory)[:room]))
-        *due, _ = convert(book, room)
-        written = converted if due[0] == 0 else b""
-        if given != tuple(due):
-            tally.differs(name, book, f"with {room} bytes lent gives {given}, due is {tuple(due)}")
-        if memory != written + marks[len(written):]:
-            tally.differs(name, book, f"with {room} bytes lent leaves other bytes")
-        if due[0] == 0 and tuple(library.check(written)) != (0, 0, due[2]):
-            tally.differs(name, book, "becomes a book that the check does not accept with the same n")
-        tally.replies[due[0]] += 1
-        if due[0] == 16:
-            tally.behind_16[refusal] += 1
+    def test_empty_buffers(self):
+        reply = self.library.convert(pair_book(120, 121), bytearray())
+        self.check("an empty buffer is too short", reply == (16, 0, 0), reply)
+        reply = self.library.convert(b"", bytearray())
+        self.check("an empty buffer takes no bytes", reply == (1, 0, 0), reply)
+
+    def test_rejected_buffers(self):
+        book = pair_book(120, 121)
+        two_rows = memoryview(bytearray(2 * len(book))).cast("B", (2, len(book)))
+        for words, out in (("bytes that cannot be written", bytes(len(book))),
+                           ("an array of two bytes each", array("H", bytes(len(book)))),
+                           ("a buffer of two rows", two_rows)):
+            self.rejects(words, TypeError, self.library.convert, book, out)
 
 
 def with_class_0(book, chooser):
@@ -79,57 +82,75 @@ def with_class_0(book, chooser):
     return changed(book, (record(chooser.choice(linked)).age_class, 0)) if linked else book
 
 
-def test_random(report, library, tally, count):
-    """Books of basis 2, each made of the book of basis 1 that it must become; most of them then damaged."""
-    chooser = random.Random(tally.seed)
-    for number in range(count):
-        least_class = chooser.choices((0, 60, 100, 117), weights=(1, 2, 5, 12))[0]
-        older = random_book(chooser, least_class, chooser.choice((1, 4, 14)), chooser.choice((0, 3)))
-        newer = on_basis_2(older)
-        kind = number % 5
-        if kind == 0:
-            hold(tally, library, number, newer, chooser)
-            out = bytearray(len(newer))
-            library.convert(newer, out)
-            if out != older:
-                tally.differs(number, newer, "does not become the book that it was made of")
-        elif kind == 1:
-            hold(tally, library, number, with_class_0(newer, chooser), chooser)
-        else:
-            hold(tally, library, number, damaged(newer, chooser), chooser)
-    report.test(f"conversions of {count} random books agree", tally.differences == 0, f"{tally.differences} differ")
+class RandomBooks(LibraryCase, Differential):
+    """Books made of the book of basis 1 that they must become; most of them then damaged."""
 
+    number, seed, for_coverage, kept_as = 2_000, 121, 2_000, "convert"
 
-def test_fixed(report, library, tally):
-    """Books that no random one comes near."""
-    chooser = random.Random(tally.seed)
-    full = full_book(chooser, shuffle=True)
-    insurer = insurer_book(MANY_PRODUCTS, tally.seed)
-    for name, book in (("full", on_basis_2(full)), ("full-and-a-byte", on_basis_2(full) + b"\0"),
-                       ("full-on-basis-1", full), ("insurer", on_basis_2(insurer)),
-                       ("empty", on_basis_2(empty_book())), ("nothing", b""), ("zeros", bytes(1_220)),
-                       ("twice-the-longest", bytes(2 * LONGEST_BOOK))):
-        before = tally.differences
-        hold(tally, library, name, book, chooser)
-        report.test(f"the conversion of {name} agrees", tally.differences == before)
+    @classmethod
+    def draw(cls, chooser):
+        cls.behind_16 = Counter()
+        for number in range(cls.number):
+            least_class = chooser.choices((0, 60, 100, 117), weights=(1, 2, 5, 12))[0]
+            older = random_book(chooser, least_class, chooser.choice((1, 4, 14)),
+                                chooser.choice((0, 3)))
+            newer = on_basis_2(older)
+            kind = number % 5
+            if kind == 0:
+                cls.compare("random books", number, newer, chooser)
+                out = bytearray(len(newer))
+                cls.library.convert(newer, out)
+                cls.tally.compare("random books", bytes(out), older,
+                                  "does not become the book that it was made of", (number, newer))
+            elif kind == 1:
+                cls.compare("random books", number, with_class_0(newer, chooser), chooser)
+            else:
+                cls.compare("random books", number, damaged(newer, chooser), chooser)
+        cls.draw_named()
 
+    @classmethod
+    def draw_named(cls):
+        """Books that no random one comes near."""
+        chooser = random.Random(cls.seed)
+        full = full_book(chooser, shuffle=True)
+        insurer = insurer_book(MANY_PRODUCTS, cls.seed)
+        for name, book in (("full", on_basis_2(full)),
+                           ("full-and-a-byte", on_basis_2(full) + b"\0"), ("full-on-basis-1", full),
+                           ("insurer", on_basis_2(insurer)), ("empty", on_basis_2(empty_book())),
+                           ("nothing", b""), ("zeros", bytes(1_220)),
+                           ("twice-the-longest", bytes(2 * LONGEST_BOOK))):
+            cls.compare(name, name, book, chooser)
 
-def main():
-    """Run and report."""
-    wanted = read_arguments(__doc__, DEFAULT_BOOKS, DEFAULT_SEED)
-    report = Report()
-    library = open_library(report)
-    if library is None:
-        return report.finish()
-    tally = Tally(wanted.seed)
-    test_cases(report, library)
-    test_arguments(report, library)
-    test_random(report, library, tally, wanted.count)
-    test_fixed(report, library, tally)
-    if wanted.count >= BOOKS_FOR_COVERAGE:
-        tally.test_coverage(report)
-    return report.finish()
+    @classmethod
+    def compare(cls, call, name, book, chooser):
+        """Convert a book into buffers of every length; compare reply and memory."""
+        refusal, _, _, converted = convert(book, len(book))
+        for length in (len(book) + more for more in LONGER if len(book) + more >= 0):
+            marks = chooser.randbytes(length + WATCHED)
+            memory = bytearray(marks)
+            given = tuple(cls.library.convert(book, memoryview(memory)[:length]))
+            *due, _ = convert(book, length)
+            written = converted if due[0] == 0 else b""
+            cls.tally.compare(call, (given, bytes(memory)),
+                              (tuple(due), written + marks[len(written):]),
+                              f"with {length} bytes gives {given}, due is {tuple(due)}",
+                              (name, book))
+            if due[0] == 0:
+                cls.tally.compare(call, tuple(cls.library.check(written)), (0, 0, due[2]),
+                                  "is not accepted with the same n", (name, book))
+            cls.tally.seen[due[0]] += 1
+            cls.behind_16[refusal] += due[0] == 16
+
+    def test_agreement(self):
+        self.check_agreement()
+
+    def test_coverage(self):
+        self.require_coverage()
+        self.check_rare("conversions", [0], LEAST_CONVERSIONS)
+        self.check_rare("every refusal of the book is seen", BOOK_REFUSALS, LEAST_TIMES)
+        rare = [each for each in BOOK_REFUSALS if self.behind_16[each] < LEAST_TIMES]
+        self.check("every refusal of the book stands behind a 16", not rare, f"rare: {rare}")
 
 
 if __name__ == "__main__":
-    sys.exit(main())
+    sys.exit(run_unit_tests(sys.modules[__name__]))

@@ -1,28 +1,22 @@
-"""Claims made by hand, at every edge and at random: the library's spread, bit for bit, against the second reading."""
+"""Compares the library's variation of claims with the reference, bit for bit."""
 
 import math
-import random
 import sys
-from collections import Counter
 from decimal import Decimal
 
 from reference.claims_variation import spread, spread_in_fractions
-from tests.fixtures.claims import BY_HAND, EVEN, MOST, WORKED, at_claims, at_factors, bits, random_claims
-from tests.api.arguments import raises
-from tests.support.library import open_library
-from tests.fuzz.common import read_arguments
-from tests.support.report import Report
+from tests.fixtures.claims import (BY_HAND, EVEN, MOST, WORKED, at_claims, at_factors, bits,
+                                   random_claims)
+from tests.support.differential import Differential
+from tests.support.library import LibraryCase
+from tests.support.report import run_unit_tests
 
-DEFAULT_CLAIMS = 24_000
-DEFAULT_SEED = 210
-# Below so many claims a kind may be missed by chance.
-CLAIMS_FOR_COVERAGE = 20_000
 # The kinds of random claims, and how often each is due.
 LEAST_TIMES = {"accepted": 10_000, "level": 500, "refused 27": 500, "refused 28": 1_000,
                "refused 27 with a bad factor": 50, "level but for a bad factor": 50,
                "a factor that is not a number": 50,
-               "rounded otherwise over a common denominator": 1_000, "rounded otherwise in one step": 1_000}
-MOST_DIFFERENCES_SHOWN = 5
+               "rounded otherwise over a common denominator": 1_000,
+               "rounded otherwise in one step": 1_000}
 
 
 def in_bits(reply):
@@ -61,71 +55,70 @@ def in_one_step(claims, mean):
     return across / (2 * claims.xi * mean) + inner / (2 * claims.eta * mean)
 
 
-def test_by_hand(report, library):
-    """Both ways of the second reading and the library give what was worked by hand."""
-    for rule, claims, due in BY_HAND:
-        given = [way(*claims) for way in (spread, spread_in_fractions, library.spread)]
-        report.test(rule, all(in_bits(reply) == in_bits(due) for reply in given), given)
+class Claims(LibraryCase):
+    """Claims worked by hand, and at the edges of every rule."""
+
+    def test_by_hand(self):
+        for rule, claims, due in BY_HAND:
+            given = [each(*claims) for each in (spread, spread_in_fractions, self.library.spread)]
+            self.check(rule, all(in_bits(reply) == in_bits(due) for reply in given), given)
+
+    def check_edges(self, name, cases):
+        """All agree at every edge, and the refusal is the one that is due."""
+        cases, wrong = list(cases), []
+        for refusal, claims in cases:
+            due, given = spread(*claims), self.library.spread(*claims)
+            replies = {in_bits(each) for each in (due, given, spread_in_fractions(*claims))}
+            if len(replies) > 1 or due[0] != refusal:
+                wrong.append((refusal, due, given, claims))
+        self.check(f"{len(cases)} claims {name}", cases and not wrong, wrong[:1])
+
+    def test_edges_of_claims(self):
+        self.check_edges("in and out of order, at and above the limit", at_claims())
+
+    def test_edges_of_factors(self):
+        self.check_edges("with factors at and beside the ends of their range", at_factors())
+
+    def test_rejected_arguments(self):
+        for words, error, claims in (
+                ("a number below 0", ValueError, WORKED.changed(0, -1)),
+                ("a number above 64 bits", ValueError, WORKED.changed(4, MOST + 1)),
+                ("claims that are no whole number", TypeError, WORKED.changed(2, 163_275.5)),
+                ("a factor in words", TypeError, WORKED.with_factors("2.847", 1.119)),
+                ("a factor that would be rounded", TypeError,
+                 WORKED.with_factors(2.847, Decimal("1.119"))),
+                ("a whole factor that no double has", ValueError,
+                 WORKED.with_factors(2**53 + 1, 1.119))):
+            self.rejects(words, error, self.library.spread, *claims)
+
+    def test_a_whole_factor_is_a_factor(self):
+        whole = self.library.spread(*EVEN.with_factors(2, 4))
+        self.assertEqual(whole, self.library.spread(*EVEN))
 
 
-def test_edges(report, library, name, cases):
-    """All agree at every edge, and the refusal is the one that was said."""
-    cases = list(cases)
-    wrong = []
-    for refusal, claims in cases:
-        due, given = spread(*claims), library.spread(*claims)
-        if not in_bits(given) == in_bits(due) == in_bits(spread_in_fractions(*claims)) or due[0] != refusal:
-            wrong.append((refusal, due, given, claims))
-    report.test(f"{len(cases)} claims {name}", cases and not wrong, wrong[:1])
-
-
-def test_random(report, library, count, seed):
+class RandomClaims(LibraryCase, Differential):
     """All agree on random claims, bit for bit, and every kind of them is seen."""
-    chooser, times, differing, apart = random.Random(seed), Counter(), 0, 0
-    for _ in range(count):
-        claims = random_claims(chooser)
-        due, given = spread(*claims), library.spread(*claims)
-        times.update(kinds(claims, due))
-        apart += in_bits(due) != in_bits(spread_in_fractions(*claims))
-        if in_bits(given) != in_bits(due):
-            differing += 1
-            if differing <= MOST_DIFFERENCES_SHOWN:
-                print(f"difference: {claims} gives {given}, due is {due}")
-    report.test(f"{count} replies agree, bit for bit", differing == 0, f"{differing} differ")
-    report.test("this machine's doubles are fractions rounded once an operation", apart == 0, f"{apart} differ")
-    if count >= CLAIMS_FOR_COVERAGE:
-        for kind, least in LEAST_TIMES.items():
-            report.test(f"{kind}: {times[kind]} times", times[kind] >= least, f"at least {least} are due")
 
+    number, seed, for_coverage = 24_000, 210, 20_000
 
-def test_turned_away(report, library):
-    """No claims or factors could be made of these."""
-    for words, error, claims in (("a number below 0", ValueError, WORKED.changed(0, -1)),
-                                 ("a number above 64 bits", ValueError, WORKED.changed(4, MOST + 1)),
-                                 ("claims that are no whole number", TypeError, WORKED.changed(2, 163_275.5)),
-                                 ("a factor in words", TypeError, WORKED.with_factors("2.847", 1.119)),
-                                 ("a factor that would be rounded", TypeError,
-                                  WORKED.with_factors(2.847, Decimal("1.119"))),
-                                 ("a whole factor that no double has", ValueError,
-                                  WORKED.with_factors(2**53 + 1, 1.119))):
-        report.test(f"turned away: {words}", raises(error, library.spread, *claims))
-    report.test("a whole factor is a factor", library.spread(*EVEN.with_factors(2, 4)) == library.spread(*EVEN))
+    @classmethod
+    def draw(cls, chooser):
+        for _ in range(cls.number):
+            claims = random_claims(chooser)
+            due, given = spread(*claims), cls.library.spread(*claims)
+            cls.tally.seen.update(kinds(claims, due))
+            cls.tally.compare("this machine's doubles, as fractions rounded once an operation",
+                              in_bits(due), in_bits(spread_in_fractions(*claims)), claims)
+            cls.tally.compare("variation of claims", in_bits(given), in_bits(due),
+                              f"of {claims} gives {given}, due is {due}")
 
+    def test_agreement(self):
+        self.check_agreement()
 
-def main():
-    """Run and report."""
-    wanted = read_arguments(__doc__, DEFAULT_CLAIMS, DEFAULT_SEED, "claims")
-    report = Report()
-    library = open_library(report)
-    if library is None:
-        return report.finish()
-    test_by_hand(report, library)
-    test_edges(report, library, "in and out of order, at and above the limit", at_claims())
-    test_edges(report, library, "with factors at and beside the ends of their range", at_factors())
-    test_turned_away(report, library)
-    test_random(report, library, wanted.count, wanted.seed)
-    return report.finish()
+    def test_coverage(self):
+        self.require_coverage()
+        self.check_seen(LEAST_TIMES)
 
 
 if __name__ == "__main__":
-    sys.exit(main())
+    sys.exit(run_unit_tests(sys.modules[__name__]))

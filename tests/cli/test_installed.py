@@ -1,5 +1,6 @@
-"""What is installed works where it is put: header, libraries, programs, command, Python package; and make's habits."""
+"""What is installed works where it is put: header, libraries, programs, command and package."""
 
+import importlib.util
 import os
 import re
 import shutil
@@ -10,22 +11,38 @@ import unittest
 from pathlib import Path
 
 from tests import ROOT
-from tests.cli.run import sample
+from tests.cli.run import sample, xaropinto
+from tests.support.debian import install
 from tests.support.report import run_unit_tests
 
 MOST_SECONDS = 600
+WHEELS = Path("/usr/share/python-wheels")
 VERSION = (ROOT / "VERSION").read_text(encoding="ascii").strip()
 LISTING = (ROOT / "samples" / "small_insurer.listing").read_bytes()
 
 
 # What a person's shell has: the gate itself may be run by make, which tells a make below it so.
-SHELL = {name: word for name, word in os.environ.items() if name not in ("MAKEFLAGS", "MAKELEVEL", "MFLAGS")}
+SHELL = {name: word
+         for name, word in os.environ.items() if name not in ("MAKEFLAGS", "MAKELEVEL", "MFLAGS")}
 
 
 def run(*words, folder=ROOT, env=None):
     """Run a command to its end."""
-    return subprocess.run([str(word) for word in words], cwd=folder, stdin=subprocess.DEVNULL, capture_output=True,
-                          timeout=MOST_SECONDS, check=False, env=SHELL if env is None else env)
+    return subprocess.run([str(word) for word in words], cwd=folder, stdin=subprocess.DEVNULL,
+                          capture_output=True, timeout=MOST_SECONDS, check=False,
+                          env=SHELL if env is None else env)
+
+
+def wheel_path():
+    """What PYTHONPATH needs for setuptools to build a wheel: Debian's, where Python has none."""
+    if importlib.util.find_spec("wheel"):
+        return ""
+    if not list(WHEELS.glob("wheel-*.whl")):
+        install(["python3-wheel-whl"])
+    found = sorted(WHEELS.glob("wheel-*.whl"))
+    if not found:
+        raise FileNotFoundError("the package wheel is missing: apt-get install python3-wheel-whl")
+    return str(found[-1])
 
 
 class Installed(unittest.TestCase):
@@ -41,17 +58,19 @@ class Installed(unittest.TestCase):
         for program in ("xaropinto", "xaropinto-listing"):
             words = ("list", sample("small_insurer")) if program == "xaropinto" else ()
             with open(sample("small_insurer"), "rb") as book:
-                ended = subprocess.run([root / "bin" / program, *words], stdin=book, capture_output=True, check=False,
-                                       cwd=self.folder)
+                ended = subprocess.run([root / "bin" / program, *words], stdin=book,
+                                       capture_output=True, check=False, cwd=self.folder)
             self.assertEqual((ended.returncode, ended.stdout, ended.stderr), (0, LISTING, b""))
         flags = run("pkg-config", "--cflags", "--libs", "xaropinto",
                     env={**os.environ, "PKG_CONFIG_PATH": str(root / "lib" / "pkgconfig")})
         self.assertEqual(flags.returncode, 0, flags.stderr)
-        built = run("cc", "-std=c99", "-Wall", "-Wextra", "-Werror", ROOT / "bindings" / "c" / "examples" / "example.c", "-o",
+        built = run("cc", "-std=c99", "-Wall", "-Wextra", "-Werror",
+                    ROOT / "bindings" / "c" / "examples" / "example.c", "-o",
                     self.folder / "example", *flags.stdout.decode().split())
         self.assertEqual(built.returncode, 0, built.stderr)
         for book, code in (("small_insurer", 0), ("lapse_too_large", 1)):
-            ended = run(self.folder / "example", sample(book), env={"LD_LIBRARY_PATH": str(root / "lib")})
+            ended = run(self.folder / "example", sample(book),
+                        env={"LD_LIBRARY_PATH": str(root / "lib")})
             self.assertEqual((ended.returncode, ended.stdout), (code, b"" if code else LISTING))
 
     def test_install(self):
@@ -70,15 +89,26 @@ class Installed(unittest.TestCase):
 
     def test_pip(self):
         shutil.copytree(ROOT / "python", self.folder / "python")
-        ended = run(sys.executable, "-m", "pip", "install", "--quiet", "--no-build-isolation", "--no-deps",
-                    "--no-index", "--disable-pip-version-check", "--target", self.folder / "there",
-                    self.folder / "python")
+        ended = run(sys.executable, "-m", "pip", "install", "--quiet", "--no-build-isolation",
+                    "--no-deps", "--no-index", "--disable-pip-version-check", "--target",
+                    self.folder / "there", self.folder / "python",
+                    env={**SHELL, "PYTHONPATH": wheel_path()})
         self.assertEqual(ended.returncode, 0, ended.stderr)
+        [info] = (self.folder / "there").glob("xaropinto-*.dist-info")
+        self.assertIn("Tag: py3-none-linux_x86_64", (info / "WHEEL").read_text(encoding="utf-8"))
+        self.assertIn("Provides-Extra: xlsx", (info / "METADATA").read_text(encoding="utf-8"))
         self.assertTrue((self.folder / "there" / "bin" / "xaropinto").is_file())
-        ended = run(sys.executable, "-c", "import xaropinto, sys; print(xaropinto.__version__, xaropinto.check("
+        ended = run(sys.executable, "-c",
+                    "import xaropinto, sys; print(xaropinto.__version__, xaropinto.check("
                     "open(sys.argv[1], 'rb').read()))", sample("small_insurer"), folder=self.folder,
                     env={"PYTHONPATH": str(self.folder / "there")})
         self.assertEqual((ended.stdout.decode(), ended.stderr), (f"{VERSION} 315\n", b""))
+        # A refusal in words needs the package's table.
+        words = ("check", sample("lapse_too_large"))
+        ended = run(self.folder / "there" / "bin" / "xaropinto", *words,
+                    env={**SHELL, "PYTHONPATH": str(self.folder / "there")})
+        found = (ended.returncode, ended.stdout, ended.stderr.decode())
+        self.assertEqual(found, tuple(xaropinto(*words)))
 
 
 class Version(unittest.TestCase):
@@ -89,7 +119,8 @@ class Version(unittest.TestCase):
                               ("python/xaropinto/version.py", r'VERSION = "(.*)"'),
                               ("bindings/rust/Cargo.toml", r'(?m)^version = "(.*)"'),
                               ("packaging/xaropinto.1", r'"xaropinto (.*?)"')):
-            self.assertEqual(re.search(pattern, (ROOT / name).read_text(encoding="utf-8"))[1], VERSION, name)
+            self.assertEqual(re.search(pattern, (ROOT / name).read_text(encoding="utf-8"))[1],
+                             VERSION, name)
 
 
 class Make(unittest.TestCase):
@@ -112,9 +143,10 @@ class Make(unittest.TestCase):
             self.assertEqual((ended.returncode, ended.stdout), (0, LISTING))
 
     def test_wrong_words(self):
-        for words in (("list", "mine.book"), ("list", "book=mine.book"), ("check", "samples/full.book"),
-                      ("list", "BOOK=/nowhere"), ("list", "BOOK=samples"),
-                      ("list", f"BOOK={sample('lapse_too_large')}"), ("check", f"BOOK={sample('lapse_too_large')}")):
+        for words in (("list", "mine.book"), ("list", "book=mine.book"),
+                      ("check", "samples/full.book"), ("list", "BOOK=/nowhere"),
+                      ("list", "BOOK=samples"), ("list", f"BOOK={sample('lapse_too_large')}"),
+                      ("check", f"BOOK={sample('lapse_too_large')}")):
             with self.subTest(words=words):
                 self.assertNotEqual(run("make", *words).returncode, 0)
 

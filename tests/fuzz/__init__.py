@@ -1,1 +1,1 @@
-"""Random books through the built programs, held against the second reading."""
+"""Random books through the built programs, compared with the reference implementation."""

@@ -1,4 +1,4 @@
-"""Tests of the built convert program: what it writes where, its end of input, pieces; what docs/BOOK shows of it."""
+"""Tests of the built convert program: what it writes where, and what docs/BOOK shows of it."""
 
 import random
 import sys
@@ -18,38 +18,40 @@ SAMPLES = ROOT / "samples"
 
 
 def one_class_too_high(book):
-    """The accepted book with every class counted one too high; who would be in class 121 is left out."""
+    """The accepted book with every class one too high; who would be in class 121 is left out."""
     values = read_values(book)
     values.portfolios = {chain: Portfolio(portfolio.first_class + 1, portfolio.cells[:-1])
-                         for chain, portfolio in values.portfolios.items() if len(portfolio.cells) > 1}
+                         for chain, portfolio in values.portfolios.items()
+                         if len(portfolio.cells) > 1}
     return make_book(values)
 
 
 class Conversions(unittest.TestCase):
-    """The converted book on standard output, or the refusal on standard error; never both. The exit code is 0."""
+    """The converted book on standard output, or the refusal on standard error; exit code 0."""
 
-    def hold(self, sent, written, told=b""):
+    def compare(self, sent, written, reported=b""):
         """The program writes just this."""
-        self.assertEqual(run_with_errors("age_basis_main", sent), (written, told, 0))
+        self.assertEqual(run_with_errors("age_basis_main", sent), (written, reported, 0))
 
     def test_sample_becomes_the_worked_example(self):
-        self.hold((SAMPLES / "newer_basis.book").read_bytes(), (SAMPLES / "worked_example.book").read_bytes())
+        self.compare((SAMPLES / "newer_basis.book").read_bytes(),
+                     (SAMPLES / "worked_example.book").read_bytes())
 
-    def test_small_insurer_as_the_second_reading_has_it(self):
+    def test_small_insurer_as_the_reference_has_it(self):
         book = on_basis_2((SAMPLES / "small_insurer.book").read_bytes())
-        self.hold(book, convert(book, len(book))[3])
+        self.compare(book, convert(book, len(book))[3])
 
     def test_no_records(self):
-        self.hold(on_basis_2(empty_book()), empty_book())
+        self.compare(on_basis_2(empty_book()), empty_book())
 
     def test_a_refusal_is_one_line_on_standard_error(self):
-        self.hold(b"", b"", b"refused 1 0\n")
-        self.hold(bytes(1_220), b"", b"refused 2 0\n")
-        self.hold((SAMPLES / "one_record.book").read_bytes(), b"", b"refused 3 1\n")
+        self.compare(b"", b"", b"refused 1 0\n")
+        self.compare(bytes(1_220), b"", b"refused 2 0\n")
+        self.compare((SAMPLES / "one_record.book").read_bytes(), b"", b"refused 3 1\n")
 
     def test_class_0_is_refused_at_its_place(self):
         book = changed((SAMPLES / "newer_basis.book").read_bytes(), (record(1).age_class, 0))
-        self.hold(book, b"", b"refused 21 1222\n")
+        self.compare(book, b"", b"refused 21 1222\n")
 
 
 class Input(unittest.TestCase):
@@ -65,7 +67,8 @@ class Input(unittest.TestCase):
     def test_41877_bytes_are_taken_and_no_more(self):
         book = on_basis_2(full_book(random.Random(121)))
         for more in (1, 100_000):
-            self.assertEqual(run_with_errors("age_basis_main", book + bytes(more)), (b"", b"refused 5 41877\n", 0))
+            self.assertEqual(run_with_errors("age_basis_main", book + bytes(more)),
+                             (b"", b"refused 5 41877\n", 0))
 
 
 class Shown(unittest.TestCase):
@@ -73,7 +76,8 @@ class Shown(unittest.TestCase):
 
     def is_shown(self, words):
         """The page has these words."""
-        self.assertTrue(words in (ROOT / "docs" / "BOOK.md").read_text(encoding="utf-8"), f"not shown: {words}")
+        self.assertTrue(words in (ROOT / "docs" / "BOOK.md").read_text(encoding="utf-8"),
+                        f"not shown: {words}")
 
     def test_classes_of_basis_2_in_a_book_of_basis_1(self):
         book = changed((SAMPLES / "newer_basis.book").read_bytes(), (AGE_BASIS, 1))

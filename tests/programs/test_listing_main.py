@@ -1,4 +1,4 @@
-"""Tests of the built listing program: the paper's figures, its end of input, pieces, the samples."""
+"""Tests of the built listing program: the paper's figures, input in pieces, the samples."""
 
 import random
 import subprocess
@@ -48,26 +48,26 @@ def cut(book, *places):
 class Listings(unittest.TestCase):
     """Each is the whole output, and the exit code is 0 for a refusal too."""
 
-    def hold(self, sent, due):
+    def compare(self, sent, due):
         """The program writes just this."""
         self.assertEqual(run_program("listing_main", sent), (due, 0))
 
     def test_paper_listing(self):
-        self.hold(one_record_book(), PAPER_LISTING)
+        self.compare(one_record_book(), PAPER_LISTING)
 
     def test_no_records_give_zeros(self):
-        self.hold(empty_book(), NOTHING_LISTED)
+        self.compare(empty_book(), NOTHING_LISTED)
 
     def test_refused_books_t11_t12(self):
-        self.hold(bytes(1_220), b"refused 2 0\n")
-        self.hold(bytes(1_219), b"refused 1 1219\n")
+        self.compare(bytes(1_220), b"refused 2 0\n")
+        self.compare(bytes(1_219), b"refused 1 1219\n")
 
     def test_no_input(self):
-        self.hold(b"", b"refused 1 0\n")
+        self.compare(b"", b"refused 1 0\n")
 
     def test_rate_200000_passes(self):
-        self.hold(changed(empty_book(), (CURVE[3], 200_000)), NOTHING_LISTED)
-        self.hold(changed(empty_book(), (CURVE[3], 200_001)), b"refused 7 68\n")
+        self.compare(changed(empty_book(), (CURVE[3], 200_000)), NOTHING_LISTED)
+        self.compare(changed(empty_book(), (CURVE[3], 200_001)), b"refused 7 68\n")
 
 
 class Input(unittest.TestCase):

@@ -1,4 +1,4 @@
-"""Tests of the built report program: the setting that its words name, its end of input, the samples."""
+"""Tests of the built report program: the setting that its words name, input, the samples."""
 
 import random
 import sys
@@ -17,30 +17,31 @@ NO_SETTING = b"refused 14 0\n"
 class Words(unittest.TestCase):
     """The setting is the one word that the program is started with; 0 where there is none."""
 
-    def hold(self, words, due, book=one_record_book()):
+    def compare(self, words, due, book=one_record_book()):
         """The program writes just this, and its exit code is 0 for a refusal too."""
         self.assertEqual(run_program("year_report_main", book, *words), (due, 0), words)
 
     def test_no_word_is_the_base(self):
-        self.hold([], report_page(one_record_book(), 0))
+        self.compare([], report_page(one_record_book(), 0))
 
     def test_every_setting(self):
         pages = {report_page(one_record_book(), setting) for setting in SETTINGS}
         self.assertEqual(len(pages), 4)
         for setting in SETTINGS:
-            self.hold([str(setting)], report_page(one_record_book(), setting))
+            self.compare([str(setting)], report_page(one_record_book(), setting))
 
     def test_any_other_word_is_no_setting(self):
-        for word in ("8", "9", "a", "-1", "00", "07", "", " ", "/", ":", "7" * 7, "7" * 8, "7" * 9, "0" * 99):
-            self.hold([word], NO_SETTING)
+        for word in ("8", "9", "a", "-1", "00", "07", "", " ", "/", ":", "7" * 7, "7" * 8, "7" * 9,
+                     "0" * 99):
+            self.compare([word], NO_SETTING)
 
     def test_two_words_are_no_setting(self):
-        self.hold(["0", "0"], NO_SETTING)
-        self.hold(["0", ""], NO_SETTING)
+        self.compare(["0", "0"], NO_SETTING)
+        self.compare(["0", ""], NO_SETTING)
 
     def test_the_setting_comes_before_the_book(self):
-        self.hold(["8"], NO_SETTING, b"")
-        self.hold(["7"], b"refused 1 0\n", b"")
+        self.compare(["8"], NO_SETTING, b"")
+        self.compare(["7"], b"refused 1 0\n", b"")
 
 
 class Input(unittest.TestCase):
@@ -59,7 +60,8 @@ class Input(unittest.TestCase):
         book = full_book(random.Random(1_694), shuffle=True)
         self.assertEqual(run_program("year_report_main", book, "3"), (report_page(book, 3), 0))
         for more in (1, 2, 100_000):
-            self.assertEqual(run_program("year_report_main", book + bytes(more)), (b"refused 5 41877\n", 0))
+            self.assertEqual(run_program("year_report_main", book + bytes(more)),
+                             (b"refused 5 41877\n", 0))
 
 
 class Samples(unittest.TestCase):
@@ -70,7 +72,8 @@ class Samples(unittest.TestCase):
         self.assertTrue(books)
         for path in books:
             due = path.with_suffix(".report").read_bytes()
-            self.assertEqual(run_program("year_report_main", path.read_bytes()), (due, 0), path.name)
+            self.assertEqual(run_program("year_report_main", path.read_bytes()), (due, 0),
+                             path.name)
 
 
 if __name__ == "__main__":

@@ -4,37 +4,52 @@ import random
 import struct
 import sys
 import unittest
+from types import SimpleNamespace
 
-from reference.book import Cell, Portfolio, Values, empty_book, full_book, make_book, one_record_book
-from reference.check import check, look
+from reference.book import (Cell, Portfolio, Values, empty_book, full_book, make_book,
+                            one_record_book)
+from reference.check import check, view
 from reference.layout import BASIS_2
 from tests.support.report import run_unit_tests
 
 
-def packed(year=2021, count=None, spare=0, heads=None, costs=None, curve=None, mortality=None,
-           records=(), edition=1, basis=1):
+HEADER = {"year": 2021, "count": None, "spare": 0, "heads": {}, "costs": {}, "curve": {},
+          "mortality": {}, "records": (), "edition": 1, "basis": 1}
+RECORD = {"code": 1, "sex": 0, "age_class": 120, "following": 0, "count": 1, "lapse": 0,
+          "premium": 0, "claims": 0, "spare_3": 0, "spares": 0}
+
+
+def fields_of(usual, changes):
+    """The usual fields, some of them changed; no other is known."""
+    if not changes.keys() <= usual.keys():
+        raise TypeError(f"no such field: {changes.keys() - usual.keys()}")
+    return SimpleNamespace(**usual | changes)
+
+
+def packed(**changes):
     """A book packed field by field; tables are maps from a position to a number."""
     def table(size, numbers):
-        return [(numbers or {}).get(position, 0) for position in range(size)]
+        return [numbers.get(position, 0) for position in range(size)]
 
-    count = len(records) if count is None else count
-    return (struct.pack("<BBHHH", edition, basis, year, count, spare)
-            + struct.pack("<14H", *table(14, heads))
-            + struct.pack("<5I", *table(5, costs))
-            + struct.pack("<49i", *table(49, curve))
-            + struct.pack("<242I", *table(242, mortality))
-            + b"".join(records))
+    book = fields_of(HEADER, changes)
+    count = len(book.records) if book.count is None else book.count
+    return (struct.pack("<BBHHH", book.edition, book.basis, book.year, count, book.spare)
+            + struct.pack("<14H", *table(14, book.heads))
+            + struct.pack("<5I", *table(5, book.costs))
+            + struct.pack("<49i", *table(49, book.curve))
+            + struct.pack("<242I", *table(242, book.mortality))
+            + b"".join(book.records))
 
 
-def packed_record(code=1, sex=0, age_class=120, following=0, count=1, lapse=0, premium=0,
-                  claims=0, spare_3=0, spares=0):
+def packed_record(**changes):
     """A record's 24 bytes."""
-    return struct.pack("<BBBBHHIIII", code, sex, age_class, spare_3, following, spares,
-                       count, lapse, premium, claims)
+    one = fields_of(RECORD, changes)
+    return struct.pack("<BBBBHHIIII", one.code, one.sex, one.age_class, one.spare_3, one.following,
+                       one.spares, one.count, one.lapse, one.premium, one.claims)
 
 
 def pair_of_records(**second):
-    """A chain of PG1a men at classes 119 and 120, the second record as told."""
+    """A chain of PG1a men at classes 119 and 120, the second record as given."""
     records = [packed_record(age_class=119, following=2), packed_record(**second)]
     return packed(heads={0: 1}, records=records)
 
@@ -70,7 +85,8 @@ class HeaderRules(unittest.TestCase):
             return check(packed(edition=2, spare=men + 256 * women))
 
         self.assertEqual([verdict(1, 100), verdict(100, 1)], [("accepted", 0)] * 2)
-        self.assertEqual([verdict(0, 101), verdict(101, 0), verdict(255, 50)], [("refused", 23, 6)] * 3)
+        self.assertEqual([verdict(0, 101), verdict(101, 0), verdict(255, 50)],
+                         [("refused", 23, 6)] * 3)
         self.assertEqual([verdict(1, 0), verdict(100, 101)], [("refused", 23, 7)] * 2)
 
     def test_percentages_come_after_the_number_of_records_and_before_the_length(self):
@@ -195,7 +211,7 @@ class NewerBasis(unittest.TestCase):
     """Refusal 21, and its place in the order, on age basis 2, where a chain ends at class 121."""
 
     def verdict(self, **second):
-        """That on a chain of PG1a men at classes 120 and 121, the second record as told."""
+        """That on a chain of PG1a men at classes 120 and 121, the second record as given."""
         fields = {"age_class": 121, **second}
         records = [packed_record(age_class=120, following=2), packed_record(**fields)]
         return check(packed(heads={0: 1}, records=records, basis=2), BASIS_2)
@@ -221,22 +237,22 @@ class NewerBasis(unittest.TestCase):
         self.assertEqual(check(book), ("refused", 12, 1_228))
 
 
-class Looker(unittest.TestCase):
-    """The looker's reply."""
+class RecordView(unittest.TestCase):
+    """The view of one record."""
 
-    def test_record_is_handed_back_whole(self):
+    def test_record_is_returned_whole(self):
         junk = bytes(range(24))
         book = packed(heads={0: 1}, records=[packed_record(), junk])
-        self.assertEqual(look(book, 1), (0, 0, packed_record()))
-        self.assertEqual(look(book, 2), (0, 0, junk))
+        self.assertEqual(view(book, 1), (0, 0, packed_record()))
+        self.assertEqual(view(book, 2), (0, 0, junk))
 
     def test_number_0_or_above_n_is_9_without_place(self):
         for number in (0, 2, 2**32 + 1, 2**64 - 1):
-            self.assertEqual(look(one_record_book(), number), (9, 0, b""))
+            self.assertEqual(view(one_record_book(), number), (9, 0, b""))
 
     def test_refusal_of_the_book_comes_first(self):
-        self.assertEqual(look(bytes(1_219), 0), (1, 1_219, b""))
-        self.assertEqual(look(packed(heads={5: 1}), 0), (9, 18, b""))
+        self.assertEqual(view(bytes(1_219), 0), (1, 1_219, b""))
+        self.assertEqual(view(packed(heads={5: 1}), 0), (9, 18, b""))
 
 
 class BookMaker(unittest.TestCase):

@@ -6,12 +6,14 @@ of mortality moves those of its own sex alone. The table is changed in memory; n
 """
 
 import sys
+from itertools import product
 from unittest.mock import patch
 
 from reference import valuation
 from reference.book import Cell, Portfolio, Values
 from reference.layout import CLASSES, SETTINGS
-from tests.support.report import Report, read_no_words
+from tests.support.case import Case
+from tests.support.report import run_unit_tests
 
 # Men of PG2 and women of PG3: the product group says whose figures move.
 MEN, WOMEN = 2, 3
@@ -49,31 +51,30 @@ def first_moved(table, other):
     return next(k for k, (year, moved) in enumerate(zip(table, other)) if year != moved)
 
 
-def test_entry(report, values, figures, first_year, setting, kind):
-    """One entry: what moves, and from when on. Deaths and lapses of a year are seen in the next."""
-    name = TABLES[first_year]
-    with patch.object(valuation, name, with_change(getattr(valuation, name), setting, kind)):
-        changed = all_figures(values)
-    moved = {each: first_moved(table, changed[each]) for each, table in figures.items()
-             if table != changed[each]}
-    seen_in = first_year if kind in ("costs", "claims") else first_year + 1
-    due = {(setting, group): seen_in for group in KINDS[kind]}
-    report.test(f"setting {setting}, from year {first_year} on, {kind}", moved == due,
-                f"moved are {moved}, due are {due}")
-
-
-def main():
+class TableOfWeights(Case):
     """All 80 entries."""
-    read_no_words(__doc__)
-    report = Report()
-    values = small_values()
-    figures = all_figures(values)
-    for setting in SETTINGS:
-        for first_year in TABLES:
-            for kind in KINDS:
-                test_entry(report, values, figures, first_year, setting, kind)
-    return report.finish()
+
+    @classmethod
+    def setUpClass(cls):
+        cls.values = small_values()
+        cls.figures = all_figures(cls.values)
+
+    def test_each_entry_moves_its_own_figures(self):
+        for setting, first_year, kind in product(SETTINGS, TABLES, KINDS):
+            self.check_entry(setting, first_year, kind)
+
+    def check_entry(self, setting, first_year, kind):
+        """What moves, and from when on; deaths and lapses of a year are seen in the next."""
+        name = TABLES[first_year]
+        with patch.object(valuation, name, with_change(getattr(valuation, name), setting, kind)):
+            changed = all_figures(self.values)
+        moved = {each: first_moved(table, changed[each]) for each, table in self.figures.items()
+                 if table != changed[each]}
+        seen_in = first_year if kind in ("costs", "claims") else first_year + 1
+        due = {(setting, group): seen_in for group in KINDS[kind]}
+        self.check(f"setting {setting}, from year {first_year} on, {kind}", moved == due,
+                   f"moved are {moved}, due are {due}")
 
 
 if __name__ == "__main__":
-    sys.exit(main())
+    sys.exit(run_unit_tests(sys.modules[__name__]))

@@ -1,18 +1,19 @@
-"""Tests of the two reckonings: trial figures, traps, refusals and the distance between them."""
+"""Tests of both valuations, rounded and exact: trial figures, traps, refusals, distances."""
 
 import random
 import sys
 import unittest
 from fractions import Fraction
 
-from reference.book import (PG2_MEN, Cell, Portfolio, Values, empty_book, full_book, make_book, one_record_book,
-                         random_book, random_values, read_values)
+from reference.book import (PG2_MEN, Cell, Portfolio, Values, empty_book, full_book, make_book,
+                            one_record_book, random_book, random_values, read_values)
 from reference.check import check
 from reference.exact import exact_liability, exact_totals, group_distance, total_distance
-from reference.layout import (CHAINS, CLASSES, CURVE, EDITION, HEADER_SPARE, OLDEST_CLASS, PERCENTAGES,
-                           PRODUCT_GROUPS, SETTINGS, changed)
-from reference.valuation import (capped, discounted, group, in_force_by_year, listing, next_in_force, outgo_of,
-                              mortality_weight, totals, weighted, weights_of)
+from reference.layout import (CHAINS, CLASSES, CURVE, EDITION, HEADER_SPARE, OLDEST_CLASS,
+                              PERCENTAGES, PRODUCT_GROUPS, SETTINGS, changed)
+from reference.valuation import (capped, discounted, group, in_force_by_year, listing,
+                                 next_in_force, outgo_of, mortality_weight, totals, weighted,
+                                 weights_of)
 from tests import ROOT
 from tests.fixtures import trial_books as trials
 from tests.support.report import run_unit_tests
@@ -98,8 +99,10 @@ class TrialFigures(unittest.TestCase):
 
     def test_edition_2_has_its_own_percentages(self):
         # Half of the men die in the base, three fifths and two fifths in settings 1 and 2.
-        halved = changed(trials.in_force_book(1_000_000, 0), (EDITION, 2), (PERCENTAGES[0], 50), (PERCENTAGES[1], 1))
-        for setting, contracts in ((0, 500_000_000), (1, 400_000_000), (2, 600_000_000), (7, 500_000_000)):
+        halved = changed(trials.in_force_book(1_000_000, 0), (EDITION, 2), (PERCENTAGES[0], 50),
+                         (PERCENTAGES[1], 1))
+        for setting, contracts in ((0, 500_000_000), (1, 400_000_000), (2, 600_000_000),
+                                   (7, 500_000_000)):
             self.assertEqual(in_force(halved, 1, setting), contracts)
         none_left = changed(halved, (PERCENTAGES[0], 100))
         for setting, contracts in ((0, 0), (1, 0), (2, 200_000_000)):
@@ -136,7 +139,8 @@ class TrialFigures(unittest.TestCase):
         self.assertEqual(totals(one_record_book())[4], [0, 0, 200_000, 200_000])
 
     def test_paper_listing_year_by_year(self):
-        # Ten ninths of 900,000 are 1,000,000: from k = 5 the cap stands just at the premium and cuts nothing.
+        # Ten ninths of 900,000 are 1,000,000: from k = 5 the cap stands just at the premium and
+        # cuts nothing.
         for k in range(50):
             self.assertEqual(year(one_record_book(), k), (1_000_000, 900_000) * 2)
         # Dearer or cheaper in the first five years alone, which have no cap.
@@ -209,11 +213,13 @@ class Steps(unittest.TestCase):
         mortality = [[0] * CLASSES, [0] * CLASSES]
         mortality[1][118] = 1_000_000
         book = make_book(Values(mortality=mortality, portfolios={7: Portfolio(118, cells)}))
-        # Of women 14 percent outlive class 118, and half of them leave in class 119. The others stay in class 120.
+        # Of women 14 percent outlive class 118, and half of them leave in class 119. The others
+        # stay in class 120.
         self.assertEqual([year(book, k)[1] for k in (0, 1, 2, 3, 49)], [5, 84, 490, 490, 490])
 
     def test_the_very_old_stay_insured(self):
-        # Of men 0.565 outlive class 119 and 0.8 of these stay; in class 120 it is 0.913 and 0.95, each year.
+        # Of men 0.565 outlive class 119 and 0.8 of these stay; in class 120 it is 0.913 and 0.95,
+        # each year.
         book, contracts = trials.very_old_book(), 10**9
         self.assertEqual(year(book, 0), (10_000_000, 0) * 2)
         for k in range(1, 50):
@@ -232,7 +238,8 @@ class Steps(unittest.TestCase):
                 self.assertEqual([k for k in range(50) if by_year[k][cell]], list(range(end)))
 
     def test_the_very_old_have_the_exact_value_of_fifty_years(self):
-        exact = sum(10**7 * Fraction(452, 1_000) * Fraction(86_735, 100_000)**years for years in range(49))
+        exact = sum(10**7 * Fraction(452, 1_000) * Fraction(86_735, 100_000)**years
+                    for years in range(49))
         self.assertEqual(exact_liability(trials.very_old_book(), 0, 2), exact - 10**7)
 
     def test_each_subgroup_enters_its_group(self):
@@ -327,14 +334,17 @@ class Distance(unittest.TestCase):
 
     def test_which_distance_holds(self):
         for rates, of_group, of_all in (([0] * 49, 1_675, 7_375), ([1] * 49, 1_675, 7_375),
-                                        ([0] * 48 + [-1], 3_350, 14_750), ([-1] + [0] * 48, 3_350, 14_750)):
+                                        ([0] * 48 + [-1], 3_350, 14_750),
+                                        ([-1] + [0] * 48, 3_350, 14_750)):
             book = make_book(Values(curve=rates))
             self.assertEqual((group_distance(book, 1), total_distance(book, 1)), (of_group, of_all))
 
     def test_half_the_distance_needs_all_its_parts(self):
-        # With 0 for 1,425: 250 would be allowed. With 0 for 7,125, 1,250; with one group's 1,425, 2,675.
+        # With 0 for 1,425: 250 would be allowed. With 0 for 7,125, 1,250; with one group's 1,425,
+        # 2,675.
         self.assertEqual(int(off_by(trials.loss_at_every_rounding_book(1), 2)), 1_297)
-        self.assertEqual(int(off_by_all(trials.loss_at_every_rounding_book(1, (0, 6, 8, 10, 12)))), 6_489)
+        self.assertEqual(int(off_by_all(trials.loss_at_every_rounding_book(1, (0, 6, 8, 10, 12)))),
+                         6_489)
         # With 0 for 250: 1,425. With the n of PG1 for that of the book, 7,125.
         self.assertEqual(int(off_by(trials.loss_in_every_cell_book((PG2_MEN,)), 2)), 3_459)
         self.assertEqual(int(off_by_all(trials.loss_in_every_cell_book(range(6, 14)))), 27_674)

@@ -8,13 +8,16 @@ import subprocess
 import sys
 import tempfile
 import time
+import types
 import unittest
 from pathlib import Path
 from unittest.mock import patch
 
 from tests import ROOT, gate
+from tests.support.case import Case
+from tests.support.differential import Differential
 from tests.support.progress import Line, Work, crates_listed, crates_needed
-from tests.support.report import run_unit_tests
+from tests.support.report import NUMBER, SEED, run_unit_tests
 
 # What `rt` prints as it goes: a crate proved, one that is not, one unchanged; edits; programs.
 PRINTED = """rt: text proved (12 s)
@@ -97,6 +100,77 @@ class Tally(unittest.TestCase):
             self.assertEqual(started.wait(MOST_SECONDS), gate.INTERRUPTED)
             with self.assertRaises(ProcessLookupError):
                 os.kill(int(number.read_text()), 0)
+
+
+class Modules(unittest.TestCase):
+    """How the tests of a module are counted, and which modules there are."""
+
+    def count(self, **environment):
+        """The exit code and the last line of a module that has one class, with these tests."""
+        def run(**tests):
+            module = types.ModuleType("made_up", "Made up.")
+            module.Tests = type("Tests", (Case,), tests)
+            written, details = io.StringIO(), io.StringIO()
+            environ = patch.dict(os.environ, {NUMBER: "", **environment})
+            with contextlib.redirect_stdout(written), contextlib.redirect_stderr(details), \
+                    environ, patch.object(sys, "argv", ["made_up"]):
+                code = run_unit_tests(module)
+            return code, written.getvalue().splitlines()[-1]
+        return run
+
+    def test_a_test_counts_once_or_as_its_checks(self):
+        def two_checks(case):
+            case.check("one", True)
+            case.check("two", True)
+
+        self.assertEqual(self.count()(test_one=lambda case: None, test_two=two_checks),
+                         (0, "3 passed, 0 failed"))
+
+    def test_each_check_that_fails_counts_and_the_others_go_on(self):
+        def three_checks(case):
+            case.check("one", False)
+            case.covers("two", {1}, {2})
+            case.rejects("three", ValueError, int, "a")
+            case.fail("and the rest")
+
+        self.assertEqual(self.count()(test_one=three_checks), (1, "1 passed, 3 failed"))
+
+    def test_a_test_that_is_skipped_has_failed(self):
+        def skipped(case):
+            case.skipTest("why not")
+
+        tests = {"test_one": skipped, "test_two": lambda case: None}
+        self.assertEqual(self.count()(**tests), (1, "1 passed, 1 failed"))
+        self.assertEqual(self.count(**{NUMBER: "7"})(**tests), (0, "1 passed, 0 failed"))
+        expected = unittest.expectedFailure(lambda case: case.fail())
+        self.assertEqual(self.count()(test_one=expected), (1, "0 passed, 1 failed"))
+
+    def test_a_module_without_tests_fails(self):
+        self.assertEqual(self.count()(), (1, "0 passed, 0 failed"))
+
+    def test_number_and_seed(self):
+        class Drawn(Differential):
+            number, seed = 3, 5
+
+            @classmethod
+            def draw(cls, chooser):
+                cls.first = chooser.random()
+
+        held = {}
+        for number, seed in (("", ""), ("40", "7")):
+            with patch.dict(os.environ, {NUMBER: number, SEED: seed}), \
+                    contextlib.redirect_stdout(io.StringIO()) as written:
+                Drawn.setUpClass()
+            held[Drawn.number, Drawn.seed] = (Drawn.first, written.getvalue())
+        self.assertEqual(list(held), [(3, 5), (40, 7)])
+        self.assertEqual([text for _, text in held.values()], ["seed 5\n", "seed 7\n"])
+        self.assertEqual(len({first for first, _ in held.values()}), 2)
+
+    def test_every_module_is_a_part(self):
+        paths = sorted((ROOT / "tests").rglob("test_*.py"))
+        due = [".".join(path.relative_to(ROOT).with_suffix("").parts) for path in paths]
+        listed = [gate.module_of(part) for part in gate.PARTS]
+        self.assertEqual(sorted(filter(None, listed)), due)
 
 
 class Progress(unittest.TestCase):

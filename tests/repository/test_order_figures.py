@@ -1,27 +1,28 @@
-"""Holds every number of the promises and trial figures against the list of the order's figures.
+"""Compares every number of the promises and trial figures with the list of the order's figures.
 
-tests/repository/order_figures.tsv says for each number which paper and section has it, and in which definition
-of the specifications it stands. A promise may stay provable with a weaker number; here that differs
-from the list. The test also changes each number in memory and looks whether it notices.
+tests/repository/order_figures.tsv says for each number which paper and section has it, and in which
+definition of the specifications it stands. A promise may stay provable with a weaker number; here
+that differs from the list. The test also changes each number in memory, and must notice it.
 """
 
-import argparse
 import re
 import sys
 from collections import defaultdict
 from typing import NamedTuple
 
 from tests import ROOT
-from tests.support.report import Report
+from tests.support.case import Case
+from tests.support.report import run_unit_tests
 
 LIST = ROOT / "tests" / "repository" / "order_figures.tsv"
 # Steps of the code, as docs/REVIEW.md names them: no caller depends on these.
 STEPS = {
     "arith/specs/Fractions", "book/specs/Reading", "cell/specs/States", "age_basis/specs/Steps",
-    "cost_rate_shares/specs/Usable", "funds/specs/Valued", "group_projection/specs/Added", "rate_table/specs/Puts",
-    "rate_table/specs/Rows", "cash_flow/specs/CashFlow", "totals/specs/Sums", "claims_estimates/specs/Ranked",
-    "cell_projection/specs/Tables", "cell_projection/specs/Projected", "five_projections/specs/Five",
-    "five_projections/specs/SideBySide", "year_report/specs/Tables",
+    "cost_rate_shares/specs/Usable", "funds/specs/Valued", "group_projection/specs/Added",
+    "rate_table/specs/Puts", "rate_table/specs/Rows", "cash_flow/specs/CashFlow",
+    "totals/specs/Sums", "claims_estimates/specs/Ranked",
+    "cell_projection/specs/Tables", "cell_projection/specs/Projected",
+    "five_projections/specs/Five", "five_projections/specs/SideBySide", "year_report/specs/Tables",
     "present_value/specs/Outcome",
 }
 
@@ -128,69 +129,41 @@ def specifications():
     return [f"{path.parent.parent.name}/specs/{path.stem}" for path in paths]
 
 
-def test_specification(report, spec, due):
-    """Its numbers are those of the list, and each change is noticed; how many were tried."""
-    text = read_text(spec)
-    wrong = [f"{name} has {numbers}, due are {numbers_listed}"
-             for name, numbers, numbers_listed in differences(text, due)]
-    inside = sum(len(each.numbers(text)) for each in definitions(text).values())
-    if inside != len(ANY_DIGITS.findall(text)):
-        wrong.append("a number stands in no definition")
-    changes = list(changed_numbers(text, due))
-    # A change of a number that is wrong already may put it right.
-    for name, changed in changes if not wrong else ():
-        if name not in [each for each, _, _ in differences(changed, due)]:
-            wrong.append(f"a change in {name} is not noticed")
-    if due or wrong:
-        report.test(f"numbers of {spec}: {len(changes)}", not wrong, "; ".join(wrong))
-    return len(changes)
+class OrderFigures(Case):
+    """One check for each specification, and for the list as a whole."""
 
+    def test_numbers_are_those_of_the_list(self):
+        rows = read_list()
+        due, tried = numbers_due(rows), 0
+        for spec in specifications():
+            if spec not in STEPS:
+                tried += self.check_specification(spec, due[spec])
+        numbers = sum(len(row.numbers.split()) for row in rows)
+        self.check(f"each of the {numbers} numbers was changed", tried == numbers > 0,
+                   f"{tried} were")
 
-def moved_rows(rows, spec, name, numbers):
-    """The rows of a definition of this name and these numbers that another specification had."""
-    for other, due in numbers_due(rows).items():
-        if other != spec and due.get(name) == numbers:
-            return [row._replace(specification=spec) for row in rows
-                    if (row.specification, row.definition) == (other, name)]
-    return []
+    def check_specification(self, spec, due):
+        """Its numbers are those of the list, and each change is noticed; how many were tried."""
+        text = read_text(spec)
+        wrong = [f"{name} has {numbers}, due are {numbers_listed}"
+                 for name, numbers, numbers_listed in differences(text, due)]
+        inside = sum(len(each.numbers(text)) for each in definitions(text).values())
+        if inside != len(ANY_DIGITS.findall(text)):
+            wrong.append("a number stands in no definition")
+        changes = list(changed_numbers(text, due))
+        # A change of a number that is wrong already may put it right.
+        for name, changed in changes if not wrong else ():
+            if name not in [each for each, _, _ in differences(changed, due)]:
+                wrong.append(f"a change in {name} is not noticed")
+        if due or wrong:
+            self.check(f"numbers of {spec}: {len(changes)}", not wrong, "; ".join(wrong))
+        return len(changes)
 
-
-def print_unlisted(rows, due):
-    """Rows for what differs from the list: those of a definition that was moved, or empty ones."""
-    found = {spec: read_text(spec) for spec in specifications() if spec not in STEPS}
-    gone = {name for spec, listed in due.items()
-            for name in listed.keys() - definitions(found.get(spec, "")).keys()}
-    for spec, text in found.items():
-        differing = [name for name, _, _ in differences(text, due[spec])]
-        for name, definition in definitions(text).items():
-            numbers = definition.numbers(text)
-            known = moved_rows(rows, spec, name, numbers) if name in gone else []
-            if numbers and name in differing:
-                known = known or [Row("", "", "", spec, name, " ".join(map(str, numbers)))]
-            for row in known:
-                print(*row, sep="\t")
-
-
-def main():
-    """One test for each specification, and for the list as a whole."""
-    parser = argparse.ArgumentParser(description=__doc__)
-    parser.add_argument("--unlisted", action="store_true",
-                        help="print rows for what differs from the list")
-    rows = read_list()
-    due = numbers_due(rows)
-    if parser.parse_args().unlisted:
-        print_unlisted(rows, due)
-        return 0
-    report = Report()
-    found = specifications()
-    tried = sum(test_specification(report, spec, due[spec]) for spec in found if spec not in STEPS)
-    report.covers("every step of the code is there", STEPS, found)
-    listed = {row.specification for row in rows}
-    report.covers("every specification of the list is there", listed, found)
-    numbers = sum(len(row.numbers.split()) for row in rows)
-    report.test(f"each of the {numbers} numbers was changed", tried == numbers > 0, f"{tried} were")
-    return report.finish()
+    def test_every_specification_named_is_there(self):
+        self.covers("steps of the code", STEPS, specifications())
+        listed = {row.specification for row in read_list()}
+        self.covers("specifications of the list", listed, specifications())
 
 
 if __name__ == "__main__":
-    sys.exit(main())
+    sys.exit(run_unit_tests(sys.modules[__name__]))

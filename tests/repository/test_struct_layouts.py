@@ -12,7 +12,8 @@ import sys
 from typing import Callable, NamedTuple
 
 from tests import ROOT
-from tests.support.report import Report, read_no_words
+from tests.support.case import Case
+from tests.support.report import run_unit_tests
 
 sys.path.insert(0, str(ROOT / "python"))
 
@@ -124,7 +125,7 @@ def read_rust(text):
 def c_numbers(text):
     """The whole numbers that the header defines, by name."""
     numbers = {}
-    for name, words in C_NUMBER.findall(text):
+    for name, words in C_NUMBER.findall(re.sub(r"\\\n *", "", text)):
         words = re.sub(r"[A-Z_]+", lambda found: str(numbers[found[0]]), words)
         # By C_NUMBER these are digits, signs and brackets alone.
         numbers[name] = eval(words, {"__builtins__": {}})
@@ -236,37 +237,48 @@ def changed_types(language):
             yield text[:found.start()] + OTHER_TYPES[found[0]] + text[found.end():]
 
 
-def test_changes(report, name, changes, language, due):
-    """Each changed text is noticed."""
-    changes = list(changes)
-    missed = sum(not differing(language.read(each), due) for each in changes)
-    report.test(f"{name}: {len(changes)}, each noticed", changes and not missed,
-                f"{missed} are not")
-
-
-def test_language(report, name, declared, due):
-    """Its structs are all read and used, its calls declared as elsewhere, a change noticed."""
-    language = LANGUAGES[name]
-    report.test(f"every struct of {name} is read", language.lost() == (0, ""), language.lost())
-    unused = sorted(declared.structs.keys() - declared.used)
-    report.test(f"every struct of {name} belongs to a call",
-                declared.structs and not unused, unused)
-    wrong = differing(declared, due)
-    report.test(f"{len(declared.calls)} calls of {name} are declared alike",
-                declared.calls and not wrong, wrong)
-    test_changes(report, f"fields swapped in {name}", swapped_fields(language), language, due)
-    test_changes(report, f"types changed in {name}", changed_types(language), language, due)
-
-
-def main():
+class Declarations(Case):
     """Each language against the header, and the header against Rattle."""
-    read_no_words(__doc__)
-    report = Report()
-    declared = {name: language.read(language.text) for name, language in LANGUAGES.items()}
-    for name, each in declared.items():
-        test_language(report, name, each, declared["Rattle" if name == "C" else "C"])
-    return report.finish()
+
+    @classmethod
+    def setUpClass(cls):
+        cls.declared = {name: each.read(each.text) for name, each in LANGUAGES.items()}
+
+    def compared(self):
+        """(name, language, its declarations, those that they are compared with)."""
+        for name, language in LANGUAGES.items():
+            other = self.declared["Rattle" if name == "C" else "C"]
+            yield name, language, self.declared[name], other
+
+    def test_every_struct_is_read(self):
+        for name, language in LANGUAGES.items():
+            self.check(name, language.lost() == (0, ""), language.lost())
+
+    def test_every_struct_belongs_to_a_call(self):
+        for name, declared in self.declared.items():
+            unused = sorted(declared.structs.keys() - declared.used)
+            self.check(name, declared.structs and not unused, unused)
+
+    def test_calls_are_declared_alike(self):
+        for name, _, declared, other in self.compared():
+            wrong = differing(declared, other)
+            self.check(f"{len(declared.calls)} calls of {name}", declared.calls and not wrong,
+                       wrong)
+
+    def test_swapped_fields_are_noticed(self):
+        for name, language, _, other in self.compared():
+            self.check_changes(name, swapped_fields(language), language, other)
+
+    def test_changed_types_are_noticed(self):
+        for name, language, _, other in self.compared():
+            self.check_changes(name, changed_types(language), language, other)
+
+    def check_changes(self, name, changes, language, other):
+        """Each changed text is noticed."""
+        changes = list(changes)
+        missed = sum(not differing(language.read(each), other) for each in changes)
+        self.check(f"{name}: {len(changes)} changes", changes and not missed, f"{missed} are not")
 
 
 if __name__ == "__main__":
-    sys.exit(main())
+    sys.exit(run_unit_tests(sys.modules[__name__]))

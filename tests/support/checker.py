@@ -16,6 +16,6 @@ def tried():
 
 
 def checker_line(identity):
-    """The gate's first line; below it a note, which is no failure, where the checker was not tried."""
+    """The gate's first line; below it a note, no failure, where the checker was not tried."""
     line = f"checker: {identity.strip()}"
     return line if identity.strip() in tried() else f"{line}\n{NOT_TRIED}"

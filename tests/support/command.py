@@ -1,4 +1,4 @@
-"""Commands run to their end within a time, one or two at once, for the scripts that run other programs' tests."""
+"""Commands run to their end within a time, one or two at once."""
 
 import os
 import signal
@@ -13,28 +13,30 @@ NOT_STARTED, NOT_ENDED = 127, 124
 GRACE_SECONDS = 2
 # As many as the smallest machine that we run on has processors.
 AT_ONCE = 2
-# Between two looks at those that run.
-LOOK_SECONDS = 0.05
-# What is read at a look of what one has written.
-MOST_BYTES_AT_A_LOOK = 1 << 20
+# Between two polls of those that run.
+POLL_SECONDS = 0.05
+# What is read at a poll of what one has written.
+MOST_BYTES_A_POLL = 1 << 20
 
 
 def run(command, most_seconds, folder=ROOT):
     """The exit code of a command and what it wrote, errors included.
 
-    One that cannot be started, or takes longer, has an exit code too. Nothing that it started goes on after it
-    took too long, or after whoever waits for it was interrupted.
+    One that cannot be started, or takes longer, has an exit code too. Nothing that it started goes
+    on after it took too long, or after whoever waits for it was interrupted.
     """
     try:
-        started = subprocess.Popen(command, cwd=folder, stdin=subprocess.DEVNULL, stdout=subprocess.PIPE,
-                                   stderr=subprocess.STDOUT, start_new_session=True)
+        started = subprocess.Popen(command, cwd=folder, stdin=subprocess.DEVNULL,
+                                   stdout=subprocess.PIPE, stderr=subprocess.STDOUT,
+                                   start_new_session=True)
     except OSError as trouble:
         return NOT_STARTED, str(trouble)
     try:
         written, _ = started.communicate(timeout=most_seconds)
     except subprocess.TimeoutExpired as trouble:
         end_group(started)
-        return NOT_ENDED, f"{text_of(trouble.output or b'')}\n{command[0]} did not end in {most_seconds} seconds"
+        written = text_of(trouble.output or b"")
+        return NOT_ENDED, f"{written}\n{command[0]} did not end in {most_seconds} seconds"
     except BaseException:
         end_group(started)
         raise
@@ -42,7 +44,7 @@ def run(command, most_seconds, folder=ROOT):
 
 
 class Beside:
-    """A command that runs beside others: what it writes goes to a file that is gone when it is closed."""
+    """A command that runs beside others: what it writes goes to a temporary file."""
 
     def __init__(self, command, most_seconds):
         self.began = time.monotonic()
@@ -75,14 +77,14 @@ class Beside:
 
         The command and we share one place in the file: it is read without moving that.
         """
-        fresh = os.pread(self.written.fileno(), MOST_BYTES_AT_A_LOOK, self.lines_end)
+        fresh = os.pread(self.written.fileno(), MOST_BYTES_A_POLL, self.lines_end)
         whole = fresh.rfind(b"\n") + 1
-        if not whole and len(fresh) == MOST_BYTES_AT_A_LOOK:
+        if not whole and len(fresh) == MOST_BYTES_A_POLL:
             whole = len(fresh)
         self.lines_end += whole
         return text_of(fresh[:whole]).splitlines()
 
-    def told(self):
+    def result(self):
         """Its exit code, what it wrote and how long it took, once it has ended."""
         seconds = self.seconds()
         self.written.seek(0)
@@ -97,7 +99,7 @@ class Beside:
 
 
 def run_beside(commands, most_seconds, watch=lambda lines: None):
-    """Run commands, two at once: exit code, writing and seconds of each, in their order, once those before it ended.
+    """Run commands, two at once: exit code, output and seconds of each, in their order.
 
     `watch` is given, many times a second, the new lines of those that run, by their numbers.
     Nothing that was started goes on where whoever waits is interrupted.
@@ -111,11 +113,11 @@ def run_beside(commands, most_seconds, watch=lambda lines: None):
                 running[number] = Beside(command, most_seconds)
             watch({number: each.new_lines() for number, each in running.items()})
             for number in [number for number, each in running.items() if each.ended()]:
-                ended[number] = running.pop(number).told()
+                ended[number] = running.pop(number).result()
             while given in ended:
                 yield ended.pop(given)
                 given += 1
-            time.sleep(LOOK_SECONDS)
+            time.sleep(POLL_SECONDS)
     finally:
         for each in running.values():
             each.end()

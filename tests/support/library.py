@@ -3,17 +3,17 @@
 import sys
 
 from tests import ROOT
+from tests.support.case import Case
 
 
-def open_library(report):
-    """The module; None, with a failed test, where `make lib` has not built the shared library."""
-    sys.path.insert(0, str(ROOT / "python"))
-    from xaropinto import calls
-    from xaropinto.library import LibraryMissing
+class LibraryCase(Case):
+    """Tests of the calls; they fail where `make lib` has not built the shared library."""
 
-    try:
+    @classmethod
+    def setUpClass(cls):
+        sys.path.insert(0, str(ROOT / "python"))
+        from xaropinto import calls
+
         calls.check(b"")
-    except (LibraryMissing, OSError) as trouble:
-        report.test("the shared library is built by make lib", False, trouble)
-        return None
-    return calls
+        cls.library = calls
+        super().setUpClass()

@@ -21,7 +21,7 @@ def program_path(name):
 
 
 def run_program(name, sent, *words):
-    """The bytes that a program, started with these words, writes for those on its input; and its exit code."""
+    """The bytes that a program, started with these words, writes for its input; its exit code."""
     run = run_to_its_end(name, sent, words)
     return run.stdout, run.returncode
 
@@ -29,8 +29,8 @@ def run_program(name, sent, *words):
 def run_to_its_end(name, sent, words=(), errors=None):
     """The program's run, with what it writes to standard error where `errors` is a pipe."""
     try:
-        return subprocess.run([program_path(name), *words], input=sent, stdout=subprocess.PIPE, stderr=errors,
-                              timeout=MOST_SECONDS, check=False)
+        return subprocess.run([program_path(name), *words], input=sent, stdout=subprocess.PIPE,
+                              stderr=errors, timeout=MOST_SECONDS, check=False)
     except (OSError, subprocess.TimeoutExpired) as trouble:
         raise ProgramFailed(f"{name} could not be run to its end: {trouble}") from trouble
 
@@ -42,7 +42,7 @@ def run_with_errors(name, sent):
 
 
 def verdict_lines(books):
-    """The lines that the test program of the check writes for these books in their order, and its exit code."""
+    """The lines that the test program of the check writes for these books, and its exit code."""
     written, code = run_program("test_check", b"".join(map(book_frame, books)))
     # What follows the last byte 10 is no line.
     return written.decode("ascii", "replace").split("\n")[:-1], code

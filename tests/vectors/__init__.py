@@ -1,1 +1,1 @@
-"""Streams: named and random cases for the test programs, with the answers due, written or tested."""
+"""Streams: named and random cases for the test programs, with the answers due."""

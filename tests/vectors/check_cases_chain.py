@@ -2,8 +2,8 @@
 
 import random
 
-from reference.book import (Cell, Portfolio, Slot, empty_book, make_book, one_record_book, slots_in_chain_order,
-                         shuffled, with_junk)
+from reference.book import (Cell, Portfolio, Slot, empty_book, make_book, one_record_book,
+                            slots_in_chain_order, shuffled, with_junk)
 from reference.layout import CHAINS, RECORD_SIZE, changed, record
 from tests.vectors.check_cases_header import Case, base_book, base_values, range_cases, slug
 

@@ -3,11 +3,11 @@
 import random
 from typing import NamedTuple
 
-from reference.book import (Portfolio, empty_book, full_book, make_book, one_record_book, realistic_cell,
-                         realistic_tables)
-from reference.layout import (AGE_BASIS, CLASSES, COST_RATES, CURVE, EDITION, HEADER_SPARE, MORTALITY,
-                           MOST_BYTES_TAKEN, MOST_RECORDS, PERCENTAGES, RECORD_COUNT, RECORD_SIZE, SST_YEAR,
-                           changed, record)
+from reference.book import (Portfolio, empty_book, full_book, make_book, one_record_book,
+                            realistic_cell, realistic_tables)
+from reference.layout import (AGE_BASIS, CLASSES, COST_RATES, CURVE, EDITION, HEADER_SPARE,
+                              MORTALITY, MOST_BYTES_TAKEN, MOST_RECORDS, PERCENTAGES, RECORD_COUNT,
+                              RECORD_SIZE, SST_YEAR, changed, record)
 
 
 class Case(NamedTuple):

@@ -3,8 +3,8 @@
 from itertools import combinations
 
 from reference.book import make_book, slots_in_chain_order
-from reference.layout import (AGE_BASIS, CHAINS, COST_RATES, CURVE, EDITION, HEADER_SPARE, MORTALITY, PERCENTAGES,
-                           RECORD_COUNT, SST_YEAR, changed, record)
+from reference.layout import (AGE_BASIS, CHAINS, COST_RATES, CURVE, EDITION, HEADER_SPARE,
+                              MORTALITY, PERCENTAGES, RECORD_COUNT, SST_YEAR, changed, record)
 from tests.vectors.check_cases_chain import BASE_COUNT
 from tests.vectors.check_cases_header import Case, base_book, base_values, slug
 
@@ -24,7 +24,7 @@ def record_spoils(number):
 
 
 def spoiled(numbers, base=None):
-    """The base book, or one linked like it, with all these refusals caused, those of a record in record 2."""
+    """The base book, or one linked like it, with these refusals; those of a record in record 2."""
     spoils = HEADER_SPOILS | record_spoils(2)
     book = changed(base or base_book(), *(spoils[number] for number in numbers if number in spoils))
     if 23 in numbers:
@@ -61,7 +61,7 @@ def header_order_cases():
 
 
 def percentage_order_cases():
-    """23 stands where 4 looks at bytes 6 and 7: after the other places of 4, before 5 to 8 and the chains."""
+    """23 stands where 4 tests bytes 6 and 7: after its other places, before 5 to 8 and chains."""
     for number in (1, 3, 4):
         yield Case(f"refusal_{number}_before_23", spoiled((number, 23)))
     for number in range(5, 14):

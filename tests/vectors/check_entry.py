@@ -29,7 +29,7 @@ class Entry:
         return defects(self.book)
 
     @cached_property
-    def walks(self):
+    def link_numbers(self):
         """For each chain the record numbers its links name, past any defect."""
         return [[number for _, number in steps(self.book, chain)]
                 for chain in range(len(CHAINS))]
@@ -38,7 +38,8 @@ class Entry:
     def paths(self):
         """For each chain the records it links."""
         count = RECORD_COUNT.read(self.book)
-        return [[number for number in walk if 0 < number <= count] for walk in self.walks]
+        return [[number for number in numbers if 0 < number <= count]
+                for numbers in self.link_numbers]
 
     def sole_causes(self):
         """The cause of the refusal where nothing else is wrong at its place."""

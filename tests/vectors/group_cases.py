@@ -35,7 +35,7 @@ def group_of(chain):
 
 
 def insurer_calls():
-    """Every setting and group of a plausible insurer, and some of another, which has percentages of its own."""
+    """Every setting and group of a plausible insurer, and some of one with other percentages."""
     many = books.insurer_book(books.MANY_PRODUCTS, 320)
     hospital = in_edition_2(books.insurer_book(books.HOSPITAL_PRODUCT, 302), 83, 91)
     for setting in SETTINGS:
@@ -77,7 +77,8 @@ def trial_calls():
     yield Call("loss_in_discounting", 0, 2, trials.loss_in_discounting_book())
     yield Call("loss_in_every_step", 0, 2, trials.loss_in_every_step_book())
     for words, rate in (("below", -9_999), ("above", 1)):
-        yield Call(f"loss_at_every_rounding_{words}_zero", 0, 2, trials.loss_at_every_rounding_book(rate))
+        yield Call(f"loss_at_every_rounding_{words}_zero", 0, 2,
+                   trials.loss_at_every_rounding_book(rate))
 
 
 def class_calls():

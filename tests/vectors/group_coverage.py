@@ -1,106 +1,24 @@
-"""What the group stream covers, counted from its calls and replies, and every distance in it."""
+"""What the stream of Group covers, counted from its calls and replies."""
 
 from dataclasses import replace
 
 from reference.book import read_values
-from reference.exact import exact_liability, group_distance, has_rate_below_zero
-from reference.layout import (CHAINS, COST_RATES, CURVE, LONGEST_BOOK, MORTALITY, PRODUCT_GROUPS, SETTINGS,
-                           record)
+from reference.layout import (CHAINS, COST_RATES, CURVE, LONGEST_BOOK, MORTALITY, PRODUCT_GROUPS,
+                              SETTINGS, record)
 from reference.valuation import year_table
 from tests.vectors.check_cases_order import BOOK_REFUSALS
 from tests.vectors.group_cases import Call
 
-MOST_STDIN_BYTES, MOST_STDOUT_BYTES = 3_000_000, 1_000_000
 
-
-def cover(report, entries):
-    """All coverage tests, then the distances."""
-    stdin, stdout = (sum(map(len, parts)) for parts in
-                     zip(*((entry.frame(), entry.line() + "\n") for entry in entries)))
-    report.test("stdin stays under 3 MB", stdin < MOST_STDIN_BYTES, stdin)
-    report.test("stdout stays under 1 MB", stdout < MOST_STDOUT_BYTES, stdout)
-    accepted = [entry for entry in entries if entry.accepted]
-    cover_refusals(report, entries)
-    cover_calls(report, accepted)
-    cover_amounts(report, accepted)
-    cover_figures(report, accepted)
-    cover_distance(report, accepted)
-
-
-def cover_refusals(report, entries):
-    """Refusals of the caller with the numbers that cause them, and those of the book."""
-    def seen(refusal, position):
-        return {entry.call[position] for entry in entries if entry.reply[0] == refusal}
-
-    refusals = {entry.reply[0] for entry in entries}
-    report.covers("refusals 14, 15 and 16", {14, 15, 16}, refusals)
-    report.covers("each refusal of the book", BOOK_REFUSALS, refusals)
-    setting, product_group, table_length = map(Call._fields.index, (
-        "setting", "product_group", "table_length"))
-    report.covers("settings 8, 9 and 2^64 - 1 are 14", {8, 9, 2**64 - 1}, seen(14, setting))
-    report.covers("groups 0, 6 and 2^64 - 1 are 15", {0, 6, 2**64 - 1}, seen(15, product_group))
-    report.covers("tables of 0 and 199 are 16", {0, 199}, seen(16, table_length))
-    wrong = [entry.name for entry in entries
-             if not entry.accepted and entry.reply[2:] != (0, 0, None)]
-    report.test("a refusal has no figures", not wrong, wrong[:5])
-
-
-def cover_calls(report, accepted):
-    """Every setting and group on cells that have contracts, and every table length."""
-    pairs = {(entry.call.setting, entry.call.product_group)
-             for entry in accepted if entry.reply[3] != 0}
-    report.covers("every setting with every group, accepted",
-                  {(setting, each) for setting in SETTINGS for each in PRODUCT_GROUPS}, pairs)
-    report.covers("tables of 200, 201 and 300 are long enough", {200, 201, 300},
-                  {entry.call.table_length for entry in accepted})
-    report.test("two full books", sum(len(e.call.book) == LONGEST_BOOK for e in accepted) == 2)
-
-
-def cover_ends(report, books, cells):
+def cover_ends(case, books, cells):
     """Both ends of every range that enters a figure."""
     for position, amount in enumerate(record(1).amounts):
-        report.covers(f"both ends of {amount.name.split(', ')[1]}", {amount.low, amount.high},
-                      {cell[position] for cell in cells})
+        case.covers(f"both ends of {amount.name.split(', ')[1]}", {amount.low, amount.high},
+                    {cell[position] for cell in cells})
     for words, places in (("cost rates", COST_RATES), ("the curve", CURVE),
                           ("mortality", MORTALITY)):
         rates = {place.read(book) for book in books for place in places}
-        report.covers(f"both ends of {words}", {places[0].low, places[0].high}, rates)
-
-
-def cover_amounts(report, accepted):
-    """Amounts and rates at their ends, and cells with and without contracts."""
-    cells = {entry.name: entry.cells() for entry in accepted}
-    cover_ends(report, [entry.call.book for entry in accepted],
-               [cell for group_cells in cells.values() for cell in group_cells])
-    thinned = [e.name for e in accepted if 0 < e.reply[3] < len(cells[e.name])]
-    bare = [e.name for e in accepted if e.reply[3] == 0 and cells[e.name]]
-    report.test("cells without contracts, some and all", thinned and bare)
-    spans = {len(group_cells) for group_cells in cells.values()}
-    report.covers("one cell, two cells and 726", {1, 2, 726}, spans)
-
-
-def cover_figures(report, accepted):
-    """Debts and credits, years with and without a cut by the cap."""
-    liabilities = [entry.reply[2] for entry in accepted]
-    report.test("debts, credits and zero", min(liabilities) < 0 < max(liabilities)
-                and 0 in liabilities)
-    report.test("a cell of class 120 with outgo in all fifty years",
-                any(len(entry.cells()) == 1 and all(entry.reply[4][1::4]) for entry in accepted))
-    at_cap, below_cap, above_cap = set(), set(), set()
-    for entry in accepted:
-        numbers = entry.reply[4]
-        for k in range(5, 50):
-            premium, outgo = numbers[4 * k:4 * k + 2]
-            if 9 * premium > 10 * outgo:
-                above_cap.add(entry.name)
-            if outgo != 0:
-                (at_cap if premium == 10 * outgo // 9 else below_cap).add(k)
-    report.test("no premium above the cap from k = 5", not above_cap, above_cap)
-    behind = [entry.name for entry in accepted if entry.call.product_group == 1
-              and has_rich_subgroup_behind_poor(read_values(entry.call.book), entry.call.setting)]
-    report.test("a rich subgroup of PG1 behind a poor one", behind)
-    report.covers("the cap reached in every year from k = 5", range(5, 50), at_cap)
-    report.covers("the cap not reached in every year from k = 5", range(5, 50), below_cap)
+        case.covers(f"both ends of {words}", {places[0].low, places[0].high}, rates)
 
 
 def has_rich_subgroup_behind_poor(values, setting):
@@ -113,22 +31,69 @@ def has_rich_subgroup_behind_poor(values, setting):
                for year, *parts in zip(whole, *apart))
 
 
-def cover_distance(report, accepted):
-    """Every liability against its exact value."""
-    shares = []
-    for entry in accepted:
-        call, (_, _, liability, n, _) = entry
-        exact = exact_liability(call.book, call.setting, call.product_group)
-        share = abs(liability - exact) / group_distance(call.book, n)
-        shares.append((has_rate_below_zero(call.book), share, entry.name))
-    hold_shares(report, "liabilities", shares)
+class GroupCoverage:
+    """Tests of what the calls of the stream have."""
 
+    def test_refusals(self):
+        """Refusals of the caller with the numbers that cause them, and those of the book."""
+        def seen(refusal, position):
+            return {entry.call[position] for entry in self.entries if entry.reply[0] == refusal}
 
-def hold_shares(report, words, shares):
-    """(a rate is below zero, share, name): the largest of each curve is named; half the distance where none is."""
-    for below, curve, distance in ((True, "with a rate below zero", "the distance"),
-                                   (False, "with no rate below zero", "half the distance")):
-        share, name = max(((share, name) for dips, share, name in shares if dips == below), default=(2, "none"))
-        print(f"largest share of {distance}, {curve}: {float(100 * share):.2f} percent, {name}")
-        times = sum(dips == below for dips, _, _ in shares)
-        report.test(f"{times} {words} {curve} within {distance} of the exact value", share <= 1)
+        refusals = {entry.reply[0] for entry in self.entries}
+        self.covers("refusals 14, 15 and 16", {14, 15, 16}, refusals)
+        self.covers("each refusal of the book", BOOK_REFUSALS, refusals)
+        setting, product_group, table_length = map(Call._fields.index, (
+            "setting", "product_group", "table_length"))
+        self.covers("settings 8, 9 and 2^64 - 1 are 14", {8, 9, 2**64 - 1}, seen(14, setting))
+        self.covers("groups 0, 6 and 2^64 - 1 are 15", {0, 6, 2**64 - 1}, seen(15, product_group))
+        self.covers("tables of 0 and 199 are 16", {0, 199}, seen(16, table_length))
+        wrong = [entry.name for entry in self.entries
+                 if not entry.accepted and entry.reply[2:] != (0, 0, None)]
+        self.check("a refusal has no figures", not wrong, wrong[:5])
+
+    def test_calls(self):
+        """Every setting and group on cells that have contracts, and every table length."""
+        pairs = {(entry.call.setting, entry.call.product_group)
+                 for entry in self.accepted if entry.reply[3] != 0}
+        self.covers("every setting with every group, self.accepted",
+                    {(setting, each) for setting in SETTINGS for each in PRODUCT_GROUPS}, pairs)
+        self.covers("tables of 200, 201 and 300 are long enough", {200, 201, 300},
+                    {entry.call.table_length for entry in self.accepted})
+        self.check("two full books",
+                   sum(len(e.call.book) == LONGEST_BOOK for e in self.accepted) == 2)
+
+    def test_amounts(self):
+        """Amounts and rates at their ends, and cells with and without contracts."""
+        cells = {entry.name: entry.cells() for entry in self.accepted}
+        cover_ends(self, [entry.call.book for entry in self.accepted],
+                   [cell for group_cells in cells.values() for cell in group_cells])
+        thinned = [e.name for e in self.accepted if 0 < e.reply[3] < len(cells[e.name])]
+        bare = [e.name for e in self.accepted if e.reply[3] == 0 and cells[e.name]]
+        self.check("cells without contracts, some and all", thinned and bare)
+        spans = {len(group_cells) for group_cells in cells.values()}
+        self.covers("one cell, two cells and 726", {1, 2, 726}, spans)
+
+    def test_figures(self):
+        """Debts and credits, years with and without a cut by the cap."""
+        liabilities = [entry.reply[2] for entry in self.accepted]
+        self.check("debts, credits and zero", min(liabilities) < 0 < max(liabilities)
+                   and 0 in liabilities)
+        self.check("a cell of class 120 with outgo in all fifty years",
+                   any(len(entry.cells()) == 1 and all(entry.reply[4][1::4])
+                       for entry in self.accepted))
+        at_cap, below_cap, above_cap = set(), set(), set()
+        for entry in self.accepted:
+            numbers = entry.reply[4]
+            for k in range(5, 50):
+                premium, outgo = numbers[4 * k:4 * k + 2]
+                if 9 * premium > 10 * outgo:
+                    above_cap.add(entry.name)
+                if outgo != 0:
+                    (at_cap if premium == 10 * outgo // 9 else below_cap).add(k)
+        self.check("no premium above the cap from k = 5", not above_cap, above_cap)
+        of_group_1 = [entry.call for entry in self.accepted if entry.call.product_group == 1]
+        behind = [call.name for call in of_group_1
+                  if has_rich_subgroup_behind_poor(read_values(call.book), call.setting)]
+        self.check("a rich subgroup of PG1 behind a poor one", behind)
+        self.covers("the cap reached in every year from k = 5", range(5, 50), at_cap)
+        self.covers("the cap not reached in every year from k = 5", range(5, 50), below_cap)

@@ -1,4 +1,4 @@
-"""The named books of the listing stream: those of the group stream, and what only totals can show."""
+"""The named books of the listing stream: those of Group, and what only totals can show."""
 
 from reference.layout import CHAINS, MOST_BYTES_TAKEN, PRODUCT_GROUPS
 from tests.fixtures import insurers as books
@@ -12,8 +12,8 @@ MEN_OF_EACH_GROUP = (0, 6, 8, 10, 12)
 RICH_AND_POOR = ((2, 5), (4, 1), (5, 6), (7, 8), (9, 10), (11, 12), (13, 0))
 
 
-def lent_cases():
-    """The books that calls of the group stream lend, those about tables and callers left out."""
+def book_cases():
+    """The books of the stream of Group, those about tables and callers left out."""
     for calls in (trial_calls, class_calls, insurer_calls, end_calls, curve_calls, size_calls,
                   refused_calls):
         for call in calls():
@@ -53,7 +53,7 @@ def longest_cases():
 def listing_cases():
     """All books of the stream, each once and under its first name."""
     names = {}
-    for cases in (lent_cases, group_cases, rich_cases, loss_cases, length_cases, longest_cases):
+    for cases in (book_cases, group_cases, rich_cases, loss_cases, length_cases, longest_cases):
         for case in cases():
             names.setdefault(case.book, case.name)
     return [Case(name, book) for book, name in names.items()]

@@ -1,4 +1,5 @@
-/* The totals of the book in a file: how little a caller needs. gcc example.c $(pkg-config --cflags --libs xaropinto) */
+/* The totals of the book in a file: how little a caller needs.
+ * gcc example.c $(pkg-config --cflags --libs xaropinto) */
 #include <inttypes.h>
 #include <stdio.h>
 #include <xaropinto.h>

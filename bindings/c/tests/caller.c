@@ -1,5 +1,5 @@
-/* Calls the archive from C on books, accounts and claims made here, and holds every reply against figures worked by
- * hand. */
+/* Calls the archive from C on books, accounts and claims made here, and compares every reply with
+ * figures worked by hand. */
 #include <stdio.h>
 #include <stdlib.h>
 #include <string.h>
@@ -44,7 +44,8 @@ static void test(const char *name, int holds)
 
 /* ---- books ---- */
 
-/* The bytes have just this length, so that a tool that watches memory sees a read past their end. */
+/* The bytes have just this length, so that a tool that watches memory sees a read past their end.
+ */
 typedef struct {
     uint8_t *bytes;
     size_t length;
@@ -94,13 +95,14 @@ static parameter_book unlinked_book(size_t records)
     return book;
 }
 
-static void put_record(parameter_book book, size_t number, size_t chain, size_t class, contracts held)
+static void put_record(parameter_book book, size_t number, size_t chain, size_t age_class,
+                       contracts held)
 {
     size_t start = record_start(number);
     put(book, start + XAROPINTO_CODE_AT, 1, chain / 2 + 1);
     put(book, start + XAROPINTO_SEX_AT, 1, chain % 2);
-    put(book, start + XAROPINTO_CLASS_AT, 1, class);
-    put(book, start + XAROPINTO_NEXT_AT, 2, class == LAST_CLASS ? 0 : number + 1);
+    put(book, start + XAROPINTO_CLASS_AT, 1, age_class);
+    put(book, start + XAROPINTO_NEXT_AT, 2, age_class == LAST_CLASS ? 0 : number + 1);
     put(book, start + XAROPINTO_COUNT_AT, 4, held.count);
     put(book, start + LAPSE, 4, held.lapse);
     put(book, start + XAROPINTO_PREMIUM_AT, 4, held.premium);
@@ -118,7 +120,8 @@ static parameter_book one_record_book(void)
     return book;
 }
 
-/* One man of PG2 who meets these amounts in the years k = 0 to years - 1, and nothing from class 120 on. */
+/* One man of PG2 who meets these amounts in the years k = 0 to years - 1, and nothing from class
+ * 120 on. */
 static parameter_book one_man_book(size_t years, contracts each_year)
 {
     parameter_book book = unlinked_book(years + 1);
@@ -132,7 +135,8 @@ static parameter_book one_man_book(size_t years, contracts each_year)
     return book;
 }
 
-/* One man of PG2 at class 119, with premiums; in class 120 there are claims, and other deaths and lapses. */
+/* One man of PG2 at class 119, with premiums; in class 120 there are claims, and other deaths and
+ * lapses. */
 static parameter_book very_old_book(void)
 {
     parameter_book book = unlinked_book(2);
@@ -145,7 +149,8 @@ static parameter_book very_old_book(void)
     return book;
 }
 
-/* One man's book on age basis 2, with a record behind that no chain reaches and whose class is 0. */
+/* One man's book on age basis 2, with a record behind that no chain reaches and whose class is 0.
+ */
 static parameter_book one_man_newer_book(size_t years, contracts each_year)
 {
     parameter_book older = one_man_book(years, each_year);
@@ -159,7 +164,8 @@ static parameter_book one_man_newer_book(size_t years, contracts each_year)
     return book;
 }
 
-/* All 14 chains from class 0, everywhere one contract with claims of one centime; nobody dies or leaves. */
+/* All 14 chains from class 0, everywhere one contract with claims of one centime; nobody dies or
+ * leaves. */
 static parameter_book full_book(void)
 {
     parameter_book book = unlinked_book(MOST_RECORDS);
@@ -167,8 +173,8 @@ static parameter_book full_book(void)
     size_t number = 1;
     for (size_t chain = 0; chain < CHAINS; chain++) {
         put(book, HEADS + 2 * chain, 2, number);
-        for (size_t class = 0; class <= LAST_CLASS; class++)
-            put_record(book, number++, chain, class, one);
+        for (size_t age_class = 0; age_class <= LAST_CLASS; age_class++)
+            put_record(book, number++, chain, age_class, one);
     }
     return book;
 }
@@ -200,10 +206,11 @@ static int marks_stand(const uint64_t *table, size_t from, size_t to)
 
 /* ---- reports ---- */
 
-/* Longer than any report's buffer, so that a byte written past what was lent shows. */
+/* Longer than any report's buffer, so that a byte written past the buffer shows. */
 enum { YEARS = 50, MEMORY_SIZE = XAROPINTO_MOST_REPORT_BYTES + 100 };
 
-/* The report of a book with contracts of PG2 alone: its figures in the first years, and nothing later. */
+/* The report of a book with contracts of PG2 alone: its figures in the first years, and nothing
+ * later. */
 static size_t pg2_report(char *text, const char *const *lines, size_t years)
 {
     size_t length = (size_t)sprintf(text, "group,year,premium,outgo\n");
@@ -238,7 +245,8 @@ static int verdict_is(parameter_book book, uint64_t refusal, uint64_t place, uin
     return reply.refusal == refusal && reply.place == place && reply.n == n;
 }
 
-static int totals_are(parameter_book book, uint64_t n, const int64_t totals[8], const int64_t differences[4])
+static int totals_are(parameter_book book, uint64_t n, const int64_t totals[8],
+                      const int64_t differences[4])
 {
     xaropinto_totals_reply reply = xaropinto_totals(book.bytes, book.length);
     return reply.refusal == 0 && reply.place == 0 && reply.n == n &&
@@ -259,7 +267,8 @@ static int record_is(parameter_book book, size_t number, xaropinto_record_reply 
     return memcmp(&reply, &due, sizeof due) == 0;
 }
 
-static int group_is(parameter_book book, size_t setting, size_t group, int64_t liability, uint64_t n)
+static int group_is(parameter_book book, size_t setting, size_t group, int64_t liability,
+                    uint64_t n)
 {
     uint64_t *table = marked_table(XAROPINTO_TABLE_NUMBERS);
     xaropinto_group_reply reply =
@@ -268,12 +277,14 @@ static int group_is(parameter_book book, size_t setting, size_t group, int64_t l
     return reply.refusal == 0 && reply.place == 0 && reply.liability == liability && reply.n == n;
 }
 
-/* The refusal is given, and of a table that has TABLE_SIZE numbers, not all of them lent, each is as it was. */
-static int group_refused(parameter_book book, size_t setting, size_t group, size_t numbers, uint64_t refusal,
-                         uint64_t place)
+/* The refusal is given, and of a table that has TABLE_SIZE numbers, not all of them passed, each is
+ * as it was. */
+static int group_refused(parameter_book book, size_t setting, size_t group, size_t numbers,
+                         uint64_t refusal, uint64_t place)
 {
     uint64_t *table = marked_table(TABLE_SIZE);
-    xaropinto_group_reply reply = xaropinto_group(book.bytes, book.length, setting, group, table, numbers);
+    xaropinto_group_reply reply =
+        xaropinto_group(book.bytes, book.length, setting, group, table, numbers);
     xaropinto_group_reply due = {refusal, place, 0, 0};
     int holds = memcmp(&reply, &due, sizeof due) == 0 && marks_stand(table, 0, TABLE_SIZE);
     free(table);
@@ -298,35 +309,40 @@ static int room_is_refused(parameter_book book, size_t setting, uint64_t refusal
     return reply.refusal == refusal && reply.place == place && reply.length == 0;
 }
 
-/* The refusal is given, and every byte is as it was, also those that are not lent. */
-static int report_refused(parameter_book book, size_t setting, size_t bytes, uint64_t refusal, uint64_t place)
+/* The refusal is given, and every byte is as it was, also those that are not passed. */
+static int report_refused(parameter_book book, size_t setting, size_t bytes, uint64_t refusal,
+                          uint64_t place)
 {
     uint8_t *memory = marked_memory();
-    xaropinto_report_reply reply = xaropinto_report(book.bytes, book.length, setting, memory, bytes);
-    int holds = reply.refusal == refusal && reply.place == place && reply.length == 0 && bytes_stand(memory, 0);
+    xaropinto_report_reply reply =
+        xaropinto_report(book.bytes, book.length, setting, memory, bytes);
+    int holds = reply.refusal == refusal && reply.place == place && reply.length == 0 &&
+                bytes_stand(memory, 0);
     free(memory);
     return holds;
 }
 
-/* The text is written, and every byte after it is as it was, also those that are not lent. */
-static int report_written(parameter_book book, size_t setting, size_t bytes, const char *text, size_t length)
+/* The text is written, and every byte after it is as it was, also those that are not passed. */
+static int report_written(parameter_book book, size_t setting, size_t bytes, const char *text,
+                          size_t length)
 {
     uint8_t *memory = marked_memory();
-    xaropinto_report_reply reply = xaropinto_report(book.bytes, book.length, setting, memory, bytes);
+    xaropinto_report_reply reply =
+        xaropinto_report(book.bytes, book.length, setting, memory, bytes);
     int holds = reply.refusal == 0 && reply.place == 0 && reply.length == length &&
                 memcmp(memory, text, length) == 0 && bytes_stand(memory, length);
     free(memory);
     return holds;
 }
 
-/* The room told is the length of the report of PG2's lines. A buffer of just so many bytes and one of a byte more take
- * the report; one of a byte less is refused. */
+/* The length given is that of the report of PG2's lines. A buffer of just so many bytes and one of
+ * a byte more take the report; one of a byte less is refused. */
 static int report_is(parameter_book book, size_t setting, const char *const *lines, size_t years)
 {
     char *text = exact_memory(MEMORY_SIZE);
     size_t length = pg2_report(text, lines, years);
-    xaropinto_report_reply room = xaropinto_report_room(book.bytes, book.length, setting);
-    int holds = room.refusal == 0 && room.place == 0 && room.length == length &&
+    xaropinto_report_reply size = xaropinto_report_room(book.bytes, book.length, setting);
+    int holds = size.refusal == 0 && size.place == 0 && size.length == length &&
                 report_refused(book, setting, length - 1, 20, 0) &&
                 report_written(book, setting, length, text, length) &&
                 report_written(book, setting, length + 1, text, length);
@@ -334,58 +350,63 @@ static int report_is(parameter_book book, size_t setting, const char *const *lin
     return holds;
 }
 
-/* A buffer cut to the room told is the report and nothing else; its memory ends with it. */
+/* A buffer of the length given is the report and nothing else; its memory ends with it. */
 static int cut_buffer_is_all_report(parameter_book book, size_t setting)
 {
-    size_t room = xaropinto_report_room(book.bytes, book.length, setting).length;
-    uint8_t *cut = exact_memory(room);
-    memset(cut, 0, room);
-    xaropinto_report_reply reply = xaropinto_report(book.bytes, book.length, setting, cut, room);
-    int holds = reply.refusal == 0 && reply.length == room && room > 0 && cut[room - 1] == '\n' &&
-                memchr(cut, 0, room) == NULL;
+    size_t size = xaropinto_report_room(book.bytes, book.length, setting).length;
+    uint8_t *cut = exact_memory(size);
+    memset(cut, 0, size);
+    xaropinto_report_reply reply = xaropinto_report(book.bytes, book.length, setting, cut, size);
+    int holds = reply.refusal == 0 && reply.length == size && size > 0 && cut[size - 1] == '\n' &&
+                memchr(cut, 0, size) == NULL;
     free(cut);
     return holds;
 }
 
-static int room_is(parameter_book book, size_t setting, size_t room)
+static int report_length_is(parameter_book book, size_t setting, size_t size)
 {
     xaropinto_report_reply reply = xaropinto_report_room(book.bytes, book.length, setting);
-    return reply.refusal == 0 && reply.place == 0 && reply.length == room;
+    return reply.refusal == 0 && reply.place == 0 && reply.length == size;
 }
 
-/* The refusal is given, and the lent bytes are as they were. */
-static int convert_refused(parameter_book book, size_t room, uint64_t refusal, uint64_t place)
+/* The refusal is given, and the bytes passed are as they were. */
+static int convert_refused(parameter_book book, size_t size, uint64_t refusal, uint64_t place)
 {
-    uint8_t *out = exact_memory(room);
-    memset(out, 0xA5, room);
-    xaropinto_verdict reply = xaropinto_convert(book.bytes, book.length, out, room);
+    uint8_t *out = exact_memory(size);
+    memset(out, 0xA5, size);
+    xaropinto_verdict reply = xaropinto_convert(book.bytes, book.length, out, size);
     int holds = reply.refusal == refusal && reply.place == place && reply.n == 0;
-    for (size_t i = 0; i < room; i++)
+    for (size_t i = 0; i < size; i++)
         holds &= out[i] == 0xA5;
     free(out);
     return holds;
 }
 
-/* The run of a cell of PG2 men begins like this; the other numbers of a longer memory are as they were. */
-static int in_force_begins(parameter_book book, size_t setting, size_t class, const uint64_t *due, size_t years)
+/* The run of a cell of PG2 men begins like this; the other numbers of a longer memory are as they
+ * were. */
+static int in_force_begins(parameter_book book, size_t setting, size_t age_class,
+                           const uint64_t *due, size_t years)
 {
     uint64_t *memory = marked_table(TABLE_SIZE);
-    xaropinto_in_force_reply reply = xaropinto_in_force(book.bytes, book.length, setting, PG2_MEN / 2 + 1, 0, class,
-                                                        memory, XAROPINTO_IN_FORCE_NUMBERS);
-    int holds = reply.refusal == 0 && reply.place == 0 && memcmp(memory, due, years * sizeof *due) == 0 &&
+    xaropinto_in_force_reply reply =
+        xaropinto_in_force(book.bytes, book.length, setting, PG2_MEN / 2 + 1, 0, age_class, memory,
+                           XAROPINTO_IN_FORCE_NUMBERS);
+    int holds = reply.refusal == 0 && reply.place == 0 &&
+                memcmp(memory, due, years * sizeof *due) == 0 &&
                 marks_stand(memory, XAROPINTO_IN_FORCE_NUMBERS, TABLE_SIZE);
     free(memory);
     return holds;
 }
 
-/* The refusal is given, and each number is as it was, also those that are not lent. */
-static int in_force_refused(parameter_book book, const size_t asked[4], size_t numbers, uint64_t refusal,
-                            uint64_t place)
+/* The refusal is given, and each number is as it was, also those that are not passed. */
+static int in_force_refused(parameter_book book, const size_t asked[4], size_t numbers,
+                            uint64_t refusal, uint64_t place)
 {
     uint64_t *memory = marked_table(TABLE_SIZE);
-    xaropinto_in_force_reply reply = xaropinto_in_force(book.bytes, book.length, asked[0], asked[1], asked[2],
-                                                        asked[3], memory, numbers);
-    int holds = reply.refusal == refusal && reply.place == place && marks_stand(memory, 0, TABLE_SIZE);
+    xaropinto_in_force_reply reply = xaropinto_in_force(book.bytes, book.length, asked[0], asked[1],
+                                                        asked[2], asked[3], memory, numbers);
+    int holds =
+        reply.refusal == refusal && reply.place == place && marks_stand(memory, 0, TABLE_SIZE);
     free(memory);
     return holds;
 }
@@ -394,22 +415,25 @@ static int in_force_refused(parameter_book book, const size_t asked[4], size_t n
 
 static void test_sizes(void)
 {
-    test("replies_have_no_gaps", sizeof(xaropinto_verdict) == 24 && sizeof(xaropinto_group_reply) == 32 &&
-                                     sizeof(xaropinto_totals_reply) == 120 && sizeof(xaropinto_record_reply) == 32 &&
-                                     sizeof(xaropinto_cost_rates_reply) == 56 && sizeof(xaropinto_report_reply) == 24 &&
-                                     sizeof(xaropinto_write_reply) == 24 && sizeof(xaropinto_read_reply) == 8 * 316 &&
-                                     sizeof(xaropinto_in_force_reply) == 16);
+    test("replies_have_no_gaps",
+         sizeof(xaropinto_verdict) == 24 && sizeof(xaropinto_group_reply) == 32 &&
+             sizeof(xaropinto_totals_reply) == 120 && sizeof(xaropinto_record_reply) == 32 &&
+             sizeof(xaropinto_cost_rates_reply) == 56 && sizeof(xaropinto_report_reply) == 24 &&
+             sizeof(xaropinto_write_reply) == 24 && sizeof(xaropinto_read_reply) == 8 * 316 &&
+             sizeof(xaropinto_in_force_reply) == 16);
     test("accounts_have_no_gaps", sizeof(xaropinto_accounts) == 48 * sizeof(uint64_t));
     test("values_have_no_gaps", sizeof(xaropinto_values) == 314 * sizeof(uint64_t));
-    test("both_verdicts_have_no_gap", sizeof(xaropinto_funds_reply) == 2 * sizeof(xaropinto_verdict));
+    test("both_verdicts_have_no_gap",
+         sizeof(xaropinto_funds_reply) == 2 * sizeof(xaropinto_verdict));
     test("summaries_and_spreads_have_no_gaps",
          sizeof(xaropinto_summary) == 5 * sizeof(uint64_t) && sizeof(xaropinto_spread_reply) == 40);
     test("a_risk_model_and_its_reply_have_no_gaps",
-         sizeof(xaropinto_risk_model) == 20 * sizeof(uint64_t) && sizeof(xaropinto_deviation_reply) == 24);
+         sizeof(xaropinto_risk_model) == 20 * sizeof(uint64_t) &&
+             sizeof(xaropinto_deviation_reply) == 24);
 }
 
-/* Premiums of 1,000,000 less claims of 800,000 and costs of 100,000, in fifty years. Settings 5, 6 and 7 have other
- * costs or claims in five of them: 120,000, 80,000 and 840,000. */
+/* Premiums of 1,000,000 less claims of 800,000 and costs of 100,000, in fifty years. Settings 5, 6
+ * and 7 have other costs or claims in five of them: 120,000, 80,000 and 840,000. */
 static void test_one_record(void)
 {
     static const int64_t totals[8] = {-5000000, -5000000, -5000000, -5000000,
@@ -430,7 +454,8 @@ static void test_one_record(void)
     free(book.bytes);
 }
 
-/* The contracts stay at class 120. From k = 5 on the cap, ten ninths of 900,000, is just the premium. */
+/* The contracts stay at class 120. From k = 5 on the cap, ten ninths of 900,000, is just the
+ * premium. */
 static void test_year_table(void)
 {
     static const uint64_t year[4] = {1000000, 900000, 1000000, 900000};
@@ -457,7 +482,8 @@ static void test_group_refusals(void)
     test("largest_setting_is_refused", group_refused(book, (size_t)-1, PG2, TABLE_SIZE, 14, 0));
     test("group_0_is_refused", group_refused(book, 0, 0, TABLE_SIZE, 15, 0));
     test("group_6_is_refused", group_refused(book, 0, 6, TABLE_SIZE, 15, 0));
-    test("group_above_32_bits_is_refused", group_refused(book, 0, HIGH_BIT + PG2, TABLE_SIZE, 15, 0));
+    test("group_above_32_bits_is_refused",
+         group_refused(book, 0, HIGH_BIT + PG2, TABLE_SIZE, 15, 0));
     test("table_of_199_numbers_is_refused", group_refused(book, 0, PG2, 199, 16, 0));
     test("table_of_no_numbers_is_refused", group_refused(book, 0, PG2, 0, 16, 0));
     test("refused_book_leaves_the_table", group_refused(refused, 0, PG2, TABLE_SIZE, 12, 1232));
@@ -471,9 +497,11 @@ static void test_group_refusals(void)
 static int all_calls_refuse(parameter_book book, uint64_t refusal, uint64_t place)
 {
     xaropinto_record_reply due = {refusal, place, 0, 0};
-    return verdict_is(book, refusal, place, 0) && totals_refused(book, refusal, place) && record_is(book, 1, due) &&
-           group_refused(book, 0, PG2, TABLE_SIZE, refusal, place) && room_is_refused(book, 0, refusal, place) &&
-           report_refused(book, 0, MEMORY_SIZE, refusal, place) && report_refused(book, 0, 0, refusal, place);
+    return verdict_is(book, refusal, place, 0) && totals_refused(book, refusal, place) &&
+           record_is(book, 1, due) && group_refused(book, 0, PG2, TABLE_SIZE, refusal, place) &&
+           room_is_refused(book, 0, refusal, place) &&
+           report_refused(book, 0, MEMORY_SIZE, refusal, place) &&
+           report_refused(book, 0, 0, refusal, place);
 }
 
 /* A book of this length whose header asks for so many records. */
@@ -504,7 +532,8 @@ static void test_book_refusals(void)
     test("zero_bytes_are_refused_for_their_edition", all_calls_refuse(zeros, 2, 0));
     test("a_byte_too_many_is_refused", length_is_refused(1245, 1, 5));
     test("a_byte_too_few_is_refused", length_is_refused(1243, 1, 5));
-    test("the_longest_read_of_a_file_is_refused", length_is_refused(XAROPINTO_LONGEST_BOOK + 1, MOST_RECORDS, 5));
+    test("the_longest_read_of_a_file_is_refused",
+         length_is_refused(XAROPINTO_LONGEST_BOOK + 1, MOST_RECORDS, 5));
     test("rate_200001_is_refused", all_calls_refuse(rate, 7, 56));
     test("head_above_n_is_refused", all_calls_refuse(head, 9, 8));
     test("lapse_above_one_is_refused", all_calls_refuse(lapse, 12, 1232));
@@ -534,7 +563,8 @@ static void test_no_records(void)
 static void test_record(void)
 {
     parameter_book book = full_book();
-    xaropinto_record_reply first = {0, 0, 1220, 24}, second = {0, 0, 1244, 24}, last = {0, 0, 41852, 24};
+    xaropinto_record_reply first = {0, 0, 1220, 24}, second = {0, 0, 1244, 24},
+                           last = {0, 0, 41852, 24};
     xaropinto_record_reply none = {9, 0, 0, 0};
     test("record_1_starts_behind_the_tables", record_is(book, 1, first));
     test("record_2_starts_24_bytes_later", record_is(book, 2, second));
@@ -542,30 +572,37 @@ static void test_record(void)
     test("record_0_is_refused", record_is(book, 0, none));
     test("record_1695_is_refused", record_is(book, MOST_RECORDS + 1, none));
     test("record_number_above_32_bits_is_refused", record_is(book, HIGH_BIT + 1, none));
-    test("record_number_whose_start_overflows_is_refused", record_is(book, ((size_t)1 << 61) + 1, none));
+    test("record_number_whose_start_overflows_is_refused",
+         record_is(book, ((size_t)1 << 61) + 1, none));
     test("largest_record_number_is_refused", record_is(book, (size_t)-1, none));
     free(book.bytes);
 }
 
-/* A chain has 121 cells in each of fifty years: 6,050, times 14 chains. In setting 7 the five percent of the first
- * five years, rounded down by year and product group, are 5 times 36 for PG1 and 5 times 12 for each other group. */
+/* A chain has 121 cells in each of fifty years: 6,050, times 14 chains. In setting 7 the five
+ * percent of the first five years, rounded down by year and product group, are 5 times 36 for PG1
+ * and 5 times 12 for each other group. */
 static void test_full_book(void)
 {
     static const int64_t totals[8] = {84700, 84700, 84700, 84700, 84700, 84700, 84700, 85120};
     static const int64_t differences[4] = {0, 0, 0, 420};
     parameter_book book = full_book();
-    test("a_full_book_is_accepted", book.length == XAROPINTO_LONGEST_BOOK && verdict_is(book, 0, 0, MOST_RECORDS));
+    test("a_full_book_is_accepted",
+         book.length == XAROPINTO_LONGEST_BOOK && verdict_is(book, 0, 0, MOST_RECORDS));
     test("a_full_book_has_its_totals", totals_are(book, MOST_RECORDS, totals, differences));
-    test("pg1_has_six_chains", group_is(book, 0, 1, 36300, 726) && group_is(book, 7, 1, 36480, 726));
-    test("pg5_has_two_chains", group_is(book, 0, 5, 12100, 242) && group_is(book, 7, 5, 12160, 242));
+    test("pg1_has_six_chains",
+         group_is(book, 0, 1, 36300, 726) && group_is(book, 7, 1, 36480, 726));
+    test("pg5_has_two_chains",
+         group_is(book, 0, 5, 12100, 242) && group_is(book, 7, 5, 12160, 242));
     free(book.bytes);
 }
 
-/* Year 0 and 0.913 times 0.9 of it; per contract 10,000,000 claims and 100,000 costs less 1,000,000 premium. Every
- * setting but the base moves one of these: 0.8956 or 0.9304 live on, 0.87 or 0.93 stay, and so on. */
+/* Year 0 and 0.913 times 0.9 of it; per contract 10,000,000 claims and 100,000 costs less 1,000,000
+ * premium. Every setting but the base moves one of these: 0.8956 or 0.9304 live on, 0.87 or 0.93
+ * stay, and so on. */
 static void test_settings(void)
 {
-    static const int64_t totals[8] = {16577470, 16434964, 16719976, 16328221, 16826719, 16613904, 16541036, 17488320};
+    static const int64_t totals[8] = {16577470, 16434964, 16719976, 16328221,
+                                      16826719, 16613904, 16541036, 17488320};
     static const int64_t differences[4] = {-285012, -498498, 72868, 910850};
     contracts each_year = {0, 100000, 1000000, 10000000};
     parameter_book book = one_man_book(2, each_year);
@@ -583,8 +620,10 @@ static void test_discounting(void)
     parameter_book rising = one_man_book(3, claims_of_100);
     put(falling, CURVE, 4, -10000UL);
     put(rising, CURVE + 4, 4, 10000);
-    test("t1_99_a_year_back_at_minus_one_percent_is_100", table_number(falling, 0, 1, DISCOUNTED_OUTGO) == 100);
-    test("t2_100_two_years_back_at_one_percent_is_98", table_number(rising, 0, 2, DISCOUNTED_OUTGO) == 98);
+    test("t1_99_a_year_back_at_minus_one_percent_is_100",
+         table_number(falling, 0, 1, DISCOUNTED_OUTGO) == 100);
+    test("t2_100_two_years_back_at_one_percent_is_98",
+         table_number(rising, 0, 2, DISCOUNTED_OUTGO) == 98);
     free(falling.bytes);
     free(rising.bytes);
 }
@@ -605,14 +644,15 @@ static void test_cap(void)
     free(book.bytes);
 }
 
-/* Trial figures T7 to T10: a premium of 10,000,000 shows what is in force, in hundreds of billionths. */
+/* Trial figures T7 to T10: a premium of 10,000,000 shows what is in force, in hundreds of
+ * billionths. */
 static void test_in_force(void)
 {
     contracts stays = {0, 0, 10000000, 10000000}, leaves = {0, 333333, 10000000, 10000000};
     parameter_book dying = one_man_book(3, stays);
     parameter_book leaving = one_man_book(3, leaves);
-    for (size_t class = 0; class <= LAST_CLASS; class++)
-        put(dying, MORTALITY + 4 * class, 4, 1000000);
+    for (size_t age_class = 0; age_class <= LAST_CLASS; age_class++)
+        put(dying, MORTALITY + 4 * age_class, 4, 1000000);
     test("t7_mortality_weighs_870", table_number(dying, 0, 1, PREMIUM) == 1300000);
     test("t8_mortality_up_is_cut_to_one", table_number(dying, 1, 1, PREMIUM) == 0);
     test("t9_mortality_down_weighs_696", table_number(dying, 2, 1, PREMIUM) == 3040000);
@@ -622,14 +662,14 @@ static void test_in_force(void)
     free(leaving.bytes);
 }
 
-/* Edition 2: half the men die in a year, three fifths in setting 1 and two fifths in setting 2; women's 1 percent is
- * not theirs. */
+/* Edition 2: half the men die in a year, three fifths in setting 1 and two fifths in setting 2;
+ * women's 1 percent is not theirs. */
 static void test_percentages(void)
 {
     contracts stays = {0, 0, 10000000, 10000000};
     parameter_book book = one_man_book(8, stays);
-    for (size_t class = 0; class <= LAST_CLASS; class++)
-        put(book, MORTALITY + 4 * class, 4, 1000000);
+    for (size_t age_class = 0; age_class <= LAST_CLASS; age_class++)
+        put(book, MORTALITY + 4 * age_class, 4, 1000000);
     put(book, XAROPINTO_EDITION_AT, 1, 2);
     put(book, XAROPINTO_PERCENTAGES_AT, 1, 50);
     put(book, XAROPINTO_PERCENTAGES_AT + 1, 1, 101);
@@ -653,7 +693,8 @@ static void test_percentages(void)
     free(book.bytes);
 }
 
-/* After a year 0.565 times 0.8 of the contract is left; then each year 0.913 times 0.95 of what was. */
+/* After a year 0.565 times 0.8 of the contract is left; then each year 0.913 times 0.95 of what
+ * was. */
 static void test_very_old(void)
 {
     parameter_book book = very_old_book();
@@ -696,7 +737,8 @@ static int rates_are(xaropinto_accounts accounts, const uint64_t rates[5])
 {
     xaropinto_accounts before = accounts;
     xaropinto_cost_rates_reply reply = xaropinto_cost_rates(accounts);
-    return reply.refusal == 0 && reply.place == 0 && memcmp(reply.rates, rates, sizeof reply.rates) == 0 &&
+    return reply.refusal == 0 && reply.place == 0 &&
+           memcmp(reply.rates, rates, sizeof reply.rates) == 0 &&
            memcmp(&accounts, &before, sizeof before) == 0;
 }
 
@@ -713,7 +755,8 @@ static void test_cost_rates(void)
     static const uint64_t fifths[5] = {190000, 190000, 190000, 190000, 190000};
     static const uint64_t quarters[5] = {237000, 237000, 237000, 237000, 0};
     static const uint64_t highest[5] = {1000000, 1000000, 1000000, 1000000, 1000000};
-    /* PG1 has all claims: by stock 190, by claims 950, together 1,140 over 2,000 and for the others 190 over 2,000. */
+    /* PG1 has all claims: by stock 190, by claims 950, together 1,140 over 2,000 and for the others
+     * 190 over 2,000. */
     static const uint64_t two_splits[5] = {570000, 95000, 95000, 95000, 95000};
     /* 190,000 in two years, and 380 over 2,002 in the third: 189,810. The mean is 189,936.67. */
     static const uint64_t three_years[5] = {190000, 189936, 190000, 190000, 190000};
@@ -722,7 +765,8 @@ static void test_cost_rates(void)
         for (size_t group = 1; group < PRODUCT_GROUPS; group++)
             split.claims[year][group] = 0;
     third.premium[2][1] = 1001;
-    test("each_group_has_its_share_of_the_lowered_expenses", rates_are(even_accounts(1000, 1000), fifths));
+    test("each_group_has_its_share_of_the_lowered_expenses",
+         rates_are(even_accounts(1000, 1000), fifths));
     test("an_empty_group_has_rate_0", rates_are(accounts_without_pg5(1000, 1000), quarters));
     test("the_splits_by_stock_and_by_claims_are_averaged", rates_are(split, two_splits));
     test("the_three_years_are_averaged_and_rounded_down", rates_are(third, three_years));
@@ -751,7 +795,8 @@ static void test_cost_rate_refusals(void)
     test("a_rate_above_1000000_is_refused", accounts_refused(even_accounts(1000, 189), 19));
 }
 
-/* A report of the paper's book: a line for each of the first five years, another for each of the 45 after them. */
+/* A report of the paper's book: a line for each of the first five years, another for each of the 45
+ * after them. */
 static int one_record_report_is(size_t setting, const char *first, const char *later)
 {
     enum { YEARS = XAROPINTO_TABLE_NUMBERS / 4 };
@@ -764,12 +809,14 @@ static int one_record_report_is(size_t setting, const char *first, const char *l
     return holds;
 }
 
-/* Ten premiums of 100,000; claims of 800,000, in setting 7 a twentieth more; costs of a tenth of the premiums, in
- * setting 5 a fifth more. Then trial figures T3 and T4, in six years. */
+/* Ten premiums of 100,000; claims of 800,000, in setting 7 a twentieth more; costs of a tenth of
+ * the premiums, in setting 5 a fifth more. Then trial figures T3 and T4, in six years. */
 static void test_report(void)
 {
-    static const char base[] = "1000000,900000", costs_up[] = "1000000,920000", claims_up[] = "1000000,940000";
-    static const char *const capped[] = {"1001,900", "1001,900", "1001,900", "1001,900", "1001,900", "1000,900"};
+    static const char base[] = "1000000,900000", costs_up[] = "1000000,920000",
+                      claims_up[] = "1000000,940000";
+    static const char *const capped[] = {"1001,900", "1001,900", "1001,900",
+                                         "1001,900", "1001,900", "1000,900"};
     contracts rich = {0, 0, 1001, 900};
     parameter_book none = unlinked_book(0);
     parameter_book six_years = one_man_book(6, rich);
@@ -779,9 +826,9 @@ static void test_report(void)
          one_record_report_is(5, costs_up, base) && one_record_report_is(7, claims_up, base));
     test("a_report_has_the_premium_after_the_cap", report_is(six_years, 0, capped, 6));
     /* The heading has 25 bytes; in each group ten lines of two noughts have 8 bytes and forty 9. */
-    test("the_room_without_figures", room_is(none, 0, 25 + 5 * (10 * 8 + 40 * 9)));
+    test("the_room_without_figures", report_length_is(none, 0, 25 + 5 * (10 * 8 + 40 * 9)));
     /* 1001 and 1000 have three digits more than a nought, 900 two. */
-    test("the_room_with_figures_in_six_lines", room_is(six_years, 0, 2225 + 6 * (3 + 2)));
+    test("the_room_with_figures_in_six_lines", report_length_is(six_years, 0, 2225 + 6 * (3 + 2)));
     test("a_buffer_cut_to_the_room_is_all_report", cut_buffer_is_all_report(six_years, 0));
     free(six_years.bytes);
     free(none.bytes);
@@ -795,7 +842,8 @@ static void test_report_refusals(void)
     test("report_in_setting_8_is_refused",
          report_refused(book, 8, MEMORY_SIZE, 14, 0) && room_is_refused(book, 8, 14, 0));
     test("report_in_a_setting_above_32_bits_is_refused",
-         report_refused(book, HIGH_BIT, MEMORY_SIZE, 14, 0) && room_is_refused(book, HIGH_BIT, 14, 0));
+         report_refused(book, HIGH_BIT, MEMORY_SIZE, 14, 0) &&
+             room_is_refused(book, HIGH_BIT, 14, 0));
     test("report_into_no_bytes_is_refused", report_refused(book, 0, 0, 20, 0));
     test("setting_comes_before_book_and_buffer", report_refused(refused, 8, 0, 14, 0));
     test("book_comes_before_buffer", report_refused(refused, 7, 0, 12, 1232));
@@ -808,10 +856,10 @@ static void test_convert(void)
 {
     contracts each_year = {0, 0, 1000, 900};
     parameter_book book = one_man_newer_book(1, each_year);
-    size_t room = book.length + 7, same = 0;
-    uint8_t *out = exact_memory(room);
-    memset(out, 0xA5, room);
-    xaropinto_verdict reply = xaropinto_convert(book.bytes, book.length, out, room);
+    size_t size = book.length + 7, same = 0;
+    uint8_t *out = exact_memory(size);
+    memset(out, 0xA5, size);
+    xaropinto_verdict reply = xaropinto_convert(book.bytes, book.length, out, size);
     parameter_book converted = {out, book.length}, zeros = blank(HEADER_SIZE);
     for (size_t i = 0; i < book.length; i++)
         same += out[i] == book.bytes[i];
@@ -820,22 +868,22 @@ static void test_convert(void)
     test("linked_classes_fall_by_one", out[1222] == 119 && out[1246] == 120);
     test("all_other_bytes_are_copied", same == book.length - 3);
     test("the_converted_book_passes_the_check", verdict_is(converted, 0, 0, 1));
-    test("bytes_past_the_book_stay", out[book.length] == 0xA5 && out[room - 1] == 0xA5);
+    test("bytes_past_the_book_stay", out[book.length] == 0xA5 && out[size - 1] == 0xA5);
     test("a_buffer_one_byte_short_is_refused", convert_refused(book, book.length - 1, 16, 0));
     test("a_short_buffer_comes_before_the_book", convert_refused(zeros, 0, 16, 0));
     test("basis_1_is_not_converted", convert_refused(converted, book.length, 3, 1));
     put(book, record_start(2) + XAROPINTO_NEXT_AT, 2, 3);
-    test("a_chain_ends_at_class_121", convert_refused(book, room, 13, 1248));
+    test("a_chain_ends_at_class_121", convert_refused(book, size, 13, 1248));
     put(book, record_start(2) + XAROPINTO_CLASS_AT, 1, 0);
-    test("class_0_is_refused_before_a_wrong_class", convert_refused(book, room, 21, 1246));
+    test("class_0_is_refused_before_a_wrong_class", convert_refused(book, size, 21, 1246));
     put(book, record_start(2) + XAROPINTO_SEX_AT, 1, 1);
-    test("sex_comes_before_class_0", convert_refused(book, room, 10, 1244));
+    test("sex_comes_before_class_0", convert_refused(book, size, 10, 1244));
     free(zeros.bytes);
     free(out);
     free(book.bytes);
 }
 
-/* ---- the desk that writes books ---- */
+/* ---- values and lists, written and read ---- */
 
 enum { LISTS = 4, LIST_SIZE = 8, OUT_SIZE = 1300 };
 
@@ -864,25 +912,27 @@ static lists one_record_lists(void)
     return held;
 }
 
-static xaropinto_write_reply write_into(uint8_t *out, size_t room, xaropinto_values values, const lists *held)
+static xaropinto_write_reply write_into(uint8_t *out, size_t size, xaropinto_values values,
+                                        const lists *held)
 {
-    return xaropinto_write(values, held->numbers[0], held->length[0], held->numbers[1], held->length[1],
-                           held->numbers[2], held->length[2], held->numbers[3], held->length[3], out, room);
+    return xaropinto_write(values, held->numbers[0], held->length[0], held->numbers[1],
+                           held->length[1], held->numbers[2], held->length[2], held->numbers[3],
+                           held->length[3], out, size);
 }
 
 static xaropinto_read_reply read_into(lists *filled, parameter_book book)
 {
-    return xaropinto_read(book.bytes, book.length, filled->numbers[0], filled->length[0], filled->numbers[1],
-                          filled->length[1], filled->numbers[2], filled->length[2], filled->numbers[3],
-                          filled->length[3]);
+    return xaropinto_read(book.bytes, book.length, filled->numbers[0], filled->length[0],
+                          filled->numbers[1], filled->length[1], filled->numbers[2],
+                          filled->length[2], filled->numbers[3], filled->length[3]);
 }
 
 /* The refusal is given with place 0, and every byte is as it was. */
-static int write_refused(xaropinto_values values, lists held, size_t room, uint64_t refusal)
+static int write_refused(xaropinto_values values, lists held, size_t size, uint64_t refusal)
 {
     uint8_t out[OUT_SIZE];
     memset(out, 0xA5, sizeof out);
-    xaropinto_write_reply reply = write_into(out, room, values, &held), due = {refusal, 0, 0};
+    xaropinto_write_reply reply = write_into(out, size, values, &held), due = {refusal, 0, 0};
     int holds = memcmp(&reply, &due, sizeof due) == 0;
     for (size_t i = 0; i < sizeof out; i++)
         holds &= out[i] == 0xA5;
@@ -896,7 +946,8 @@ static void test_write(void)
     lists held = one_record_lists();
     memset(out, 0xA5, sizeof out);
     xaropinto_write_reply reply = write_into(out, sizeof out, one_record_values(), &held);
-    test("the_papers_book_is_written", reply.refusal == 0 && reply.place == 0 && reply.length == 1244 &&
+    test("the_papers_book_is_written", reply.refusal == 0 && reply.place == 0 &&
+                                           reply.length == 1244 &&
                                            memcmp(out, book.bytes, book.length) == 0);
     int later = 1;
     for (size_t i = book.length; i < sizeof out; i++)
@@ -917,10 +968,12 @@ static void test_links(void)
     values.curve[48] = -1;
     xaropinto_write_reply reply = write_into(out, sizeof out, values, &held);
     test("three_records_are_written", reply.refusal == 0 && reply.length == record_start(4));
-    test("heads_are_1_and_3_and_no_others", out[HEADS] == 1 && out[HEADS + 2] == 3 && out[HEADS + 4] == 0);
-    test("next_is_one_higher_but_a_chains_last", out[record_start(1) + XAROPINTO_NEXT_AT] == 2 &&
-                                                     out[record_start(2) + XAROPINTO_NEXT_AT] == 0 &&
-                                                     out[record_start(3) + XAROPINTO_NEXT_AT] == 0);
+    test("heads_are_1_and_3_and_no_others",
+         out[HEADS] == 1 && out[HEADS + 2] == 3 && out[HEADS + 4] == 0);
+    test("next_is_one_higher_but_a_chains_last",
+         out[record_start(1) + XAROPINTO_NEXT_AT] == 2 &&
+             out[record_start(2) + XAROPINTO_NEXT_AT] == 0 &&
+             out[record_start(3) + XAROPINTO_NEXT_AT] == 0);
     test("classes_rise_in_each_chain", out[record_start(1) + XAROPINTO_CLASS_AT] == 119 &&
                                            out[record_start(2) + XAROPINTO_CLASS_AT] == 120 &&
                                            out[record_start(3) + XAROPINTO_CLASS_AT] == 120);
@@ -973,10 +1026,12 @@ static void test_read(void)
     }
     lists untouched = filled;
     filled.length[2] = 0;
-    xaropinto_read_reply reply = read_into(&filled, book), refused = {22, 0, {0, {0}, 0, {0}, {0}, {0}, {0}}};
+    xaropinto_read_reply reply = read_into(&filled, book),
+                         refused = {22, 0, {0, {0}, 0, {0}, {0}, {0}, {0}}};
     filled.length[2] = LIST_SIZE;
-    test("a_list_without_room_is_22_and_fills_nothing", memcmp(&reply, &refused, sizeof reply) == 0 &&
-                                                            memcmp(&filled, &untouched, sizeof filled) == 0);
+    test("a_list_without_room_is_22_and_fills_nothing",
+         memcmp(&reply, &refused, sizeof reply) == 0 &&
+             memcmp(&filled, &untouched, sizeof filled) == 0);
     reply = read_into(&filled, book);
     int lists_hold = 1;
     for (size_t kind = 0; kind < LISTS; kind++)
@@ -990,7 +1045,11 @@ static void test_read(void)
 
 /* ---- two funds on the same tables ---- */
 
-enum { FRONT = XAROPINTO_FUND_FRONT_BYTES, TABLE_FILE = XAROPINTO_TABLE_FILE_BYTES, LENT = XAROPINTO_FUNDS_NUMBERS };
+enum {
+    FRONT = XAROPINTO_FUND_FRONT_BYTES,
+    TABLE_FILE = XAROPINTO_TABLE_FILE_BYTES,
+    NUMBERS_PASSED = XAROPINTO_FUNDS_NUMBERS
+};
 
 /* A book's fund file: all but its tables. */
 static parameter_book fund_of(parameter_book book)
@@ -1001,11 +1060,11 @@ static parameter_book fund_of(parameter_book book)
     return fund;
 }
 
-/* A table file of zeros, and memory of more numbers than are lent. */
+/* A table file of zeros, and memory of more numbers than are passed. */
 typedef struct {
     uint8_t table[TABLE_FILE];
-    size_t table_length, lent;
-    int64_t numbers[LENT + 4];
+    size_t table_length, count;
+    int64_t numbers[NUMBERS_PASSED + 4];
 } funds_memory;
 
 static funds_memory marked_funds(void)
@@ -1013,8 +1072,8 @@ static funds_memory marked_funds(void)
     funds_memory memory;
     memset(&memory, 0, sizeof memory);
     memory.table_length = TABLE_FILE;
-    memory.lent = LENT;
-    for (size_t i = 0; i < LENT + 4; i++)
+    memory.count = NUMBERS_PASSED;
+    for (size_t i = 0; i < NUMBERS_PASSED + 4; i++)
         memory.numbers[i] = -1000000007 - (int64_t)i;
     return memory;
 }
@@ -1022,7 +1081,8 @@ static funds_memory marked_funds(void)
 static int numbers_stand(const funds_memory *memory, size_t from, size_t to)
 {
     funds_memory marked = marked_funds();
-    return memcmp(memory->numbers + from, marked.numbers + from, (to - from) * sizeof *memory->numbers) == 0;
+    return memcmp(memory->numbers + from, marked.numbers + from,
+                  (to - from) * sizeof *memory->numbers) == 0;
 }
 
 static int fund_is(xaropinto_verdict verdict, uint64_t refusal, uint64_t place, uint64_t n)
@@ -1030,37 +1090,42 @@ static int fund_is(xaropinto_verdict verdict, uint64_t refusal, uint64_t place, 
     return verdict.refusal == refusal && verdict.place == place && verdict.n == n;
 }
 
-static xaropinto_funds_reply reckon_funds(funds_memory *memory, parameter_book first, parameter_book second)
+static xaropinto_funds_reply value_funds(funds_memory *memory, parameter_book first,
+                                         parameter_book second)
 {
-    return xaropinto_funds(memory->table, memory->table_length, first.bytes, first.length, second.bytes,
-                           second.length, memory->numbers, memory->lent);
+    return xaropinto_funds(memory->table, memory->table_length, first.bytes, first.length,
+                           second.bytes, second.length, memory->numbers, memory->count);
 }
 
 /* Both funds are refused alike, and no number changes. */
-static int both_refused(funds_memory memory, parameter_book first, parameter_book second, uint64_t refusal)
+static int both_refused(funds_memory memory, parameter_book first, parameter_book second,
+                        uint64_t refusal)
 {
-    xaropinto_funds_reply reply = reckon_funds(&memory, first, second);
+    xaropinto_funds_reply reply = value_funds(&memory, first, second);
     return fund_is(reply.first, refusal, 0, 0) && fund_is(reply.second, refusal, 0, 0) &&
-           numbers_stand(&memory, 0, LENT + 4);
+           numbers_stand(&memory, 0, NUMBERS_PASSED + 4);
 }
 
-/* The paper's book, and one man of PG2 with claims of a franc in each of two years; in setting 7 a twentieth more. */
+/* The paper's book, and one man of PG2 with claims of a franc in each of two years; in setting 7 a
+ * twentieth more. */
 static void test_funds(void)
 {
-    static const int64_t papers[] = {-5000000, -5000000, -5000000, -5000000, -5000000, -4900000, -5100000, -4800000};
+    static const int64_t papers[] = {-5000000, -5000000, -5000000, -5000000,
+                                     -5000000, -4900000, -5100000, -4800000};
     static const int64_t mans[] = {200, 200, 200, 200, 200, 200, 200, 210};
     contracts franc = {0, 0, 0, 100};
     parameter_book book = one_record_book(), man_book = one_man_book(2, franc);
     parameter_book fund = fund_of(book), man = fund_of(man_book);
     funds_memory memory = marked_funds();
-    xaropinto_funds_reply reply = reckon_funds(&memory, fund, man);
-    test("both_funds_have_their_n", fund_is(reply.first, 0, 0, 1) && fund_is(reply.second, 0, 0, 1));
+    xaropinto_funds_reply reply = value_funds(&memory, fund, man);
+    test("both_funds_have_their_n",
+         fund_is(reply.first, 0, 0, 1) && fund_is(reply.second, 0, 0, 1));
     test("the_first_fund_has_numbers_0_to_7", memcmp(memory.numbers, papers, sizeof papers) == 0);
     test("the_second_fund_has_numbers_8_to_15", memcmp(memory.numbers + 8, mans, sizeof mans) == 0);
-    test("numbers_from_16_on_stay", numbers_stand(&memory, LENT, LENT + 4));
+    test("numbers_from_16_on_stay", numbers_stand(&memory, NUMBERS_PASSED, NUMBERS_PASSED + 4));
     put(fund, FRONT + LAPSE, 4, 1000001);
     memory = marked_funds();
-    reply = reckon_funds(&memory, fund, man);
+    reply = value_funds(&memory, fund, man);
     test("a_refused_fund_is_placed_in_its_joined_book", fund_is(reply.first, 12, 1232, 0));
     test("a_refused_funds_numbers_stay", numbers_stand(&memory, 0, 8));
     test("a_refused_first_fund_does_not_stop_the_second",
@@ -1068,7 +1133,7 @@ static void test_funds(void)
     memory = marked_funds();
     memory.table_length--;
     test("a_table_file_of_1163_bytes_refuses_both", both_refused(memory, fund, man, 24));
-    memory.lent--;
+    memory.count--;
     test("fifteen_numbers_come_before_the_table_file", both_refused(memory, fund, man, 16));
     free(man.bytes);
     free(fund.bytes);
@@ -1084,16 +1149,17 @@ static parameter_book resized(parameter_book file, size_t length)
     return other;
 }
 
-/* A file of this length that begins as the paper's fund, beside that fund: what it is refused for. */
+/* A file of this length that begins as the paper's fund, beside that fund: what it is refused for.
+ */
 static int file_refused(size_t length, uint8_t edition, uint64_t refusal, uint64_t place)
 {
     parameter_book book = one_record_book(), fund = fund_of(book), file = resized(fund, length);
     funds_memory memory = marked_funds();
     if (length > 0)
         file.bytes[0] = edition;
-    xaropinto_funds_reply reply = reckon_funds(&memory, fund, file);
+    xaropinto_funds_reply reply = value_funds(&memory, fund, file);
     int holds = fund_is(reply.first, 0, 0, 1) && fund_is(reply.second, refusal, place, 0) &&
-                numbers_stand(&memory, 8, LENT + 4);
+                numbers_stand(&memory, 8, NUMBERS_PASSED + 4);
     free(file.bytes);
     free(fund.bytes);
     free(book.bytes);
@@ -1107,11 +1173,13 @@ static void test_fund_files(void)
     test("a_file_of_55_bytes_is_placed_at_its_own_length", file_refused(55, 1, 1, 55));
     test("a_file_of_56_bytes_is_placed_at_the_joined_length", file_refused(56, 1, 5, 1220));
     test("so_is_one_longer_than_any_book", file_refused(longest + 1, 1, 5, 41877));
-    test("so_is_one_of_twice_the_longest_book", file_refused(2 * XAROPINTO_LONGEST_BOOK, 1, 5, 84916));
+    test("so_is_one_of_twice_the_longest_book",
+         file_refused(2 * XAROPINTO_LONGEST_BOOK, 1, 5, 84916));
     test("a_long_files_header_is_tested_first", file_refused(longest + 1, 3, 2, 0));
 }
 
-/* One cell on the screen: 0.565 x 0.8 of the contract is left after a year, then each year 0.913 x 0.95 of what was. */
+/* One cell on the screen: 0.565 x 0.8 of the contract is left after a year, then each year 0.913 x
+ * 0.95 of what was. */
 static void test_one_cell(void)
 {
     static const uint64_t old[4] = {1000000000, 452000000, 392042200, 340037801};
@@ -1122,10 +1190,13 @@ static void test_one_cell(void)
     for (size_t k = 0; k < XAROPINTO_IN_FORCE_NUMBERS; k++)
         ten[k] = 10000000000u;
     parameter_book book = very_old_book(), one = one_record_book();
-    test("in_force_from_year_0_and_on_at_class_120", in_force_begins(book, 0, LAST_CLASS - 1, old, 4));
+    test("in_force_from_year_0_and_on_at_class_120",
+         in_force_begins(book, 0, LAST_CLASS - 1, old, 4));
     test("in_force_goes_by_the_setting", in_force_begins(book, 3, LAST_CLASS - 1, leaving, 3));
-    test("in_force_of_no_contracts", in_force_begins(book, 0, LAST_CLASS, none, XAROPINTO_IN_FORCE_NUMBERS));
-    test("in_force_of_all_fifty_years", in_force_begins(one, 7, LAST_CLASS, ten, XAROPINTO_IN_FORCE_NUMBERS));
+    test("in_force_of_no_contracts",
+         in_force_begins(book, 0, LAST_CLASS, none, XAROPINTO_IN_FORCE_NUMBERS));
+    test("in_force_of_all_fifty_years",
+         in_force_begins(one, 7, LAST_CLASS, ten, XAROPINTO_IN_FORCE_NUMBERS));
     free(book.bytes);
     free(one.bytes);
 }
@@ -1134,21 +1205,24 @@ static void test_one_cell_refusals(void)
 {
     parameter_book book = very_old_book(), zeros = blank(HEADER_SIZE);
     size_t all = XAROPINTO_IN_FORCE_NUMBERS;
-    const size_t setting[4] = {8, 0, 2, 121}, no_code[4] = {0, 0, 0, 119}, code_8[4] = {0, 8, 0, 119};
-    const size_t high_code[4] = {0, HIGH_BIT + 4, 0, 119}, sex_2[4] = {0, 4, 2, 119}, held[4] = {0, 4, 0, 119};
-    const size_t below[4] = {0, 4, 0, 118}, above[4] = {0, 4, 0, 121}, high[4] = {0, 4, 0, HIGH_BIT + 119};
+    const size_t setting[4] = {8, 0, 2, 121}, no_code[4] = {0, 0, 0, 119},
+                 code_8[4] = {0, 8, 0, 119};
+    const size_t high_code[4] = {0, HIGH_BIT + 4, 0, 119}, sex_2[4] = {0, 4, 2, 119},
+                 held[4] = {0, 4, 0, 119};
+    const size_t below[4] = {0, 4, 0, 118}, above[4] = {0, 4, 0, 121},
+                 high[4] = {0, 4, 0, HIGH_BIT + 119};
     const size_t women[4] = {0, 4, 1, 119};
     test("in_force_14_comes_first", in_force_refused(zeros, setting, 0, 14, 0));
-    test("in_force_code_out_of_range",
-         in_force_refused(zeros, no_code, all, 25, 0) && in_force_refused(zeros, code_8, all, 25, 0) &&
-             in_force_refused(zeros, high_code, all, 25, 0));
+    test("in_force_code_out_of_range", in_force_refused(zeros, no_code, all, 25, 0) &&
+                                           in_force_refused(zeros, code_8, all, 25, 0) &&
+                                           in_force_refused(zeros, high_code, all, 25, 0));
     test("in_force_sex_out_of_range", in_force_refused(zeros, sex_2, all, 25, 0));
     test("in_force_under_50_numbers",
          in_force_refused(zeros, held, all - 1, 25, 0) && in_force_refused(book, held, 0, 25, 0));
     test("in_force_book_before_26", in_force_refused(zeros, above, all, 2, 0));
-    test("in_force_chain_has_no_such_class",
-         in_force_refused(book, below, all, 26, 0) && in_force_refused(book, above, all, 26, 0) &&
-             in_force_refused(book, high, all, 26, 0));
+    test("in_force_chain_has_no_such_class", in_force_refused(book, below, all, 26, 0) &&
+                                                 in_force_refused(book, above, all, 26, 0) &&
+                                                 in_force_refused(book, high, all, 26, 0));
     test("in_force_chain_is_empty", in_force_refused(book, women, all, 26, 0));
     free(book.bytes);
     free(zeros.bytes);
@@ -1157,26 +1231,31 @@ static void test_one_cell_refusals(void)
 /* ---- the spread of yearly claims ---- */
 
 /* Bit for bit: zeros of either sign differ. */
-static int spread_is(xaropinto_summary claims, double xi, double eta, uint64_t level, double mean, double coefficient)
+static int spread_is(xaropinto_summary claims, double xi, double eta, uint64_t level, double mean,
+                     double coefficient)
 {
     xaropinto_summary before = claims;
-    xaropinto_spread_reply reply = xaropinto_spread(claims, xi, eta), due = {0, 0, level, mean, coefficient};
+    xaropinto_spread_reply reply = xaropinto_spread(claims, xi, eta),
+                           due = {0, 0, level, mean, coefficient};
     return memcmp(&reply, &due, sizeof due) == 0 && memcmp(&claims, &before, sizeof before) == 0;
 }
 
 static int spread_refused(xaropinto_summary claims, double xi, double eta, uint64_t refusal)
 {
-    xaropinto_spread_reply reply = xaropinto_spread(claims, xi, eta), due = {refusal, 0, 0, 0.0, 0.0};
+    xaropinto_spread_reply reply = xaropinto_spread(claims, xi, eta),
+                           due = {refusal, 0, 0, 0.0, 0.0};
     return memcmp(&reply, &due, sizeof due) == 0;
 }
 
-/* The example of docs/RECKONING.md; 1,600 / 8, and half of 400 / 2 and 200 / 4, which is 125; half of 1 x 1,024 over
- * 1 / 8. */
+/* The example of docs/RECKONING.md; 1,600 / 8, and half of 400 / 2 and 200 / 4, which is 125; half
+ * of 1 x 1,024 over 1 / 8. */
 static void test_spread(void)
 {
-    xaropinto_summary worked = {152340, 158910, 163275, 169480, 181205}, even = {0, 100, 200, 300, 400};
+    xaropinto_summary worked = {152340, 158910, 163275, 169480, 181205},
+                      even = {0, 100, 200, 300, 400};
     xaropinto_summary level = {7, 7, 7, 7, 7}, least = {0, 0, 0, 0, 1};
-    test("the_worked_claims_have_their_spread", spread_is(worked, 2.847, 1.119, 0, 164609.375, 0.05948833839363393));
+    test("the_worked_claims_have_their_spread",
+         spread_is(worked, 2.847, 1.119, 0, 164609.375, 0.05948833839363393));
     test("five_even_steps_have_an_exact_coefficient", spread_is(even, 2.0, 4.0, 0, 200.0, 0.625));
     test("the_least_factors_are_taken", spread_is(least, 1.0 / 1024, 1.0 / 1024, 0, 0.125, 4096.0));
     test("level_claims_have_a_mean_alone", spread_is(level, 1000.0, 1000.0, 1, 7.0, 0.0));
@@ -1184,8 +1263,10 @@ static void test_spread(void)
 
 static void test_spread_refusals(void)
 {
-    xaropinto_summary even = {0, 100, 200, 300, 400}, falling = {0, 100, 200, 300, 299}, none = {0, 0, 0, 0, 0};
-    xaropinto_summary level = {7, 7, 7, 7, 7}, high = {0, 0, 0, 0, 10000001}, wide = {0, 0, 0, 0, (uint64_t)1 << 63};
+    xaropinto_summary even = {0, 100, 200, 300, 400}, falling = {0, 100, 200, 300, 299},
+                      none = {0, 0, 0, 0, 0};
+    xaropinto_summary level = {7, 7, 7, 7, 7}, high = {0, 0, 0, 0, 10000001},
+                      wide = {0, 0, 0, 0, (uint64_t)1 << 63};
     double zero = 0.0, not_a_number, infinity;
     const uint64_t bits_of_nan = 0x7FF8000000000000, bits_of_infinity = 0x7FF0000000000000;
     memcpy(&not_a_number, &bits_of_nan, sizeof not_a_number);
@@ -1193,24 +1274,29 @@ static void test_spread_refusals(void)
     test("claims_that_fall_are_refused", spread_refused(falling, 2.0, 4.0, 27));
     test("claims_above_their_limit_are_refused",
          spread_refused(high, 2.0, 4.0, 27) && spread_refused(wide, 2.0, 4.0, 27));
-    test("claims_of_nothing_are_refused_before_factors", spread_refused(none, not_a_number, zero, 27));
-    test("not_a_number_is_refused_before_level",
-         spread_refused(level, not_a_number, 4.0, 28) && spread_refused(even, 2.0, not_a_number, 28));
-    test("zeros_are_refused", spread_refused(even, zero, 4.0, 28) && spread_refused(even, -zero, 4.0, 28));
+    test("claims_of_nothing_are_refused_before_factors",
+         spread_refused(none, not_a_number, zero, 27));
+    test("not_a_number_is_refused_before_level", spread_refused(level, not_a_number, 4.0, 28) &&
+                                                     spread_refused(even, 2.0, not_a_number, 28));
+    test("zeros_are_refused",
+         spread_refused(even, zero, 4.0, 28) && spread_refused(even, -zero, 4.0, 28));
     test("infinities_are_refused",
          spread_refused(even, 2.0, infinity, 28) && spread_refused(even, 2.0, -infinity, 28));
-    test("factors_past_their_ends_are_refused", spread_refused(even, 0.00097656249999999989, 4.0, 28) &&
-                                                    spread_refused(even, 2.0, 1000.0000000000001, 28));
+    test("factors_past_their_ends_are_refused",
+         spread_refused(even, 0.00097656249999999989, 4.0, 28) &&
+             spread_refused(even, 2.0, 1000.0000000000001, 28));
 }
 
 /* ---- the deviation of four factors ---- */
 
-/* 100,000 men of PG2: premiums of 5,000,000 at k = 0, all of them costs; half lapse; claims of 2,000,010 at k = 1. In
- * thousand francs the differences of lapse, costs and claims are -0.3 x 2,000,010, 0.4 x 5,000,000 and 50,000.25. */
+/* 100,000 men of PG2: premiums of 5,000,000 at k = 0, all of them costs; half lapse; claims of
+ * 2,000,010 at k = 1. In thousand francs the differences of lapse, costs and claims are -0.3 x
+ * 2,000,010, 0.4 x 5,000,000 and 50,000.25. */
 static parameter_book risk_book(void)
 {
     parameter_book book = unlinked_book(3);
-    contracts paid = {100000, 500000, 5000000, 0}, claimed = {0, 500000, 0, 2000010}, nothing = {0, 0, 0, 0};
+    contracts paid = {100000, 500000, 5000000, 0}, claimed = {0, 500000, 0, 2000010},
+              nothing = {0, 0, 0, 0};
     put(book, HEADS + 2 * PG2_MEN, 2, 1);
     put(book, COST_RATES + 4 * (PG2 - 1), 4, 1000000);
     put_record(book, 1, PG2_MEN, LAST_CLASS - 2, paid);
@@ -1219,8 +1305,9 @@ static parameter_book risk_book(void)
     return book;
 }
 
-/* Factors of -1,000,000, 1,000,000 and 1,000,000 in that book, and of 0 for mortality: 600,003 x 999,996 / 600,000 is
- * 1,000,000.99. Each two of the three have this correlation, lapse its opposite. */
+/* Factors of -1,000,000, 1,000,000 and 1,000,000 in that book, and of 0 for mortality: 600,003 x
+ * 999,996 / 600,000 is 1,000,000.99. Each two of the three have this correlation, lapse its
+ * opposite. */
 static xaropinto_risk_model three_factors(int64_t correlation)
 {
     static const uint64_t coefficients[XAROPINTO_FACTORS] = {0, 999996, 200000, 1000000};
@@ -1236,15 +1323,16 @@ static xaropinto_risk_model three_factors(int64_t correlation)
 }
 
 /* The whole reply; the book and the caller's model are as they were. */
-static int deviation_is(parameter_book book, xaropinto_risk_model model, uint64_t refusal, uint64_t place,
-                        uint64_t deviation)
+static int deviation_is(parameter_book book, xaropinto_risk_model model, uint64_t refusal,
+                        uint64_t place, uint64_t deviation)
 {
     xaropinto_risk_model before = model;
     uint8_t *bytes = exact_memory(book.length);
     memcpy(bytes, book.bytes, book.length);
     xaropinto_deviation_reply reply = xaropinto_deviation(book.bytes, book.length, model),
                               due = {refusal, place, deviation};
-    int holds = memcmp(&reply, &due, sizeof due) == 0 && memcmp(&model, &before, sizeof before) == 0 &&
+    int holds = memcmp(&reply, &due, sizeof due) == 0 &&
+                memcmp(&model, &before, sizeof before) == 0 &&
                 memcmp(bytes, book.bytes, book.length) == 0;
     free(bytes);
     return holds;
@@ -1298,39 +1386,42 @@ static uint32_t number_at(const uint8_t *bytes, size_t place)
            (uint32_t)bytes[place + 3] << 24;
 }
 
-/* The refusal is given with place 0, and no byte of the lent part is changed. */
-static int practice_refused(uint64_t start, size_t room, uint64_t refusal)
+/* The refusal is given with place 0, and no byte of the buffer is changed. */
+static int practice_refused(uint64_t start, size_t size, uint64_t refusal)
 {
-    uint8_t *out = exact_memory(room);
-    memset(out, 0xA5, room);
-    xaropinto_write_reply reply = xaropinto_practice(start, out, room), due = {refusal, 0, 0};
+    uint8_t *out = exact_memory(size);
+    memset(out, 0xA5, size);
+    xaropinto_write_reply reply = xaropinto_practice(start, out, size), due = {refusal, 0, 0};
     int holds = memcmp(&reply, &due, sizeof due) == 0;
-    for (size_t i = 0; i < room; i++)
+    for (size_t i = 0; i < size; i++)
         holds &= out[i] == 0xA5;
     free(out);
     return holds;
 }
 
-/* By hand, start number 1: the word is 8,193, 8,257, 1,082,269,761 and the counter 362,437, so the first draw is
- * 1,082,632,198; by 1,000,001 that leaves 631,116. The other figures are worked outside. */
+/* By hand, start number 1: the word is 8,193, 8,257, 1,082,269,761 and the counter 362,437, so the
+ * first draw is 1,082,632,198; by 1,000,001 that leaves 631,116. The other figures are worked
+ * outside. */
 static void test_practice(void)
 {
-    size_t room = XAROPINTO_LONGEST_BOOK + 16;
-    uint8_t *out = exact_memory(room), *again = exact_memory(XAROPINTO_LONGEST_BOOK);
-    memset(out, 0xA5, room);
-    xaropinto_write_reply reply = xaropinto_practice(1, out, room);
-    test("practice_book_is_the_longest", reply.refusal == 0 && reply.place == 0 &&
-                                             reply.length == XAROPINTO_LONGEST_BOOK);
-    test("first_draw_of_1_is_the_cost_rate_of_pg1", number_at(out, XAROPINTO_COST_RATES_AT) == 631116);
+    size_t size = XAROPINTO_LONGEST_BOOK + 16;
+    uint8_t *out = exact_memory(size), *again = exact_memory(XAROPINTO_LONGEST_BOOK);
+    memset(out, 0xA5, size);
+    xaropinto_write_reply reply = xaropinto_practice(1, out, size);
+    test("practice_book_is_the_longest",
+         reply.refusal == 0 && reply.place == 0 && reply.length == XAROPINTO_LONGEST_BOOK);
+    test("first_draw_of_1_is_the_cost_rate_of_pg1",
+         number_at(out, XAROPINTO_COST_RATES_AT) == 631116);
     test("sixth_draw_is_the_curves_first_rate", number_at(out, XAROPINTO_CURVE_AT) == 67683);
-    test("record_1_takes_four_draws", number_at(out, record_start(1) + XAROPINTO_COUNT_AT) == 80487 &&
-                                          number_at(out, record_start(1) + XAROPINTO_LAPSE_AT) == 386145 &&
-                                          number_at(out, record_start(1) + XAROPINTO_PREMIUM_AT) == 8977337 &&
-                                          number_at(out, record_start(1) + XAROPINTO_CLAIMS_AT) == 8126851);
+    test("record_1_takes_four_draws",
+         number_at(out, record_start(1) + XAROPINTO_COUNT_AT) == 80487 &&
+             number_at(out, record_start(1) + XAROPINTO_LAPSE_AT) == 386145 &&
+             number_at(out, record_start(1) + XAROPINTO_PREMIUM_AT) == 8977337 &&
+             number_at(out, record_start(1) + XAROPINTO_CLAIMS_AT) == 8126851);
     xaropinto_verdict verdict = xaropinto_check(out, XAROPINTO_LONGEST_BOOK);
     test("practice_book_is_accepted", verdict.refusal == 0 && verdict.n == XAROPINTO_MOST_RECORDS);
     int later = 1;
-    for (size_t i = XAROPINTO_LONGEST_BOOK; i < room; i++)
+    for (size_t i = XAROPINTO_LONGEST_BOOK; i < size; i++)
         later &= out[i] == 0xA5;
     test("bytes_past_the_practice_book_stay", later);
     xaropinto_practice(1, again, XAROPINTO_LONGEST_BOOK);
@@ -1338,7 +1429,8 @@ static void test_practice(void)
     xaropinto_practice(HIGH_BIT + 1, again, XAROPINTO_LONGEST_BOOK);
     test("high_bit_of_the_start_number_counts", memcmp(out, again, XAROPINTO_LONGEST_BOOK) != 0);
     test("a_byte_too_few_is_16", practice_refused(1, XAROPINTO_LONGEST_BOOK - 1, 16));
-    test("short_buffer_comes_before_the_number_0", practice_refused(0, XAROPINTO_LONGEST_BOOK - 1, 16));
+    test("short_buffer_comes_before_the_number_0",
+         practice_refused(0, XAROPINTO_LONGEST_BOOK - 1, 16));
     test("start_number_0_is_32", practice_refused(0, XAROPINTO_LONGEST_BOOK, 32));
     free(out);
     free(again);
@@ -1347,14 +1439,14 @@ static void test_practice(void)
 /* ---- the listing ---- */
 
 /* Is the reply this one, and the buffer this text and then marks? */
-static int listing_gives(const uint8_t *book, size_t book_length, size_t bytes, xaropinto_report_reply due,
-                         const char *text)
+static int listing_gives(const uint8_t *book, size_t book_length, size_t bytes,
+                         xaropinto_report_reply due, const char *text)
 {
     uint8_t out[XAROPINTO_MOST_LISTING_BYTES];
     memset(out, 7, sizeof out);
     xaropinto_report_reply reply = xaropinto_listing(book, book_length, out, bytes);
-    int holds = reply.refusal == due.refusal && reply.place == due.place && reply.length == due.length &&
-                memcmp(out, text, due.length) == 0;
+    int holds = reply.refusal == due.refusal && reply.place == due.place &&
+                reply.length == due.length && memcmp(out, text, due.length) == 0;
     for (size_t at = due.length; at < sizeof out; at++)
         holds &= out[at] == 7;
     return holds;
@@ -1374,17 +1466,22 @@ static void test_listing(void)
          listing_gives(book.bytes, book.length, length, listed, text));
     test("a_buffer_one_byte_short_is_20_and_stays",
          listing_gives(book.bytes, book.length, length - 1, short_buffer, ""));
-    test("no_buffer_for_a_listing_is_20", listing_gives(book.bytes, book.length, 0, short_buffer, ""));
-    test("a_refused_book_leaves_the_listings_buffer", listing_gives(zeros, sizeof zeros, most, edition, ""));
-    test("a_refused_listing_has_its_place", listing_gives(zeros, sizeof zeros - 1, most, too_few, ""));
-    test("the_books_refusal_comes_before_20", listing_gives(zeros, sizeof zeros - 1, 0, too_few, ""));
+    test("no_buffer_for_a_listing_is_20",
+         listing_gives(book.bytes, book.length, 0, short_buffer, ""));
+    test("a_refused_book_leaves_the_listings_buffer",
+         listing_gives(zeros, sizeof zeros, most, edition, ""));
+    test("a_refused_listing_has_its_place",
+         listing_gives(zeros, sizeof zeros - 1, most, too_few, ""));
+    test("the_books_refusal_comes_before_20",
+         listing_gives(zeros, sizeof zeros - 1, 0, too_few, ""));
     free(book.bytes);
 }
 
 static void test_refusal_texts(void)
 {
     test("every_refusal_has_words", *xaropinto_refusal_text(1) && *xaropinto_refusal_text(32));
-    test("no_other_number_has", !*xaropinto_refusal_text(33) && !*xaropinto_refusal_text(UINT64_MAX));
+    test("no_other_number_has",
+         !*xaropinto_refusal_text(33) && !*xaropinto_refusal_text(UINT64_MAX));
     test("none_is_accepted", strcmp(xaropinto_refusal_text(0), "accepted") == 0);
 }
 
@@ -1406,8 +1503,10 @@ static void test_nulls(void)
     test("convert_takes_nulls", xaropinto_convert(NULL, 0, NULL, 0).refusal == 1);
     test("write_takes_nulls",
          xaropinto_write(values, NULL, 0, NULL, 0, NULL, 0, NULL, 0, NULL, 0).refusal == 22);
-    test("read_takes_nulls", xaropinto_read(NULL, 0, NULL, 0, NULL, 0, NULL, 0, NULL, 0).refusal == 1);
-    test("funds_takes_nulls", xaropinto_funds(NULL, 0, NULL, 0, NULL, 0, NULL, 0).first.refusal == 16);
+    test("read_takes_nulls",
+         xaropinto_read(NULL, 0, NULL, 0, NULL, 0, NULL, 0, NULL, 0).refusal == 1);
+    test("funds_takes_nulls",
+         xaropinto_funds(NULL, 0, NULL, 0, NULL, 0, NULL, 0).first.refusal == 16);
     test("in_force_takes_nulls", xaropinto_in_force(NULL, 0, 0, 1, 0, 0, NULL, 0).refusal == 25);
     test("deviation_takes_a_null", xaropinto_deviation(NULL, 0, model).refusal == 1);
     test("practice_takes_a_null", xaropinto_practice(1, NULL, 0).refusal == 16);

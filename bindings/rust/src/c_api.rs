@@ -34,7 +34,8 @@ pub struct RecordReply {
 
 /// Three years of accounts, by year and then by product group, PG1 first.
 ///
-/// Stock is in contracts, all else in whole francs; the expenses are adjusted, but not yet lowered by 5 percent.
+/// Stock is in contracts, all else in whole francs; the expenses are adjusted, but not yet lowered
+/// by 5 percent.
 #[repr(C)]
 #[derive(Clone, Copy, Debug, PartialEq, Eq)]
 pub struct Accounts {
@@ -169,7 +170,7 @@ extern "C" {
 
     pub fn xaropinto_report_room(book: *const u8, length: usize, setting: usize) -> ReportReply;
 
-    pub fn xaropinto_convert(book: *const u8, length: usize, out: *mut u8, room: usize) -> Verdict;
+    pub fn xaropinto_convert(book: *const u8, length: usize, out: *mut u8, size: usize) -> Verdict;
 
     pub fn xaropinto_write(
         values: Values,
@@ -182,7 +183,7 @@ extern "C" {
         claims: *const u64,
         claims_length: usize,
         out: *mut u8,
-        room: usize,
+        size: usize,
     ) -> WriteReply;
 
     pub fn xaropinto_read(
@@ -224,5 +225,5 @@ extern "C" {
 
     pub fn xaropinto_deviation(book: *const u8, length: usize, model: RiskModel) -> DeviationReply;
 
-    pub fn xaropinto_practice(start: u64, out: *mut u8, room: usize) -> WriteReply;
+    pub fn xaropinto_practice(start: u64, out: *mut u8, size: usize) -> WriteReply;
 }

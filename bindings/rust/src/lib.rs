@@ -1,8 +1,8 @@
-//! Safe calls of the proved check and reckoning of a parameter book, of its cost rates out of accounts,
-//! and of the spread of yearly claims.
+//! Safe calls of the proved check and valuation of a parameter book, of its cost rates out of
+//! accounts, and of the spread of yearly claims.
 //!
-//! `include/xaropinto.h` says what each call answers and which refusals it gives. Nothing checks the
-//! declarations in `c_api` against the archive but the tests.
+//! `include/xaropinto.h` says what each call answers and which refusals it gives. Nothing checks
+//! the declarations in `c_api` against the archive but the tests.
 
 mod c_api;
 mod refusals;
@@ -96,15 +96,16 @@ pub fn check(book: &[u8]) -> Result<Accepted, Refusal> {
 
 /// The liability of product group 1 to 5 in setting 0 to 7.
 ///
-/// Where accepted, the first 200 numbers of the table become, for each of fifty years: premium after
-/// the cap, outgo, discounted premium, discounted outgo. All others stay as they were.
+/// Where accepted, the first 200 numbers of the table become, for each of fifty years: premium
+/// after the cap, outgo, discounted premium, discounted outgo. All others stay as they were.
 pub fn group(
     book: &[u8],
     setting: usize,
     group: usize,
     table: &mut [u64],
 ) -> Result<Group, Refusal> {
-    // SAFETY: as in `check`; the table is lent to this call alone, so it does not overlap the book.
+    // SAFETY: as in `check`; the table is passed to this call alone, so it does not overlap the
+    // book.
     let reply = unsafe {
         xaropinto_group(
             book.as_ptr(),
@@ -163,8 +164,9 @@ pub fn cost_rates(accounts: &Accounts) -> Result<[u64; 5], Refusal> {
     Ok(reply.rates)
 }
 
-/// Writes the year report of a setting to the start of the lent buffer, which must be at least as long as
-/// `report_room` tells; how many bytes it has. Where refused, and past the report, the buffer stays as it was.
+/// Writes the year report of a setting to the start of the buffer, which must be at least as long
+/// as `report_room` gives; how many bytes it has. Where refused, and past the report, the buffer
+/// stays as it was.
 pub fn report(book: &[u8], setting: usize, out: &mut [u8]) -> Result<usize, Refusal> {
     // SAFETY: as in `group`.
     let reply = unsafe {
@@ -190,10 +192,10 @@ pub fn report_room(book: &[u8], setting: usize) -> Result<usize, Refusal> {
 
 /// A book on age basis 2 turned into basis 1.
 ///
-/// Where accepted, the first bytes of `out`, as many as the book has, become the converted book. All
-/// others stay as they were.
+/// Where accepted, the first bytes of `out`, as many as the book has, become the converted book.
+/// All others stay as they were.
 pub fn convert(book: &[u8], out: &mut [u8]) -> Result<Accepted, Refusal> {
-    // SAFETY: as in `check`; `out` is lent to this call alone, so it does not overlap the book.
+    // SAFETY: as in `check`; `out` is passed to this call alone, so it does not overlap the book.
     let reply =
         unsafe { xaropinto_convert(book.as_ptr(), book.len(), out.as_mut_ptr(), out.len()) };
     unless_refused(reply.refusal, reply.place)?;
@@ -241,7 +243,7 @@ pub fn read(
     premiums: &mut [u64],
     claims: &mut [u64],
 ) -> Result<Values, Refusal> {
-    // SAFETY: as in `group`; each list is lent to this call alone, so no two overlap.
+    // SAFETY: as in `group`; each list is passed to this call alone, so no two overlap.
     let reply = unsafe {
         xaropinto_read(
             book.as_ptr(),
@@ -262,9 +264,9 @@ pub fn read(
 
 /// Two funds on the same tables: each fund's own reply.
 ///
-/// The table file is bytes 56 to 1,219 of a book, a fund file bytes 0 to 55 and the records. Where a
-/// fund is accepted, the eight totals of the book that its file and the table file make together come
-/// in numbers 0 to 7 for the first, 8 to 15 for the second. All others stay as they were.
+/// The table file is bytes 56 to 1,219 of a book, a fund file bytes 0 to 55 and the records. Where
+/// a fund is accepted, the eight totals of the book that its file and the table file make together
+/// come in numbers 0 to 7 for the first, 8 to 15 for the second. All others stay as they were.
 pub fn funds(
     table: &[u8],
     first: &[u8],
@@ -294,8 +296,8 @@ fn accepted(verdict: Verdict) -> Result<Accepted, Refusal> {
 
 /// What is in force of the linked record of a subgroup code, sex and class, year by year.
 ///
-/// Where accepted, the first 50 numbers of `out` become billionths of a contract at k = 0 to 49. All
-/// others stay as they were.
+/// Where accepted, the first 50 numbers of `out` become billionths of a contract at k = 0 to 49.
+/// All others stay as they were.
 pub fn in_force(
     book: &[u8],
     setting: usize,
@@ -345,7 +347,7 @@ pub fn deviation(book: &[u8], model: &RiskModel) -> Result<u64, Refusal> {
 ///
 /// The same start number always gives the same bytes. Those past the book stay as they were.
 pub fn practice(start: u64, out: &mut [u8]) -> Result<usize, Refusal> {
-    // SAFETY: as in `group`; `out` is lent to this call alone.
+    // SAFETY: as in `group`; `out` is passed to this call alone.
     let reply = unsafe { xaropinto_practice(start, out.as_mut_ptr(), out.len()) };
     unless_refused(reply.refusal, reply.place)?;
     Ok(reply.length as usize)

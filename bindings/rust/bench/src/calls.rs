@@ -5,7 +5,7 @@ use plain::Refusal;
 
 use crate::one_projection::{self, MOST_REPORT_BYTES};
 use crate::rival;
-use crate::tuned::{self, Projections, Tuning, Walk};
+use crate::tuned::{self, Order, Projections, Tuning};
 
 /// What is asked. Check and Totals take the book alone, Report the setting too, Group all three.
 #[derive(Clone, Copy)]
@@ -150,15 +150,15 @@ const TOTALS_ROWS: &[Row] = &[
     },
     Row {
         name: "tuned Rust, 64 bits, eight projections",
-        answer: |question, _| tuned_totals(question.book, Projections::Eight, Walk::CellByCell),
+        answer: |question, _| tuned_totals(question.book, Projections::Eight, Order::CellByCell),
     },
     Row {
         name: "the same, five projections",
-        answer: |question, _| tuned_totals(question.book, Projections::Five, Walk::CellByCell),
+        answer: |question, _| tuned_totals(question.book, Projections::Five, Order::CellByCell),
     },
     Row {
         name: "the same, five, all cells year by year",
-        answer: |question, _| tuned_totals(question.book, Projections::Five, Walk::YearByYear),
+        answer: |question, _| tuned_totals(question.book, Projections::Five, Order::YearByYear),
     },
     Row {
         name: "its ideas in Rust",
@@ -268,6 +268,6 @@ fn archive_totals(book: &[u8]) -> Answer {
     }))
 }
 
-fn tuned_totals(book: &[u8], projections: Projections, walk: Walk) -> Answer {
-    tuned::totals(book, Tuning { projections, walk }).map(Figures::Totals)
+fn tuned_totals(book: &[u8], projections: Projections, order: Order) -> Answer {
+    tuned::totals(book, Tuning { projections, order }).map(Figures::Totals)
 }

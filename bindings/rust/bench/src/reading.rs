@@ -1,4 +1,4 @@
-//! What the tuned reckonings read from a checked book.
+//! What the tuned valuations read from a checked book.
 
 use plain::layout::*;
 use plain::settings::percentage;

@@ -1,10 +1,10 @@
 //! Totals in 64 bits, as a good engineer would tune the paper's steps in plain Rust.
 //!
 //! The book is checked once and its chains are read once. Weights are worked into a chain's rates
-//! before its cells are walked, a cell's walk ends at the first year with nothing in force, every
-//! product stays within 64 bits, and all divisors are constants but those of the curve. Year by
-//! year only the oldest cells are looked at for their end: to look at each costs more than it
-//! saves.
+//! before its cells are projected, a cell's projection ends at the first year with nothing in
+//! force, every product stays within 64 bits, and all divisors are constants but those of the
+//! curve. Year by year only the oldest cells are tested for their end: to test each costs more than
+//! it saves.
 
 use std::ops::Range;
 
@@ -21,7 +21,7 @@ const FIRST_CAPPED_YEAR: usize = 5;
 #[derive(Clone, Copy)]
 pub struct Tuning {
     pub projections: Projections,
-    pub walk: Walk,
+    pub order: Order,
 }
 
 /// How many projections serve the eight settings.
@@ -33,9 +33,9 @@ pub enum Projections {
     Five,
 }
 
-/// In which order the years of a chain's cells are reckoned.
+/// In which order the years of a chain's cells are computed.
 #[derive(Clone, Copy)]
-pub enum Walk {
+pub enum Order {
     /// all years of a cell up to its end, then the next cell; each year waits for the one before
     CellByCell,
     /// one year of all cells, but for the oldest that have ended, then the next year; cells do not
@@ -63,14 +63,14 @@ struct Sums {
 pub fn totals(bytes: &[u8], tuning: Tuning) -> Result<Totals, Refusal> {
     let n = check(bytes)?;
     let book = read(bytes);
-    let base = project(&book, &WEIGHTS[0], tuning.walk);
+    let base = project(&book, &WEIGHTS[0], tuning.order);
     let mut totals = [0; SETTINGS];
     for (setting, weights) in WEIGHTS.iter().enumerate() {
         let shared = setting == 0 || setting >= 5 && tuning.projections == Projections::Five;
         totals[setting] = if shared {
-            settle(&book, weights, &base)
+            liability(&book, weights, &base)
         } else {
-            settle(&book, weights, &project(&book, weights, tuning.walk))
+            liability(&book, weights, &project(&book, weights, tuning.order))
         };
     }
     let differences = differences(&totals);
@@ -82,7 +82,7 @@ pub fn totals(bytes: &[u8], tuning: Tuning) -> Result<Totals, Refusal> {
 }
 
 /// Steps 1 and 2 for every product group.
-fn project(book: &Book, weights: &Weights, walk: Walk) -> [Sums; PRODUCT_GROUPS] {
+fn project(book: &Book, weights: &Weights, order: Order) -> [Sums; PRODUCT_GROUPS] {
     let mut rows = Vec::with_capacity(CLASSES + YEARS);
     std::array::from_fn(|group| {
         let mut sums = Sums {
@@ -92,9 +92,9 @@ fn project(book: &Book, weights: &Weights, walk: Walk) -> [Sums; PRODUCT_GROUPS]
         for chain in chains_of(group + 1) {
             let percentage = book.percentages[sex_of_chain(chain)];
             weigh(&book.chains[chain], percentage, weights, &mut rows);
-            match walk {
-                Walk::CellByCell => add_cell_by_cell(&rows, &mut sums),
-                Walk::YearByYear => add_year_by_year(&rows, &mut sums),
+            match order {
+                Order::CellByCell => add_cell_by_cell(&rows, &mut sums),
+                Order::YearByYear => add_year_by_year(&rows, &mut sums),
             }
         }
         sums
@@ -223,7 +223,7 @@ impl Split {
 }
 
 /// Steps 3 to 6 for every product group, added.
-fn settle(book: &Book, weights: &Weights, sums: &[Sums; PRODUCT_GROUPS]) -> i64 {
+fn liability(book: &Book, weights: &Weights, sums: &[Sums; PRODUCT_GROUPS]) -> i64 {
     let mut total = 0;
     for (sums, cost_rate) in sums.iter().zip(book.cost_rates) {
         for k in 0..YEARS {

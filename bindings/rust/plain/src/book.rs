@@ -139,8 +139,8 @@ pub fn random_book(chooser: &mut Chooser, longest_chain: usize, most_chains: usi
     if chooser.percent(40) {
         return make_book(&values);
     }
-    let room = MOST_RECORDS - values.cells();
-    let unlinked = chooser.pick(&[0, 1, 5]).min(room);
+    let free = MOST_RECORDS - values.cells();
+    let unlinked = chooser.pick(&[0, 1, 5]).min(free);
     make_shuffled_book(&values, unlinked, chooser)
 }
 

@@ -1,4 +1,4 @@
-//! The check of a book and the looker, refusal by refusal in the paper's order.
+//! The check of a book and the view of a record, refusal by refusal in the paper's order.
 
 use crate::layout::*;
 use crate::Refusal;

@@ -1,4 +1,4 @@
-//! A second check and reckoning, written from the paper alone and as plainly as can be, and a maker
+//! Another check and valuation, written from the paper alone and as plainly as can be, and a maker
 //! of books to try them on. It neither links the archive nor follows its code.
 
 pub mod book;

@@ -148,8 +148,8 @@ fn next_in_force(in_force: u128, mortality: u128, lapse: u128) -> u128 {
     living * (BILLION - lapse.min(BILLION)) / BILLION
 }
 
-/// Steps 1 and 2: the year sums of a product group. The records from a cell's own on are those of the
-/// classes that it reaches; once at class 120, the last, it stays there.
+/// Steps 1 and 2: the year sums of a product group. The records from a cell's own on are those of
+/// the classes that it reaches; once at class 120, the last, it stays there.
 fn year_sums(book: &[u8], setting: usize, group: usize) -> [Sums; YEARS] {
     let mut sums = [Sums::default(); YEARS];
     let weights = &WEIGHTS[setting];

@@ -1,4 +1,5 @@
-//! The spread of yearly claims, by figures worked by hand; the last of them with Rust's own doubles.
+//! The spread of yearly claims, by figures worked by hand; the last of them with Rust's own
+//! doubles.
 
 use xaropinto::{spread, Refusal, Spread, Summary};
 

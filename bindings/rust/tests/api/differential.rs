@@ -1,4 +1,4 @@
-//! Random books, short and long, valid and damaged: every call held against its plain counterpart.
+//! Random books, short and long, valid and damaged: every call compared with its plain counterpart.
 
 use plain::book::{full_book, random_book, Kind};
 use plain::chooser::Chooser;

@@ -1,4 +1,4 @@
-//! Two funds on the same tables, held against the plain reckoning of each joined book.
+//! Two funds on the same tables, compared with the plain valuation of each joined book.
 
 use plain::book::{full_book, random_book, Kind};
 use plain::chooser::Chooser;
@@ -19,8 +19,8 @@ fn table_of(book: &[u8]) -> &[u8] {
 
 /// A book's fund file; a book that ends before its records leaves what it has of the first bytes.
 fn fund_of(book: &[u8]) -> Vec<u8> {
-    let front = &book[..FRONT.min(book.len())];
-    [front, book.get(HEADER..).unwrap_or(&[])].concat()
+    let header = &book[..FRONT.min(book.len())];
+    [header, book.get(HEADER..).unwrap_or(&[])].concat()
 }
 
 /// Both outcomes by the archive; numbers from 16 on must stay.
@@ -36,7 +36,7 @@ fn both(table: &[u8], first: &[u8], second: &[u8]) -> [Outcome; 2] {
     [(one, half(0)), (other, half(8))]
 }
 
-/// A fund's outcome by the plain reckoning, on a table file of the right length.
+/// A fund's outcome by the plain valuation, on a table file of the right length.
 fn plain_outcome(table: &[u8], fund: &[u8]) -> Outcome {
     if fund.len() < FRONT {
         return (Err((1, fund.len() as u64)), [MARK; 8]);
@@ -92,7 +92,7 @@ fn neither_fund_bears_on_the_other() {
 }
 
 #[test]
-fn the_longest_fund_file_is_reckoned_on_either_side() {
+fn the_longest_fund_file_is_valued_on_either_side() {
     let book = full_book(&mut Chooser::new(40_712), Kind::Anywhere);
     let fund = fund_of(&book);
     let due = plain_outcome(table_of(&book), &fund);

@@ -1,4 +1,4 @@
-//! One cell on the screen, held against the year tables of the plain reckoning.
+//! In force of one cell, compared with the year tables of the plain valuation.
 
 use plain::book::{make_book, make_shuffled_book, Cell, Values};
 use plain::chooser::Chooser;
@@ -11,7 +11,8 @@ const YEARS: usize = 50;
 /// What no run has.
 const MARK: u64 = u64::MAX;
 
-/// Claims of 10,000,000 in every class and no costs: a cell's outgo is what is in force, in hundreds of billionths.
+/// Claims of 10,000,000 in every class and no costs: a cell's outgo is what is in force, in
+/// hundreds of billionths.
 fn one_cell(chooser: &mut Chooser, chain: usize, length: usize, own: usize) -> Values {
     let mut values = Values::default();
     for rate in values.mortality.iter_mut().flatten() {
@@ -46,7 +47,7 @@ fn assert_refused(book: &[u8], asked: [usize; 4], numbers: usize, number: u64, p
 }
 
 #[test]
-fn a_run_is_that_of_the_plain_reckoning() {
+fn a_run_is_that_of_the_plain_valuation() {
     let mut chooser = Chooser::new(209);
     for turn in 0..8 * CHAINS {
         let (chain, setting) = (turn % CHAINS, turn % 7);

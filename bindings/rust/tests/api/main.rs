@@ -1,4 +1,4 @@
-//! The archive's replies, held against the paper's figures and against the second check and reckoning.
+//! The archive's replies, compared with the paper's figures and the plain valuation.
 
 mod claims_variation;
 mod cost_rates;

@@ -1,4 +1,5 @@
-//! Replies of both sides in one form, so that they can be compared; a book on which they differ is kept.
+//! Replies of both sides in one form, so that they can be compared; a book on which they differ is
+//! kept.
 
 use std::fmt::Debug;
 use std::fs;
@@ -32,7 +33,7 @@ pub fn archive_totals(book: &[u8]) -> Result<Totals, Refusal> {
     })
 }
 
-/// Where the part that is handed back starts in the book.
+/// Where the part that is returned starts in the book.
 pub fn archive_record(book: &[u8], number: usize) -> Result<usize, Refusal> {
     let part = xaropinto::record(book, number).map_err(refusal_of)?;
     assert_eq!(part.len(), 24);

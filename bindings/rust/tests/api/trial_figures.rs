@@ -10,7 +10,8 @@ const PG1A_MEN: usize = 0;
 const PG1B_WOMEN: usize = 3;
 const PG2_MEN: usize = 6;
 
-/// One contract that meets these (premium, claims) year by year, and those of the last from then on.
+/// One contract that meets these (premium, claims) year by year, and those of the last from then
+/// on.
 fn one_contract(amounts: &[(u32, u32)], lapse: u32) -> Vec<Cell> {
     let mut cells: Vec<Cell> = amounts
         .iter()

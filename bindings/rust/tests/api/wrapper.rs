@@ -23,11 +23,11 @@ fn a_refusal_reads_as_the_program_writes_it() {
 }
 
 #[test]
-fn a_listing_tells_the_totals() {
+fn a_listing_has_the_totals() {
     let book = full_book(&mut Chooser::new(8), Kind::Anywhere);
-    let told = xaropinto::totals(&book).expect("a full book is accepted");
+    let reply = xaropinto::totals(&book).expect("a full book is accepted");
     let lines: String = (0..8)
-        .map(|setting| format!("{setting} {} {}\n", told.totals[setting], told.n))
+        .map(|setting| format!("{setting} {} {}\n", reply.totals[setting], reply.n))
         .collect();
     let mut out = [7; 512];
     assert_eq!(xaropinto::listing(&book, &mut out), Ok(lines.len()));

@@ -1,4 +1,4 @@
-//! The year report, held against the year tables of the plain reckoning.
+//! The year report, compared with the year tables of the plain valuation.
 
 use plain::book::{full_book, make_book, random_book, Kind, Values};
 use plain::chooser::Chooser;
@@ -9,7 +9,7 @@ const MOST_REPORT_BYTES: usize = 9_525;
 /// What no report has.
 const MARK: u8 = 0xA5;
 
-/// The room told is the report's length; a buffer of as many bytes takes it, one of a byte more
+/// The length given is the report's length; a buffer of as many bytes takes it, one of a byte more
 /// too, and one of a byte less is refused. The buffer stands in a longer memory.
 fn assert_report(book: &[u8], setting: usize) {
     let due = report_text(book, setting).expect("the book is accepted");
@@ -17,8 +17,8 @@ fn assert_report(book: &[u8], setting: usize) {
     assert!(due.len() <= MOST_REPORT_BYTES);
     for bytes in [due.len(), due.len() + 1] {
         let mut memory = vec![MARK; MOST_REPORT_BYTES + 2];
-        let length =
-            xaropinto::report(book, setting, &mut memory[..bytes]).expect("the buffer is as told");
+        let length = xaropinto::report(book, setting, &mut memory[..bytes])
+            .expect("the buffer is long enough");
         assert_eq!(length, due.len());
         assert!(memory.starts_with(due.as_bytes()));
         assert!(memory[length..].iter().all(|byte| *byte == MARK));

@@ -1,7 +1,6 @@
-"""The verdict stream: named books and random damage, written for the program or tested."""
+"""The stream of the check: named books and random damage, with their verdicts."""
 
 import random
-import sys
 
 from reference.book import random_book
 from reference.check import check
@@ -9,9 +8,8 @@ from tests.fixtures.damage import damaged
 from tests.vectors.check_cases_chain import chain_cases
 from tests.vectors.check_cases_header import Case, header_cases
 from tests.vectors.check_cases_order import order_cases
-from tests.vectors.check_coverage import cover
 from tests.vectors.check_entry import Entry
-from tests.vectors.files import book_frame, run_verbs, stream_output, verdict_line
+from tests.vectors.files import book_frame, stream_output, verdict_line
 
 SEED = 20_201_031
 VALID_BOOKS = 30
@@ -36,7 +34,3 @@ def build():
     stdin = b"".join(book_frame(entry.book) for entry in entries)
     stdout = stream_output(verdict_line(entry.verdict) for entry in entries)
     return entries, stdin, stdout
-
-
-if __name__ == "__main__":
-    sys.exit(run_verbs(__doc__, "test_check", build, cover))

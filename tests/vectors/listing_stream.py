@@ -1,13 +1,11 @@
-"""The listing stream: books with the reply of Totals and the listing, written for the program or tested."""
+"""The stream of listings: books with the reply of Totals and the listing."""
 
-import sys
 from functools import cached_property
 
 from reference.book import read_values
 from reference.valuation import cells_by_group, listing_of, totals
-from tests.vectors.files import book_frame, run_verbs, stream_output
+from tests.vectors.files import book_frame, stream_output
 from tests.vectors.listing_cases import listing_cases
-from tests.vectors.listing_coverage import cover
 
 
 class Entry:
@@ -42,7 +40,3 @@ def build():
     entries = [Entry(case.name, case.book) for case in listing_cases()]
     stdin = b"".join(book_frame(entry.book) for entry in entries)
     return entries, stdin, b"".join(entry.output() for entry in entries)
-
-
-if __name__ == "__main__":
-    sys.exit(run_verbs(__doc__, "test_listing", build, cover))

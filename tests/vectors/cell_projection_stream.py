@@ -1,17 +1,16 @@
-"""The walk stream: how many years the first cell of a chain is reckoned, written for the program or tested."""
+"""The stream of cell projections: how many years the first cell of a chain is computed."""
 
 import random
-import sys
 from typing import NamedTuple
 
-from reference.book import (PG2_MEN, Cell, Portfolio, Values, empty_book, make_book, read_values, realistic_cell,
-                         realistic_tables)
+from reference.book import (PG2_MEN, Cell, Portfolio, Values, empty_book, make_book, read_values,
+                            realistic_cell, realistic_tables)
 from reference.check import check
 from reference.layout import CHAINS, CLASSES, OLDEST_CLASS, SETTINGS
 from reference.valuation import YEARS, years_in_force
 from tests.fixtures.trial_books import contract, in_force_book
 from tests.vectors.check_cases_order import BOOK_REFUSALS, spoiled
-from tests.vectors.files import book_frame, run_verbs, stream_output
+from tests.vectors.files import book_frame, stream_output
 
 PG2_WOMEN = PG2_MEN + 1
 NO_CELL = "none"
@@ -47,7 +46,7 @@ class Entry(NamedTuple):
 
 
 def one_cell_book(first_class, count=1, lapses=None, chain=PG2_MEN):
-    """Contracts of one class alone; nobody dies, and `lapses` maps a year to the lapse of the class reached then."""
+    """Contracts of one class; nobody dies, and `lapses` maps a year to the lapse of its class."""
     cells = [Cell(0, (lapses or {}).get(k, 0), 7, 5) for k in range(CLASSES - first_class)]
     cells[0] = cells[0]._replace(count=count)
     return make_book(Values(portfolios={chain: Portfolio(first_class, tuple(cells))}))
@@ -62,15 +61,19 @@ def cases_by_lapse():
             yield Case(f"chain_{chain}_all_have_left_by_year_{years}", setting, chain, book, years)
     yield Case("nobody_leaves", 0, PG2_MEN, one_cell_book(40), YEARS)
     yield Case("a_later_cell_has_contracts", 0, PG2_MEN,
-               make_book(Values(portfolios={PG2_MEN: Portfolio(119, (Cell(0, 0, 7, 5), Cell(9, 0, 7, 5)))})), 0)
+               make_book(Values(portfolios={PG2_MEN: Portfolio(119,
+                                                               (Cell(0, 0, 7, 5),
+                                                                Cell(9, 0, 7, 5)))})), 0)
 
 
 def cases_by_age():
-    """Who comes to class 120 stays there: for good, or until all leave it, from class 72 on within the fifty years."""
+    """Who comes to class 120 stays there: for good, or until all leave it."""
     for first_class, years in ((120, 1), (117, 4), (116, 5), (72, 49), (71, 50), (0, 50)):
         all_leave = one_cell_book(first_class, 100_000, {OLDEST_CLASS - first_class: 1_000_000})
-        yield Case(f"from_class_{first_class}_until_all_leave_class_120", 0, PG2_MEN, all_leave, years)
-        yield Case(f"from_class_{first_class}_for_good", 0, PG2_MEN, one_cell_book(first_class, 100_000), YEARS)
+        yield Case(f"from_class_{first_class}_until_all_leave_class_120", 0, PG2_MEN, all_leave,
+                   years)
+        yield Case(f"from_class_{first_class}_for_good", 0, PG2_MEN,
+                   one_cell_book(first_class, 100_000), YEARS)
 
 
 def cases_of_remnants():
@@ -78,19 +81,21 @@ def cases_of_remnants():
     tenths = one_cell_book(40, 1, {k: 900_000 for k in range(YEARS)})
     # One contract is 10^9 billionths: a tenth of it stays each year, one billionth in year 9.
     yield Case("a_tenth_stays_each_year", 0, PG2_MEN, tenths, 10)
-    # 1,300 thousandths of 900,000 millionths is all of them; of 700 thousandths 37 in a hundred stay.
+    # 1,300 thousandths of 900,000 millionths is all of them; of 700 thousandths 37 in a hundred
+    # stay.
     yield Case("lapse_up_takes_all", 3, PG2_MEN, tenths, 1)
     yield Case("lapse_down_takes_less", 4, PG2_MEN, tenths, None)
     last = {8: 0} | {k: 900_000 for k in range(8)}
     yield Case("ten_billionths_stay_for_good", 0, PG2_MEN, one_cell_book(40, 1, last), YEARS)
-    yield Case("a_billionth_stays_for_good", 0, PG2_MEN, one_cell_book(40, 1, last | {8: 900_000}), YEARS)
+    yield Case("a_billionth_stays_for_good", 0, PG2_MEN, one_cell_book(40, 1, last | {8: 900_000}),
+               YEARS)
 
 
 def cases_by_death():
-    """Certain death is weighted: in the base 13 men in a hundred live on, in setting 1 none for five years."""
+    """Certain death is weighted: in the base 13 men in 100 live on, in setting 1 none at first."""
     for setting in SETTINGS:
-        yield Case(f"certain_death_in_setting_{setting}", setting, PG2_MEN, in_force_book(1_000_000, 0),
-                   1 if setting == 1 else None)
+        yield Case(f"certain_death_in_setting_{setting}", setting, PG2_MEN,
+                   in_force_book(1_000_000, 0), 1 if setting == 1 else None)
     for k, setting, years in ((4, 0, YEARS), (4, 1, 5), (5, 1, YEARS)):
         man = contract([(7, 5)] * 20)
         mortality = [[0] * CLASSES, [0] * CLASSES]
@@ -126,7 +131,7 @@ def random_cases():
 
 
 def years_of(case):
-    """The years of a case by the second reckoning."""
+    """The years of a case by the reference."""
     asked = case.setting in SETTINGS and case.chain < len(CHAINS)
     if not asked or check(case.book)[0] == "refused":
         return NO_CELL
@@ -143,24 +148,3 @@ def build():
     entries = [Entry(case, years_of(case)) for case in cases]
     stdin = b"".join(entry.frame() for entry in entries)
     return entries, stdin, stream_output(str(entry.years) for entry in entries)
-
-
-def cover(report, entries):
-    """What the stream covers, counted from its cases and their years."""
-    reckoned = [entry for entry in entries if entry.years != NO_CELL]
-    worked = [entry for entry in reckoned if entry.case.worked is not None]
-    wrong = [entry.name for entry in entries if entry.case.worked not in (None, entry.years)]
-    report.test("what was worked by hand", not wrong, wrong[:5])
-    report.test("34 cells worked by hand", len(worked) == 34, len(worked))
-    report.test("22 entries without a cell", len(entries) - len(reckoned) == 22, len(entries) - len(reckoned))
-    for chain in (PG2_MEN, PG2_WOMEN):
-        seen = {entry.years for entry in worked if entry.case.chain == chain}
-        report.covers(f"cells of chain {chain} that end at 0, 1, 4, 5, 49 and never", ENDS, seen)
-    report.covers("every setting", SETTINGS, {entry.case.setting for entry in reckoned})
-    report.covers("every chain", range(len(CHAINS)), {entry.case.chain for entry in reckoned})
-    others = {entry.years for entry in reckoned if entry.case.worked is None}
-    report.test("a dozen different ends among the others", len(others) >= 12, sorted(others))
-
-
-if __name__ == "__main__":
-    sys.exit(run_verbs(__doc__, "test_cell_projection", build, cover))

@@ -1,13 +1,11 @@
-"""The group stream: calls of Group with their replies, written for the program or tested."""
+"""The stream of Group: calls with their replies."""
 
-import sys
 from typing import NamedTuple
 
 from reference.book import read_values
 from reference.valuation import group
-from tests.vectors.files import book_frame, run_verbs, stream_output
+from tests.vectors.files import book_frame, stream_output
 from tests.vectors.group_cases import Call, group_calls, group_of
-from tests.vectors.group_coverage import cover
 
 
 class Entry(NamedTuple):
@@ -48,7 +46,3 @@ def build():
                for call in group_calls()]
     stdin = b"".join(entry.frame() for entry in entries)
     return entries, stdin, stream_output(entry.line() for entry in entries)
-
-
-if __name__ == "__main__":
-    sys.exit(run_verbs(__doc__, "test_group", build, cover))
