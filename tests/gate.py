@@ -26,7 +26,7 @@ TOLD = ("seed ", "largest share")
 
 
 class Part(NamedTuple):
-    """A part of the gate, as docs/REVIEW.md names it: its command, and the fewest tests that it must count."""
+    """A part of the gate, as docs/VERIFICATION.md names it: its command, and the fewest tests that it must count."""
 
     name: str
     command: list

@@ -1,4 +1,4 @@
-"""Writes the one table of refusals into docs/BOOK.md, the header and the Rust wrapper, or tests that they have it."""
+"""Writes the one table of refusals into docs/FILE_FORMAT.md, the header and the Rust wrapper, or tests that they have it."""
 
 import argparse
 import sys
@@ -34,7 +34,7 @@ def in_rust(rows):
 
 
 # Where the table stands, and how its lines are made there.
-COPIES = {"docs/BOOK.md": in_book, "include/xaropinto.h": in_header, "bindings/rust/src/refusals.rs": in_rust}
+COPIES = {"docs/FILE_FORMAT.md": in_book, "include/xaropinto.h": in_header, "bindings/rust/src/refusals.rs": in_rust}
 
 
 def filled(text, lines):

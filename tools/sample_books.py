@@ -27,7 +27,7 @@ def refused_book():
 
 
 def worked_values():
-    """What the book says that docs/RECKONING works through by hand."""
+    """What the book says that docs/WORKED_EXAMPLES works through by hand."""
     values = flat_values(150_000, 0, 0)
     values.curve[:2] = [10_000, -5_000]
     values.mortality[0][118:] = [400_001, 500_000, 1_000_000]
@@ -47,7 +47,7 @@ def edition_2_book():
     return make_book(replace(worked_values(), edition=2, percentages=(80, 79)))
 
 
-# Each sample's name, its bytes and the verdict that README or docs/BOOK tells of it.
+# Each sample's name, its bytes and the verdict that README or docs/FILE_FORMAT tells of it.
 SAMPLES = [
     ("one_record", one_record_book(), "accepted 1"),
     ("worked_example", worked_book(), "accepted 3"),

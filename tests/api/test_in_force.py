@@ -181,7 +181,7 @@ def test_worked(report, library):
             report.test(f"{words} ({side})", run == due, run[:12])
 
     worked = WORKED_EXAMPLE.read_bytes()
-    # docs/RECKONING.md, 'An example by hand' and 'One cell on the screen'.
+    # docs/WORKED_EXAMPLES.md, In force.
     test("cell 1 of the worked example", worked, 118,
          [3_000_000_000, 1_819_075_616, 924_999_950, 60_124_996, 3_908_124, 254_028, 16_511, 1_073, 69, 4] + [0] * 40)
     test("cell 2 of the worked example", worked, 119,

@@ -1,4 +1,4 @@
-"""Tests of the built convert program: what it writes where, its end of input, pieces; what docs/BOOK shows of it."""
+"""Tests of the built convert program: what it writes where, its end of input, pieces; what docs/FILE_FORMAT shows of it."""
 
 import random
 import sys
@@ -69,11 +69,11 @@ class Input(unittest.TestCase):
 
 
 class Shown(unittest.TestCase):
-    """What docs/BOOK shows of the two age bases."""
+    """What docs/FILE_FORMAT shows of the two age bases."""
 
     def is_shown(self, words):
         """The page has these words."""
-        self.assertTrue(words in (ROOT / "docs" / "BOOK.md").read_text(encoding="utf-8"), f"not shown: {words}")
+        self.assertTrue(words in (ROOT / "docs" / "FILE_FORMAT.md").read_text(encoding="utf-8"), f"not shown: {words}")
 
     def test_classes_of_basis_2_in_a_book_of_basis_1(self):
         book = changed((SAMPLES / "newer_basis.book").read_bytes(), (AGE_BASIS, 1))

@@ -25,10 +25,11 @@ README, DOCS = ROOT / "README.md", ROOT / "docs"
 # The notes in docs/landings name paths and edits as they are now, and say where one has moved.
 NOTES = sorted((DOCS / "landings").glob("W-*.md"))
 PAGES = [README, *sorted(DOCS.glob("*.md")), *sorted((DOCS / "landings").glob("*.md")),
-         ROOT / "bindings" / "README.md"]
-PROMISES, REVIEW, DECISIONS = DOCS / "PROMISES.md", DOCS / "REVIEW.md", DOCS / "DECISIONS.md"
+         ]
+PROMISES, REVIEW = DOCS / "TRACEABILITY.md", DOCS / "VERIFICATION.md"
+DECISIONS = DOCS / "DECISIONS.md"
 # In the tables of these pages a name stands after the path or the crate that has it.
-NAMING = [PROMISES, DOCS / "RECKONING.md"]
+NAMING = [PROMISES, DOCS / "METHOD.md"]
 
 LISTED = re.findall(r"^(\w+):(.*)", (ROOT / "crates.txt").read_text(encoding="utf-8"), re.M)
 CRATES = [crate for crate, _ in LISTED]
