@@ -44,25 +44,25 @@ QUICK_PROOFS = Part("proofs and programs", ["rt", "check"], 59)
 # What runs on the proved programs, two parts at once.
 PROGRAMS = [
     script("must-fail edits fit the proof files", "tests.repository.must_fail_reasons", 2),
-    script("documents", "tests.repository.test_documents", 15),
-    script("the gate's own habits", "tests.repository.test_gate", 12),
+    script("behaviour of the gate", "tests.repository.test_gate", 12),
     script("numbers of the promises, against the order", "tests.repository.test_order_figures", 54),
     script("declarations of the calls in four languages", "tests.repository.test_struct_layouts", 20),
     script("refusals, from one table", "tools.refusals", 4, "test"),
-    script("second check, by hand-worked examples", "tests.reference.test_check", 43),
+    script("reference check, by hand-worked examples", "tests.reference.test_check", 43),
     script("stream of the check", "tests.vectors.check", 53, "test"),
-    script("stream of the looker", "tests.vectors.record_view", 12, "test"),
-    script("second reckoning, by hand-worked examples", "tests.reference.test_valuation", 38),
+    script("stream of Record", "tests.vectors.record_view", 12, "test"),
+    script("reference valuation, by hand-worked examples", "tests.reference.test_valuation", 38),
     script("table of weights, entry by entry", "tests.reference.test_table_of_weights", 80),
     script("stream of Group, against the fractions", "tests.vectors.group", 31, "test"),
     script("stream of listings, against the fractions", "tests.vectors.listing", 36, "test"),
-    script("stream of the walk", "tests.vectors.cell_projection", 11, "test"),
+    script("stream of projection lengths", "tests.vectors.cell_projection", 11, "test"),
     script("listing program, by the paper's figures", "tests.programs.test_listing_main", 9),
     script("report program", "tests.programs.test_year_report_main", 9),
     script("convert program, by hand-worked books", "tests.programs.test_age_basis_main", 9),
     script("sample books", "tools.sample_books", 37, "test"),
-    script("random books against the second check", "tests.fuzz.test_check", 17),
-    script("random listings against the second reckoning and the fractions", "tests.fuzz.test_listing", 25),
+    script("random books against the reference check", "tests.fuzz.test_check", 17),
+    script("random listings against the reference valuation and the fractions",
+           "tests.fuzz.test_listing", 25),
 ]
 # What builds the archive and the shared library, and what runs on these once they are built.
 CALLERS = script("callers in C and Rust", "tests.bindings.test_callers", 283)
@@ -74,13 +74,14 @@ CALLS = [
     script("conversions from Python, on random books", "tests.api.test_age_basis", 63),
     script("Write and Read from Python, on random values and lists", "tests.api.test_write_read", 31),
     script("two funds from Python, on random pairs", "tests.api.test_funds", 83),
-    script("one cell on the screen from Python, on random cells", "tests.api.test_in_force", 27),
+    script("in force of a cell from Python, on random cells", "tests.api.test_in_force", 27),
     script("spread of claims from Python, on random claims", "tests.api.test_claims_variation", 32),
     script("deviations from Python, on random books and risk models", "tests.api.test_standard_deviation", 50),
     script("practice books from Python, on random start numbers", "tests.api.test_practice_book", 19),
-    script("the command's habits", "tests.cli.test_habits", 15),
-    script("the command's answers, against the second reading", "tests.cli.test_figures", 19),
+    script("the command's behaviour", "tests.cli.test_habits", 15),
+    script("the command's answers, against the reference", "tests.cli.test_figures", 19),
     script("what is installed", "tests.cli.test_installed", 8),
+    script("documents", "tests.repository.test_documents", 15),
 ]
 PARTS = [PROOFS, *PROGRAMS, CALLERS, *CALLS]
 # The module that reads what the prover said of each edit; those whose inputs are drawn; and those
