@@ -11,11 +11,12 @@
  * - The caller owns every buffer. No call keeps a pointer, and none allocates.
  * - The thread has enough stack: docs/API.md says how much for each call.
  *
- * Every reply begins with `refusal` and `place`. Refusal 0 means accepted. Otherwise `refusal` is
- * the broken rule, `place` is where, every other field is 0, and no buffer is changed. The order in
- * which a call tests its refusals is given with it; 'the book's' are 1 to 13 and 23, in the order
- * of docs/FILE_FORMAT.md. xaropinto_refusal_text has each rule in words. No call relies on an
- * earlier one: each checks the whole book.
+ * Every reply, of Funds each fund's, begins with `refusal` and `place`. Refusal 0 means accepted.
+ * Otherwise `refusal` is the broken rule, `place` is where, every other field is 0, and no buffer
+ * (of Funds: that fund's half) is changed. The order in which a call tests its refusals is given
+ * with it; 'the book's' are 1 to 13 and 23, in the order of docs/FILE_FORMAT.md.
+ * xaropinto_refusal_text has each rule in words. No call relies on an earlier one: each checks the
+ * whole book.
  *
  * Amounts of a book are centimes, those of accounts whole francs. */
 #ifndef XAROPINTO_H
@@ -258,7 +259,7 @@ xaropinto_cost_rates_reply xaropinto_cost_rates(xaropinto_accounts accounts);
  * line. Bytes after the text are unchanged. */
 xaropinto_report_reply xaropinto_report(const uint8_t *book, size_t length, size_t setting, uint8_t *out, size_t bytes);
 
-/* Report room: the length of the report of this book and setting, to the byte, at most
+/* Report length: that of the report of this book and setting, to the byte, at most
  * XAROPINTO_MOST_REPORT_BYTES. Nothing is written. Refusals 14, then the book's. */
 xaropinto_report_reply xaropinto_report_room(const uint8_t *book, size_t length, size_t setting);
 

@@ -15,7 +15,7 @@ BEGIN, END = "refusals: begin", "refusals: end"
 
 def in_book(rows):
     """A table's lines."""
-    head = ["| number | rule | place | owner | example |", "|---|---|---|---|---|"]
+    head = ["| number | rule | place | owner | broken by |", "|---|---|---|---|---|"]
     return head + [f"| {row.number} | {row.rule} | {row.place} | {row.mended_by} | {row.example} |" for row in rows]
 
 
