@@ -26,10 +26,12 @@ ENTRY = re.compile(r"- \*\*D(\d+)\*\* ")
 
 # Words of a private dialect, and the standard ones.
 WORDS = {
-    r"reckon\w*": "compute, valuation", r"lent|lends?|lending": "passed", r"told|tells?": "reported",
+    r"reckon\w*": "compute, valuation", r"lent|lends?|lending": "passed",
+    r"told|tells?": "reported",
     r"hand(?:s|ed|ing)? (?:back|on|over)": "returned, forwarded",
     r"mend(?:s|ed|ing)?": "owner, responsible, corrected", r"desks?": "department",
-    r"at the counter": "on the command line", r"(?:the|our|a|of the) house|house rules?": "own rule",
+    r"at the counter": "on the command line",
+    r"(?:the|our|a|of the) house|house rules?": "own rule",
     r"rooms?": "directory, space", r"way of a number": "data flow",
     r"second (?:reading|reckoning|check|desk|maker)s?": "reference implementation",
     r"walk(?:s|ed|ing)?": "project", r"settl(?:e|es|ed|ing)": "value",
@@ -48,8 +50,8 @@ GENERATED = ("refusals: begin", "refusals: end")
 STACK = r"\b\d+ KiB\b|\b(?:33,480|34,472|52,824|62,488|76,648|64,520|23,512)\b"
 DISTANCE = r"\b(?:500|250|240|179) n\b|\+ (?:2,850|14,250|1,425|7,125|1,641|8,205|1,371|6,855)\b"
 TIME = r"\b\d+(?: to \d+)? (?:seconds|minutes|hours)\b"
-ONE_FILE = [(API, "a stack figure", STACK), (ERROR_BOUND, "a constant of the error bound", DISTANCE),
-            (CONTRIBUTING, "a time", TIME)]
+ONE_FILE = [(API, "a stack figure", STACK), (CONTRIBUTING, "a time", TIME),
+            (ERROR_BOUND, "a constant of the error bound", DISTANCE)]
 
 
 def lengths():

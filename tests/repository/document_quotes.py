@@ -64,7 +64,8 @@ def outputs(commands):
             path.chmod(0o755)
         Path(folder, "samples").symlink_to(ROOT / "samples")
         # The library is the one beside the package, whatever the caller's environment names.
-        environment = {key: value for key, value in os.environ.items() if key != "XAROPINTO_LIBRARY"}
+        environment = dict(os.environ)
+        environment.pop("XAROPINTO_LIBRARY", None)
         environment["PATH"] = f"{folder}:{environment['PATH']}"
         for command in commands:
             run = subprocess.run(["sh", "-c", command], cwd=folder, env=environment, check=False,
@@ -153,5 +154,6 @@ def files_shown():
     for page in PAGES:
         for match in READS.finditer(text_of(page)):
             block = "".join(line[4:] for line in match[2].splitlines(keepends=True))
-            holds = found(match[1]) is not None and text_of(found(match[1])).strip() == block.strip()
+            file = found(match[1])
+            holds = file is not None and text_of(file).strip() == block.strip()
             yield str(page.relative_to(ROOT)), holds, f"{match[1]} reads otherwise"

@@ -95,7 +95,7 @@ def cells(page):
 
 
 def points(page):
-    """The points of a page's lists, each with the lines that continue it: the place, and the text."""
+    """The points of a page's lists, each with its further lines: the place, and the text."""
     held = None
     for where, line in [*lines(page), ("", "")]:
         if held and line.startswith("  "):
