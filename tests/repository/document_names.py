@@ -76,11 +76,18 @@ def paths():
             yield where, found(path) is not None, f"there is no {path}"
 
 
+def anchors(page):
+    """The anchors that the headings of a page make."""
+    headings = re.findall(r"^#+ (.*)", text_of(page), re.M)
+    return {re.sub(r"[^\w -]", "", heading.lower()).replace(" ", "-") for heading in headings}
+
+
 def links():
-    """Links of the documents lead to a file."""
-    for where, match in matches(r"\]\((?!\w+:)([^)#\s]+)"):
-        folder = (ROOT / where.rpartition(":")[0]).parent
-        yield where, (folder / match[1]).exists(), f"the link to {match[1]} leads nowhere"
+    """Links of the documents lead to a file, and to a heading in it."""
+    for where, match in matches(r"\]\((?!\w+:)([^)#\s]+)(?:#([^)]*))?"):
+        target = ((ROOT / where.rpartition(":")[0]).parent / match[1]).resolve()
+        holds = target.exists() and (match[2] is None or match[2] in anchors(target))
+        yield where, holds, f"the link to {match[1]}#{match[2] or ''} leads nowhere"
 
 
 def edits():

@@ -27,6 +27,7 @@ LONG = "word " * 50
 BREAKS = [
     (names.paths, README, "samples/full.book", "samples/fuller.book"),
     (names.links, README, "(docs/API.md)", "(docs/APIS.md)"),
+    (names.links, TRACEABILITY, "### Cap", "### The cap"),
     (names.edits, TRACEABILITY, "totals/leaves_out_a_group", "totals/leaves_out_no_group"),
     (names.notes, NOTE, "158 s after", "some time after"),
     (names.names, TRACEABILITY, "`accepted-held`", "`accepted-hold`"),
