@@ -81,7 +81,7 @@ CALLS = [
     script("the command's behaviour", "tests.cli.test_habits", 15),
     script("the command's answers, against the reference", "tests.cli.test_figures", 19),
     script("what is installed", "tests.cli.test_installed", 8),
-    script("documents", "tests.repository.test_documents", 56),
+    script("documents", "tests.repository.test_documents", 57),
 ]
 PARTS = [PROOFS, *PROGRAMS, CALLERS, *CALLS]
 # The module that reads what the prover said of each edit; those whose inputs are drawn; and those

@@ -74,19 +74,20 @@ def widths():
 
 
 def own_lines(page):
-    """The lines that a document says itself: no output of a command, nothing generated."""
+    """The lines that a document says itself: no output of a command, no code, nothing generated."""
     shown = generated = False
     for where, line in lines(page):
         generated = (generated or GENERATED[0] in line) and GENERATED[1] not in line
         shown = line.startswith("    ") and (shown or line.startswith("    $ "))
-        if not generated and not shown:
+        code = page == HEADER and not line.startswith(("/*", " *"))
+        if not generated and not shown and not code:
             yield where, line
 
 
 def words():
-    """Documents have the field's standard words."""
+    """Documents and the header's comments have the field's standard words."""
     said = list(WORDS.values())
-    for page in [*PAGES, MAN_PAGE]:
+    for page in [*PAGES, MAN_PAGE, HEADER]:
         for where, line in own_lines(page):
             match = FORBIDDEN.search(NAMES.sub(lambda name: "`" * len(name[0]), line))
             better = said[int(match.lastgroup[1:])] if match else ""

@@ -43,6 +43,7 @@ BREAKS = [
     (form.words, METHOD, "how the other figures are defined", "how they are reckoned"),
     (form.words, GUIDE, "compare the portfolio with your own counts", "look at your sheets"),
     (form.words, VERIFICATION, "its buffers, and terminates", "what was lent, and ends"),
+    (form.words, form.HEADER, "The caller owns every buffer.", "The caller owns what it lends."),
     (form.one_file, CHANGELOG, "Totals and Funds take less stack.", "Totals takes 64 KiB."),
     (form.one_file, CHANGELOG, "Totals and Funds take less stack.", "Totals takes 34,472 bytes."),
     (form.one_file, README, "It also needs g++", "It is within 500 n + 2,850, and needs g++"),
