@@ -35,7 +35,9 @@ WORDS = {
     r"rooms?": "directory, space", r"way of a number": "data flow",
     r"second (?:reading|reckoning|check|desk|maker)s?": "reference implementation",
     r"walk(?:s|ed|ing)?": "project", r"settl(?:e|es|ed|ing)": "value",
-    r"look(?:s|ed|ing)? at|lookers?": "view", r"sheets?": "lines, file",
+    r"look(?:s|ed|ing)? at|lookers?": "view",
+    # A workbook has sheets; costs, years and departments have none.
+    r"(?:cost|year|your|reviewer's|for a) sheets?": "lines, file",
     r"(?:the|a|in) front": "header", r"must believe": "for auditors",
     r"nothing comes of nothing": "once in force is 0 it stays 0",
 }

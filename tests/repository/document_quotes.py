@@ -123,11 +123,13 @@ def in_sources(piece):
 
 
 def quoted(span):
-    """Whether a span in backticks is a path, a command, a refusal, or is in the sources."""
+    """Whether a span in backticks is a path, a command, a refusal, a number, or in the sources."""
     refusal = REFUSAL.fullmatch(span)
     if refusal:
         return int(refusal[1]) in refusals()
     edit = span.replace("/", "/must-fail/") + ".edit"
+    if not re.search(r"[^\W\d]", span):
+        return True
     if COMMAND.match(span) or FUNCTION.match(span) or found(edit) or found(span.rstrip("/")):
         return True
     pieces = [squeezed(piece.replace("\\|", "|")) for piece in span.split("...")]
