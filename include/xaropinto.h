@@ -1,64 +1,24 @@
-/* The calls on a parameter book, and on the accounts that its cost rates come from, for C and C++ on x86-64
- * (System V). Link with libxaropinto.a or libxaropinto.so.
+/* Xaropinto: the SST long-term health liability valuation, for C and C++ on x86-64 (System V).
+ * Link with libxaropinto.a or libxaropinto.so. Each function is documented at its declaration;
+ * docs/API.md has memory, threads and stack in full, docs/FILE_FORMAT.md the format of a book,
+ * docs/METHOD.md the figures.
  *
- * docs/BOOK.md has the book's format, docs/RECKONING.md the reckoning. Amounts of a book are centimes, those of
- * accounts whole francs.
+ * No call has a precondition beyond these rules for memory:
+ * - A pointer is valid for the length passed with it, and may be null if that is 0. Tables, lists
+ *   and numbers are aligned for uint64_t; byte buffers may start anywhere.
+ * - What a call writes overlaps nothing else that is passed, and no other thread uses it, or writes
+ *   to the input, during the call. Calls may run concurrently and share a book.
+ * - The caller owns every buffer. No call keeps a pointer, and none allocates.
+ * - The thread has enough stack: docs/API.md says how much for each call.
  *
- * Buffers. The caller owns all that it lends. A call only reads the book. Group writes to numbers 0 to 199 of the
- * table, Listing and Report to the first bytes of their buffer, Convert to as many first bytes of `out` as the book
- * has, Write and Practice to as many as the book has that they make, Read to as many first numbers of each list as the
- * book has linked records, Funds to numbers 0 to 7 and 8 to 15, In force to the first 50 of its numbers; nothing else
- * is written. Accounts, values and risk models are handed over by value: no call sees the caller's own. No call keeps a
- * pointer after it returns, and none allocates.
+ * Every reply, of Funds each fund's, begins with `refusal` and `place`. Refusal 0 means accepted.
+ * Otherwise `refusal` is the broken rule, `place` is where, every other field is 0, and no buffer
+ * (of Funds: that fund's half) is changed. The order in which a call tests its refusals is given
+ * with it; 'the book's' are 1 to 13 and 23, in the order of docs/FILE_FORMAT.md.
+ * xaropinto_refusal_text has each rule in words. No call relies on an earlier one: each checks the
+ * whole book.
  *
- * Pointers. Each must be valid for its length; where that is 0 it may be null, as that of an empty std::vector is.
- * The table, the lists and the numbers of Funds and In force must be aligned for uint64_t; a buffer of bytes may start
- * anywhere. What is written must overlap neither the book nor anything else that is lent at the time; lists that Write
- * only reads may be one and the same, and so may the files of Funds.
- *
- * Threads. Calls may run at the same time in several threads. While a call runs, no other thread may write to its
- * book or to lists that are only read, nor read or write what the call writes. Calls may share a book; each call that
- * writes needs a table, buffer or lists of its own.
- *
- * Stack. A call takes what it needs from the caller's stack, and no proof says how much. A process that runs out of
- * stack stops. Beside what its own functions need, give a thread 96 KiB for Report, 80 KiB for Report room, 64 KiB for
- * Totals, 48 KiB for Group and for In force, 16 KiB for the cost rates, for Write and for Read, 8 KiB for the others.
- * Measured: 62,488 bytes; 52,824; 34,472; 33,480 and 23,512; in a first call that is bound as it is called, 5,735,
- * 10,872 and 8,248; and 3,319. Funds joins a book there, and Practice keeps its lists there: give them 128 KiB and
- * 96 KiB; measured are 76,648 and 64,520 bytes. Give Deviation and Listing, which call Totals, as much as Totals.
- *
- * Replies. A refusal of 0 means accepted. Otherwise `refusal` says which rule is broken and `place` where; every
- * other field of the reply is 0, and what was lent is as it was; of Funds, that fund's half of the numbers. No earlier
- * call is trusted: each checks the whole book, or all accounts.
- *
- * `xaropinto_refusal_text` has for each refusal the rule that is broken, what `place` then is, and who mends it;
- * docs/BOOK.md has the same table with an example of each.
- *
- * Where several rules are broken, the reply names one. 14 to 16 are tested first, in this order; then 1 to 8, also in
- * order, and where a number has several places it is given with the lowest. 23 is tested in edition 2 where 4 looks at
- * bytes 6-7: after the other places of 4, and before 5. 9 to 13 come last, chain by chain and record by record:
- * docs/BOOK.md has their order. 20 is tested after all of them. 17 to 19 are those of accounts, and are tested in this
- * order: 17 on all figures before 18 on any. Convert alone reads books on age basis 2: there 3 means a basis that is
- * not 2, 11 and 13 go by class 121 in place of 120, and 21 is tested between 10 and 11.
- *
- * Write refuses values and lists, not a book: each time with place 0, and in the order 11 (a first class above 121),
- * 22, 2, 4 (the year; a percentage in edition 1), 23 (in edition 2), 6, 7, 8, 12. Read refuses the book first, then
- * gives 22.
- *
- * Funds refuses each fund by itself, save for 16 and 24, which are both funds' and come first, in this order. Then a
- * fund file of under 56 bytes is 1 with its own length; any other is refused as its joined book, with places there.
- *
- * In force gives 14, then 25, then the refusals of the book, then 26.
- *
- * 27 and 28 are given by Spread alone, which takes yearly claims and two sample factors, all by value; 27 comes first.
- *
- * Doubles. Spread alone works with them. It leans on what a process starts with: rounding to nearest, at a tie to
- * even, and no trap on an operation that is inexact or invalid. Whoever has changed that sets it back before the call.
- *
- * Deviation refuses the book first, and then gives 29, 30 or 31, tested in this order.
- *
- * Practice refuses a buffer of under 41,876 bytes with 16, and then the start number 0 with 32.
- */
+ * Amounts of a book are centimes, those of accounts whole francs. */
 #ifndef XAROPINTO_H
 #define XAROPINTO_H
 
@@ -73,10 +33,10 @@
 #define XAROPINTO_LAST_CLASS 120
 #define XAROPINTO_SETTINGS 8
 #define XAROPINTO_PRODUCT_GROUPS 5
-/* The longest book. Whoever reads a file takes one byte more, to see that it runs on. */
+/* The longest book. Read a file up to one byte more, to notice that it is too long. */
 #define XAROPINTO_LONGEST_BOOK (XAROPINTO_HEADER_BYTES + XAROPINTO_RECORD_BYTES * XAROPINTO_MOST_RECORDS)
 
-/* Where fields stand in the header, and in a record. docs/BOOK.md has their sizes and ranges. */
+/* Positions of fields in the header and in a record; sizes and ranges: docs/FILE_FORMAT.md. */
 #define XAROPINTO_EDITION_AT 0
 #define XAROPINTO_AGE_BASIS_AT 1
 #define XAROPINTO_SST_YEAR_AT 2
@@ -113,7 +73,7 @@
 /* The years of accounts. */
 #define XAROPINTO_ACCOUNT_YEARS 3
 
-/* What a fund file has before its records, the table file, and the numbers of two funds. */
+/* The bytes of a fund file before its records, the table file, and the numbers of two funds. */
 #define XAROPINTO_FUND_FRONT_BYTES XAROPINTO_CURVE_AT
 #define XAROPINTO_TABLE_FILE_BYTES (XAROPINTO_HEADER_BYTES - XAROPINTO_CURVE_AT)
 #define XAROPINTO_FUNDS_NUMBERS 16
@@ -121,21 +81,21 @@
 /* The risk factors: mortality, lapse, costs and claims, in this order. */
 #define XAROPINTO_FACTORS 4
 
-/* The version of this header and of the library that came with it. */
+/* The version of this header and of its library. */
 #define XAROPINTO_VERSION "2.0.0"
 
 #ifdef __cplusplus
 extern "C" {
 #endif
 
-/* n: how many linked records of the book have a count that is not 0. */
+/* n: the number of linked records with a count other than 0. */
 typedef struct {
     uint64_t refusal;
     uint64_t place;
     uint64_t n;
 } xaropinto_verdict;
 
-/* liability: of the product group, negative where it is a credit. n: as above, of the group's records. */
+/* liability: of the product group, negative if it is a credit. n: as above, of the group. */
 typedef struct {
     uint64_t refusal;
     uint64_t place;
@@ -143,7 +103,8 @@ typedef struct {
     uint64_t n;
 } xaropinto_group_reply;
 
-/* totals: by setting. differences: setting 1 less 2, 3 less 4, 5 less 6, 7 less 0. n: of the book. */
+/* totals: by setting. differences: setting 1 less 2, 3 less 4, 5 less 6, 7 less 0. n: of the book.
+ * */
 typedef struct {
     uint64_t refusal;
     uint64_t place;
@@ -152,7 +113,7 @@ typedef struct {
     int64_t differences[4];
 } xaropinto_totals_reply;
 
-/* start: the place in the book of the record's first byte. length: 24. */
+/* start: the position of the record's first byte in the book. length: 24. */
 typedef struct {
     uint64_t refusal;
     uint64_t place;
@@ -160,8 +121,9 @@ typedef struct {
     uint64_t length;
 } xaropinto_record_reply;
 
-/* Three years of accounts: the expenses of a year, adjusted but not yet lowered by 5 percent; and by year and product
- * group, PG1 first, the stock in contracts, claims and premium. All but the stock in whole francs. */
+/* Three years of accounts. expenses: of a year, adjusted to the five product groups but not yet
+ * lowered by 5 percent. stock: contracts, by year and product group, PG1 first; so claims and
+ * premium, in whole francs. */
 typedef struct {
     uint64_t expenses[XAROPINTO_ACCOUNT_YEARS];
     uint64_t stock[XAROPINTO_ACCOUNT_YEARS][XAROPINTO_PRODUCT_GROUPS];
@@ -169,24 +131,26 @@ typedef struct {
     uint64_t premium[XAROPINTO_ACCOUNT_YEARS][XAROPINTO_PRODUCT_GROUPS];
 } xaropinto_accounts;
 
-/* rates: PG1 to PG5, in millionths of premium, each at most 1,000,000. They are a book's cost rates as they are. */
+/* rates: PG1 to PG5, in millionths of premium, each at most 1,000,000: valid cost rates of a book.
+ * */
 typedef struct {
     uint64_t refusal;
     uint64_t place;
     uint64_t rates[XAROPINTO_PRODUCT_GROUPS];
 } xaropinto_cost_rates_reply;
 
-/* length: of the listing or report written, or of the buffer that a report wants. */
+/* length: of the listing or report. */
 typedef struct {
     uint64_t refusal;
     uint64_t place;
     uint64_t length;
 } xaropinto_report_reply;
 
-/* What a book says before its records, and where its chains begin; all numbers have 64 bits, so that none is cut before
- * it is tested. percentages: mortality of men and of women, both 0 in edition 1. cost_rates: PG1 to PG5. curve: the
- * rates for k = 1 to 49. mortality: classes 0 to 120 of men, then of women. first_classes: of the 14 chains in the
- * order of their heads, 121 for a chain that has no records. */
+/* The content of a book before its records, and where its chains begin. percentages: mortality of
+ * men and of women, both 0 in edition 1. cost_rates: PG1 to PG5. curve: the rates for k = 1 to 49.
+ * mortality: classes 0 to 120 of men, then of women. first_classes: of the 14 chains in the order
+ * of their heads, 121 for a chain without records. All numbers have 64 bits, so that none is cut
+ * before it is tested. */
 typedef struct {
     uint64_t edition;
     uint64_t percentages[XAROPINTO_SEXES];
@@ -197,33 +161,33 @@ typedef struct {
     uint64_t first_classes[XAROPINTO_CHAINS];
 } xaropinto_values;
 
-/* length: of the book that was written, by Write or by Practice. */
+/* length: of the book that Write or Practice made. */
 typedef struct {
     uint64_t refusal;
     uint64_t place;
     uint64_t length;
 } xaropinto_write_reply;
 
-/* values: of the book that was read. */
+/* values: of the book. */
 typedef struct {
     uint64_t refusal;
     uint64_t place;
     xaropinto_values values;
 } xaropinto_read_reply;
 
-/* Each fund's own verdict; one's refusal does not hold back the other. */
+/* Each fund's own verdict; a refusal of one does not affect the other. */
 typedef struct {
     xaropinto_verdict first;
     xaropinto_verdict second;
 } xaropinto_funds_reply;
 
-/* What In force has to say beside its numbers. */
+/* In force returns its numbers in a buffer. */
 typedef struct {
     uint64_t refusal;
     uint64_t place;
 } xaropinto_in_force_reply;
 
-/* Yearly claims per contract in whole centimes: a five-number summary, from the lowest to the highest. */
+/* Yearly claims per contract in whole centimes: a five-number summary. */
 typedef struct {
     uint64_t lowest;
     uint64_t first_quartile;
@@ -232,8 +196,8 @@ typedef struct {
     uint64_t highest;
 } xaropinto_summary;
 
-/* level: 1 where the lowest claims equal the highest, else 0. mean: in centimes, exact. coefficient: the deviation over
- * the mean, 0 where level is 1. Both are finite and not below zero. */
+/* level: 1 if the lowest claims equal the highest, else 0. mean: in centimes, exact. coefficient:
+ * the deviation over the mean, 0 if level is 1. Both are finite and not negative. */
 typedef struct {
     uint64_t refusal;
     uint64_t place;
@@ -242,7 +206,7 @@ typedef struct {
     double coefficient;
 } xaropinto_spread_reply;
 
-/* coefficients: of variation, in millionths. correlation: of the factors, in thousandths, by row and column. */
+/* coefficients: of variation, in millionths. correlation: in thousandths, by row and column. */
 typedef struct {
     uint64_t coefficients[XAROPINTO_FACTORS];
     int64_t correlation[XAROPINTO_FACTORS][XAROPINTO_FACTORS];
@@ -255,125 +219,133 @@ typedef struct {
     uint64_t deviation;
 } xaropinto_deviation_reply;
 
-/* Check: is this a book? Refusals 1 to 13 and 23. */
+/* Check: whether the bytes are a valid book. Refusals: the book's. */
 xaropinto_verdict xaropinto_check(const uint8_t *book, size_t length);
 
-/* Group: the liability of one product group, PG1 to PG5, in one setting. Refusals 14, 15, 16, then 1 to 13 and 23.
+/* Group: the liability of one product group, 1 to 5, in one setting, 0 to 7. Refusals 14, 15, 16
+ * (a table of less than XAROPINTO_TABLE_NUMBERS numbers), then the book's.
  *
- * `numbers` is how many numbers the table has. Where accepted, year k from 0 to 49 has four from number 4 k on:
- * premium after the cap, outgo, discounted premium, discounted outgo. Numbers from 200 on are as they were.
+ * `numbers` is the length of the table. Year k, 0 to 49, has the four numbers from 4 k: premium
+ * after the cap, outgo, discounted premium, discounted outgo. Later numbers are unchanged.
  *
- * The liability is at most 500 n + 2,850 centimes away from its exact value, which no step has rounded; at most
- * 250 n + 1,425 where none of the book's 49 curve rates is below zero. */
+ * The distance of the liability from its exact, unrounded value is bounded: docs/ERROR_BOUND.md. */
 xaropinto_group_reply xaropinto_group(const uint8_t *book, size_t length, size_t setting, size_t group,
                                       uint64_t *table, size_t numbers);
 
-/* Totals: the liabilities of the five product groups added, in each of the eight settings. Refusals 1 to 13 and
- * 23.
- *
- * Each total is at most 500 n + 14,250 centimes away from its exact value; at most 250 n + 7,125 where none of the
- * book's 49 curve rates is below zero. */
+/* Totals: the liabilities of the five product groups added, in each of the eight settings.
+ * Refusals: the book's. The distance of each total from its exact value is bounded:
+ * docs/ERROR_BOUND.md. */
 xaropinto_totals_reply xaropinto_totals(const uint8_t *book, size_t length);
 
-/* Listing: the text to file, a line for each setting with its number, its total and n. Refusals 1 to 13 and 23, then
- * 20.
+/* Listing: the text to file, a line for each setting with its number, its total and n. Refusals:
+ * the book's, then 20 if `bytes`, the length of `out`, is less than the text's.
  *
- * `bytes` is how many bytes `out` has. The reply's length is that of the text, never above
- * XAROPINTO_MOST_LISTING_BYTES; bytes after it are as they were. 20 where the buffer is shorter than the text. */
+ * XAROPINTO_MOST_LISTING_BYTES are always enough. Bytes after the text are unchanged. */
 xaropinto_report_reply xaropinto_listing(const uint8_t *book, size_t length, uint8_t *out, size_t bytes);
 
-/* Record: where record `number`, counted from 1, stands in the book, linked or not. Refusals 1 to 13 and 23; then 9
- * with place 0, the caller's, where the number is 0 or above N. */
+/* Record: the position of record `number`, counted from 1, linked or not. Refusals: the book's;
+ * then 9 with place 0 if the number is 0 or above the number of records. */
 xaropinto_record_reply xaropinto_record(const uint8_t *book, size_t length, size_t number);
 
-/* Cost rates: those of the five product groups, out of three years of accounts. Refusals 17, 18, 19, with place 0. */
+/* Cost rates: those of the five product groups, from three years of accounts. Refusals 17 (tested
+ * on all figures first), 18, 19, with place 0. */
 xaropinto_cost_rates_reply xaropinto_cost_rates(xaropinto_accounts accounts);
 
-/* Report: the fifty years of all product groups in one setting, as text. Refusals 14, then 1 to 13 and 23, then 20.
+/* Report: the fifty years of all product groups in one setting, as text. Refusals 14, the book's,
+ * then 20 if `bytes`, the length of `out`, is less than the text's.
  *
- * `bytes` is how many bytes `out` has. Where accepted, they begin with the line "group,year,premium,outgo" and 250
- * lines of these four numbers, commas between: groups 1 to 5, in each the years 0 to 49, the premium after the cap.
- * Byte 10 ends every line. The reply's length is that of the text; bytes after it are as they were. */
+ * The text is the line "group,year,premium,outgo" and 250 lines of these four numbers with commas
+ * between: groups 1 to 5, in each the years 0 to 49, the premium after the cap. Byte 10 ends every
+ * line. Bytes after the text are unchanged. */
 xaropinto_report_reply xaropinto_report(const uint8_t *book, size_t length, size_t setting, uint8_t *out, size_t bytes);
 
-/* Report room: how many bytes Report wants of its buffer, for this book and setting: the report's length, to the byte,
- * and at most 9,525. A buffer of so many bytes holds the report and nothing else. Nothing is written. Refusals 14, then
- * 1 to 13 and 23. */
+/* Report length: that of the report of this book and setting, to the byte, at most
+ * XAROPINTO_MOST_REPORT_BYTES. Nothing is written. Refusals 14, then the book's. */
 xaropinto_report_reply xaropinto_report_room(const uint8_t *book, size_t length, size_t setting);
 
-/* Convert: a book on age basis 2 turned into basis 1. Refusals 16, then 1 to 13, 21 and 23 as read on basis 2.
+/* Convert: a book on age basis 2 converted to basis 1. Refusals 16 if `room`, the length of `out`,
+ * is less than `length`; then the book's on basis 2: 3 if the basis is not 2, 11 and 13 with class
+ * 121 instead of 120, and 21 between 10 and 11.
  *
- * `room` is how many bytes `out` has. Where accepted, its first `length` bytes become the converted book: byte 1 is 1,
- * the class of every linked record is one less, all else is as in the book. Later bytes are as they were. Check then
- * accepts the converted book with the same n. */
+ * The first `length` bytes of `out` become the converted book: byte 1 is 1, the class of every
+ * linked record is one less, all else is copied. Later bytes are unchanged. Check accepts the
+ * result with the same n. */
 xaropinto_verdict xaropinto_convert(const uint8_t *book, size_t length, uint8_t *out, size_t room);
 
-/* Write: the book of these values and lists, into the first bytes of `out`, which has room for so many. Refusals 11,
- * 22, 2, 4, 23, 6, 7, 8, 12, each with place 0.
+/* Write: the book of these values and lists, into the first bytes of `out`, which has `room` bytes.
+ * Refusals, all with place 0: 11 (a first class above 121), 22, 2, 4 (the year; a percentage in
+ * edition 1), 23 (in edition 2), 6, 7, 8, 12.
  *
- * Count, lapse, premium and claims are four lists of numbers. Each holds the lists of the chains end to end, in the
- * order of the heads; a chain's has 121 less its first class, by rising class. 22 where one is shorter or longer than
- * that, or where `out` has no room for the book: 1,220 bytes and 24 for each number of a list. */
+ * Each list holds the chains one after the other, in the order of the heads, by rising class: 121
+ * less its first class numbers for a chain. 22 if a list is shorter or longer, or if `out` is
+ * shorter than the book: 1,220 bytes and 24 for each record. Lists may be the same memory. */
 xaropinto_write_reply xaropinto_write(xaropinto_values values, const uint64_t *counts, size_t counts_length,
                                       const uint64_t *lapses, size_t lapses_length, const uint64_t *premiums,
                                       size_t premiums_length, const uint64_t *claims, size_t claims_length,
                                       uint8_t *out, size_t room);
 
-/* Read: the values of a book, and its lists as Write takes them. Records that no chain links are left out. Refusals 1
- * to 13 and 23; then 22 where a list has room for fewer numbers than the book has linked records.
- * XAROPINTO_MOST_RECORDS are enough for any book. What Read gives of a book in chain order Write makes into the same
- * bytes again. */
+/* Read: the values of a book, and its lists as Write takes them, without unlinked records.
+ * Refusals: the book's; then 22 if a list has fewer numbers than the book has linked records.
+ * XAROPINTO_MOST_RECORDS are always enough. Write makes the same bytes from what Read returns of a
+ * book in order. Later numbers of a list are unchanged. */
 xaropinto_read_reply xaropinto_read(const uint8_t *book, size_t length, uint64_t *counts, size_t counts_length,
                                     uint64_t *lapses, size_t lapses_length, uint64_t *premiums,
                                     size_t premiums_length, uint64_t *claims, size_t claims_length);
 
-/* Funds: two funds on the same tables. `table` is bytes 56 to 1,219 of a book; `first` and `second` are each bytes 0 to
- * 55 and the records. A fund's joined book is the first 56 bytes of its file, the table file, and the rest of its file.
- * Refusals 16 and 24, for both funds; then for each 1, for under 56 bytes, and what its joined book is refused for: 2
- * to 13 and 23.
+/* Funds: two funds on the same tables. `table` is bytes 56 to 1,219 of a book; `first` and `second`
+ * are each bytes 0 to 55 and the records. A fund's joined book is the first 56 bytes of its file,
+ * the table file, and the rest of its file. Refusals of both funds: 16 (less than
+ * XAROPINTO_FUNDS_NUMBERS numbers), 24 (the table file's length); then of each fund 1, with its own
+ * length, for less than 56 bytes, and the book's, 2 to 13 and 23, with places of the joined book.
  *
- * `count` is how many numbers there are. Where the first fund is accepted, numbers 0 to 7 become the totals of its
- * joined book by setting; where the second is, 8 to 15 those of its own. All others are as they were, a refused fund's
- * among them. Nothing in one fund's file changes the other's verdict or numbers. How far a total can be from its exact
- * value is as for Totals, n being the fund's; the curve rates are those of the table file. */
+ * `count` is the length of `numbers`. Numbers 0 to 7 become the totals of the first fund's joined
+ * book by setting if it is accepted, 8 to 15 those of the second. All others are unchanged, a
+ * refused fund's among them. Neither file affects the other fund. The error bound is that of Totals
+ * with the fund's n. The files may be the same memory. */
 xaropinto_funds_reply xaropinto_funds(const uint8_t *table, size_t table_length, const uint8_t *first,
                                       size_t first_length, const uint8_t *second, size_t second_length,
                                       int64_t *numbers, size_t count);
 
-/* In force: what is left of one cell's contracts, year by year. Refusals 14, 25, then 1 to 13 and 23, then 26.
+/* In force: the contracts of one cell in force, year by year. Refusals 14; 25 (code, sex, or less
+ * than XAROPINTO_IN_FORCE_NUMBERS numbers); the book's; 26 (the chain has no such class).
  *
- * The cell is the linked record of a subgroup code (1 to 7), a sex (0 men, 1 women) and a class; `numbers` is how many
- * numbers `out` has. Where accepted, the first 50 become what is in force of it at k = 0 to 49 in the setting, in
- * billionths of a contract: from its count on, each year those who neither die nor then lapse at the class reached,
- * and at class 120 from then on. Numbers from the 51st on are as they were. */
+ * The cell is the linked record of a subgroup code (1 to 7), a sex (0 men, 1 women) and a class;
+ * `numbers` is the length of `out`. The first 50 numbers become what is in force at k = 0 to 49 in
+ * the setting, in billionths of a contract. Later numbers are unchanged. */
 xaropinto_in_force_reply xaropinto_in_force(const uint8_t *book, size_t length, size_t setting, size_t code, size_t sex,
                                             size_t age_class, uint64_t *out, size_t numbers);
 
-/* Spread: mean and coefficient of variation of yearly claims, out of their summary and the sample factors xi and eta.
- * Refusals 27, 28, with place 0; both come before level.
+/* Spread: mean and coefficient of variation of yearly claims, from their summary and the sample
+ * factors xi and eta. Refusals 27, 28, with place 0, both before level.
  *
  * mean = (lowest + 2 first_quartile + 2 median + 2 third_quartile + highest) / 8
  * deviation = ((highest - lowest) / xi + (third_quartile - first_quartile) / eta) * 0.5
- * coefficient = deviation / mean, each operation in doubles and rounded once. */
+ * coefficient = deviation / mean, each operation in doubles and rounded once.
+ *
+ * The thread has the floating-point state of a process's start: rounding to nearest, ties to even,
+ * no traps. */
 xaropinto_spread_reply xaropinto_spread(xaropinto_summary claims, double xi, double eta);
 
-/* Deviation: one standard deviation of the four risk factors of a book, from the differences that Totals gives.
- * Refusals 1 to 13 and 23; then 29, 30, 31, with place 0.
+/* Deviation: one standard deviation of the four risk factors of a book, from the differences of
+ * Totals. Refusals: the book's; then 29, 30, 31, with place 0.
  *
- * A difference is divided by 100,000, times its coefficient, divided by 1,000 times its span (400, 600, 400, 50): both
- * divisions go towards zero. The factors' quadratic form with the correlation is divided by 1,000, rounded down; the
- * deviation is the largest whole number whose square is at most that. */
+ * A difference is divided by 100,000, multiplied by its coefficient and divided by 1,000 times its
+ * span (400, 600, 400, 50); both divisions round towards zero. The factors' quadratic form with the
+ * correlation is divided by 1,000, rounded down; the deviation is the largest whole number whose
+ * square is at most that. */
 xaropinto_deviation_reply xaropinto_deviation(const uint8_t *book, size_t length, xaropinto_risk_model model);
 
-/* Practice: a book that holds no insurer's data, out of a start number, into the first bytes of `out`, which has room
- * for so many. Refusals 16, where that is under 41,876, then 32; both with place 0.
+/* Practice: a book without any insurer's data, from a start number, into the first bytes of `out`,
+ * which has `room` bytes. Refusals 16 if that is less than XAROPINTO_LONGEST_BOOK, then 32 for
+ * start number 0, both with place 0.
  *
- * The book is of SST year 2021, edition 1, with 14 full chains as Write lays them: XAROPINTO_LONGEST_BOOK bytes, which
- * are the reply's length. Later bytes are as they were. Every rate and every record's numbers are drawn: docs/BOOK.md
- * says how. Check accepts every such book, and equal start numbers give equal bytes. */
+ * The book has SST year 2021, edition 1 and 14 full chains in order: XAROPINTO_LONGEST_BOOK bytes.
+ * Later bytes are unchanged. All rates and records are drawn: docs/METHOD.md. Check accepts every
+ * such book, and equal start numbers give equal bytes. */
 xaropinto_write_reply xaropinto_practice(uint64_t start, uint8_t *out, size_t room);
 
-/* The broken rule of a refusal, its place, and who mends it; "accepted" for 0, "" for a number that no call gives. */
+/* The broken rule of a refusal, its place and its owner; "accepted" for 0, "" for any other
+ * number. */
 static inline const char *xaropinto_refusal_text(uint64_t refusal)
 {
     switch (refusal) {

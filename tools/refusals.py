@@ -1,4 +1,4 @@
-"""Writes the one table of refusals into docs/BOOK.md, the header and the Rust wrapper."""
+"""Writes the one table of refusals into docs/FILE_FORMAT.md, the header and the Rust wrapper."""
 
 import argparse
 import sys
@@ -14,7 +14,7 @@ BEGIN, END = "refusals: begin", "refusals: end"
 
 def in_book(rows):
     """A table's lines."""
-    head = ["| number | rule | place | who mends it | broken by |", "|---|---|---|---|---|"]
+    head = ["| number | rule | place | owner | broken by |", "|---|---|---|---|---|"]
     return head + [f"| {row.number} | {row.rule} | {row.place} | {row.mended_by} | {row.example} |"
                    for row in rows]
 
@@ -36,7 +36,7 @@ def in_rust(rows):
 
 
 # Where the table stands, and how its lines are made there.
-COPIES = {"docs/BOOK.md": in_book, "include/xaropinto.h": in_header,
+COPIES = {"docs/FILE_FORMAT.md": in_book, "include/xaropinto.h": in_header,
           "bindings/rust/src/refusals.rs": in_rust}
 
 

@@ -25,7 +25,7 @@ def refused_book():
 
 
 def worked_values():
-    """What the book says that docs/RECKONING works through by hand."""
+    """What the book says that docs/WORKED_EXAMPLES works through by hand."""
     values = flat_values(150_000, 0, 0)
     values.curve[:2] = [10_000, -5_000]
     values.mortality[0][118:] = [400_001, 500_000, 1_000_000]

@@ -1,4 +1,4 @@
-"""Tests of the built convert program: what it writes where, and what docs/BOOK shows of it."""
+"""Tests of the built convert program: what it writes where, and what docs/FILE_FORMAT shows of it."""
 
 import random
 import sys
@@ -72,11 +72,11 @@ class Input(unittest.TestCase):
 
 
 class Shown(unittest.TestCase):
-    """What docs/BOOK shows of the two age bases."""
+    """What docs/FILE_FORMAT shows of the two age bases."""
 
     def is_shown(self, words):
         """The page has these words."""
-        self.assertTrue(words in (ROOT / "docs" / "BOOK.md").read_text(encoding="utf-8"),
+        self.assertTrue(words in (ROOT / "docs" / "FILE_FORMAT.md").read_text(encoding="utf-8"),
                         f"not shown: {words}")
 
     def test_classes_of_basis_2_in_a_book_of_basis_1(self):

@@ -229,7 +229,7 @@ class Steps(unittest.TestCase):
             self.assertEqual(year(book, k), (0, contracts // 100) * 2)
 
     def test_years_in_force_of_the_worked_example(self):
-        # The table of docs/RECKONING.md: the first year with nothing in force, for settings 0 to 4.
+        # The table of docs/WORKED_EXAMPLES.md: the first year with nothing in force, for settings 0 to 4.
         values = read_values((ROOT / "samples" / "worked_example.book").read_bytes())
         worked = ((10, 9, 8), (3, 2, 1), (11, 10, 10), (9, 8, 7), (11, 10, 9))
         for setting, ends in enumerate(worked):
@@ -350,7 +350,7 @@ class Distance(unittest.TestCase):
         self.assertEqual(int(off_by_all(trials.loss_in_every_cell_book(range(6, 14)))), 27_674)
 
     def test_a_curve_below_zero_comes_near_half_the_distance(self):
-        # 1,675 is half the distance: no book is known that passes it (docs/RECKONING.md).
+        # 1,675 is half the distance: no book is known that passes it (docs/ERROR_BOUND.md).
         self.assertEqual(int(off_by(trials.loss_at_every_rounding_book(-9_999), 2)), 1_594)
 
     def hold_book(self, book, setting):

@@ -15,7 +15,7 @@ from tests.support.case import Case
 from tests.support.report import run_unit_tests
 
 LIST = ROOT / "tests" / "repository" / "order_figures.tsv"
-# Steps of the code, as docs/REVIEW.md names them: no caller depends on these.
+# Steps of the code, as docs/VERIFICATION.md names them: no caller depends on these.
 STEPS = {
     "arith/specs/Fractions", "book/specs/Reading", "cell/specs/States", "age_basis/specs/Steps",
     "cost_rate_shares/specs/Usable", "funds/specs/Valued", "group_projection/specs/Added",

@@ -6,7 +6,7 @@ from tests import ROOT
 
 TRIED = ROOT / "docs" / "CHECKERS.txt"
 IDENTITY = re.compile(r"[\w.-]+ logic [0-9a-f]{16}")
-NOT_TRIED = "note: docs/CHECKERS.txt does not name this checker; see docs/ASSUMPTIONS.md"
+NOT_TRIED = "note: docs/CHECKERS.txt does not name this checker; see docs/VERIFICATION.md"
 
 
 def tried():

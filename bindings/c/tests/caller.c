@@ -1247,7 +1247,7 @@ static int spread_refused(xaropinto_summary claims, double xi, double eta, uint6
     return memcmp(&reply, &due, sizeof due) == 0;
 }
 
-/* The example of docs/RECKONING.md; 1,600 / 8, and half of 400 / 2 and 200 / 4, which is 125; half
+/* The example of docs/WORKED_EXAMPLES.md; 1,600 / 8, and half of 400 / 2 and 200 / 4, which is 125; half
  * of 1 x 1,024 over 1 / 8. */
 static void test_spread(void)
 {

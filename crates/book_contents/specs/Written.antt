@@ -1,4 +1,4 @@
--- The book of given contents, byte by byte in the order of the layout (docs/BOOK.md; book/specs/Layout).
+-- The book of given contents, byte by byte in the order of the layout (docs/FILE_FORMAT.md; book/specs/Layout).
 use mathlib.Core.Bool.{cond}
 use Prim.Native.Nat.{ℕ, _+_, _-_, _*_, _/_, _%_}
 use mathlib.Core.List.{List, [], _∷_, _++_}

@@ -1,4 +1,4 @@
--- Accounts: the example of docs/RECKONING.md, which is accepted, and accounts to which 17 and 18 both apply.
+-- Accounts: the example of docs/WORKED_EXAMPLES.md, accepted; and accounts to which 17 and 18 both apply.
 -- Assumes nothing.
 use mathlib.Core.Path.{_≡_, refl}
 use mathlib.Core.List.{[], _∷_}

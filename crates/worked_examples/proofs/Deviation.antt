@@ -1,5 +1,5 @@
--- Four factors: the example of docs/RECKONING.md, differences of a small insurer and the supervisor's coefficients and
--- correlation (FINMA A.1 and A.2). Assumes nothing.
+-- Four factors: the example of docs/WORKED_EXAMPLES.md, differences of a small insurer and the supervisor's
+-- coefficients and correlation (FINMA A.1 and A.2). Assumes nothing.
 use mathlib.Core.Path.{_≡_, refl, sym, ap, _∙_}
 use mathlib.Core.List.{List, [], _∷_}
 use native.Mathlib.Omega.{arith}

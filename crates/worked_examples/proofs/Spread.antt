@@ -1,5 +1,5 @@
--- Yearly claims: the example of docs/RECKONING.md, claims that are level, and these with a factor that is not a number.
--- Assumes nothing.
+-- Yearly claims: the example of docs/WORKED_EXAMPLES.md, level claims, and these with a factor that is
+-- not a number. Assumes nothing.
 use mathlib.Core.Path.{_≡_, refl}
 use mathlib.Core.Bool.{false}
 use lib.IntN.{pos, negsuc}

@@ -14,7 +14,7 @@ fn summary(five: [u64; 5]) -> Summary {
     }
 }
 
-/// The example of `docs/RECKONING.md`.
+/// The example of `docs/WORKED_EXAMPLES.md`.
 const WORKED: [u64; 5] = [152_340, 158_910, 163_275, 169_480, 181_205];
 const EVEN: [u64; 5] = [0, 100, 200, 300, 400];
 const LEVEL: [u64; 5] = [7; 5];

@@ -2,7 +2,7 @@
 
 use xaropinto::{cost_rates, Accounts, Refusal};
 
-/// The example of `docs/RECKONING.md`: PG5 is empty.
+/// The example of `docs/WORKED_EXAMPLES.md`: PG5 is empty.
 const WORKED: Accounts = Accounts {
     expenses: [2_400_001, 2_520_000, 2_480_010],
     stock: [

@@ -5,7 +5,7 @@ use xaropinto::{deviation, Refusal, RiskModel};
 /// Differences of -4,214,491,620; -4,155,326,891; 11,355,117,658 and 6,859,000,890.
 const BOOK: &[u8] = include_bytes!("../../../../samples/small_insurer.book");
 
-/// The example of `docs/RECKONING.md`.
+/// The example of `docs/WORKED_EXAMPLES.md`.
 const WORKED: RiskModel = RiskModel {
     coefficients: [150_000, 80_000, 100_000, 60_000],
     correlation: [
