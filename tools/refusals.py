@@ -2,6 +2,7 @@
 
 import argparse
 import sys
+import textwrap
 
 from tests import ROOT
 from tests.support.report import Report
@@ -11,25 +12,31 @@ sys.path.insert(0, str(ROOT / "python"))
 from xaropinto.refusals import refusals  # noqa: E402
 
 BEGIN, END = "refusals: begin", "refusals: end"
+# The most characters of a literal in C.
+LITERAL = 78
 
 
 def in_book(rows):
     """A table's lines."""
-    head = ["| number | rule | place | who mends it | broken by |", "|---|---|---|---|---|"]
-    return head + [f"| {row.number} | {row.rule} | {row.place} | {row.mended_by} | {row.example} |" for row in rows]
+    head = ["| number | rule | place | owner | broken by |", "|---|---|---|---|---|"]
+    return head + [f"| {row.number} | {row.rule} | {row.place} | {row.owner} | {row.example} |" for row in rows]
 
 
 def in_header(rows):
-    """The cases of a function in C."""
-    return [line for row in rows
-            for line in (f"    case {row.number}:",
-                         f'        return "{row.rule}; place: {row.place}; mended by: {row.mended_by}";')]
+    """The cases of a function in C; a long text is several literals, one after the other."""
+    held = []
+    for row in rows:
+        words = textwrap.wrap(f"{row.rule}; place: {row.place}; owner: {row.owner}", LITERAL)
+        literals = [f'"{each} "' for each in words[:-1]] + [f'"{words[-1]}";']
+        held += [f"    case {row.number}:", f"        return {literals[0]}",
+                 *(f"               {each}" for each in literals[1:])]
+    return held
 
 
 def in_rust(rows):
     """The arms of a match in Rust."""
     return [line for row in rows
-            for line in (f"        {row.number} => {{", f'            "{row.rule}; mended by: {row.mended_by}"',
+            for line in (f"        {row.number} => {{", f'            "{row.rule}; owner: {row.owner}"',
                          "        }")]
 
 
@@ -58,7 +65,7 @@ def main():
         if what == "write":
             path.write_text(due, encoding="utf-8")
         else:
-            report.test(f"{name} has the table of refusals", text == due, "python3 -m tools.refusals write mends it")
+            report.test(f"{name} has the table of refusals", text == due, "run python3 -m tools.refusals write")
     if what == "write":
         return 0
     numbered = [row.number for row in rows] == list(range(1, len(rows) + 1))

@@ -5,8 +5,9 @@ from typing import NamedTuple, Optional, Sequence
 
 from xaropinto import calls
 from xaropinto.book_values import BookValues, taken_apart
-from xaropinto.layout import HEADER_BYTES, LONGEST_BOOK, MOST_RECORDS, RECORD_BYTES, TABLES_AT, YEARS
-from xaropinto.messages import explain
+from xaropinto.layout import HEADER_BYTES, LONGEST_BOOK, MOST_RECORDS, RECORD_BYTES, YEARS
+from xaropinto.messages import CONVERT, GROUP, PRACTICE, READ, RECORD, WRITE, explain, explain_fund
+from xaropinto.refusals import BOOK
 
 TABLE_NUMBERS = 4 * YEARS
 MOST_LISTING_BYTES = 512
@@ -18,6 +19,10 @@ class Refused(Exception):
     def __init__(self, number: int, place: int, words: str):
         super().__init__(f"refused {number} {place}: {words}")
         self.number, self.place, self.words = number, place, words
+
+    def at(self, found: str) -> "Refused":
+        """The same refusal, with words of what it was found in before its own."""
+        return Refused(self.number, self.place, f"{found}; {self.words}" if found else self.words)
 
 
 class Group(NamedTuple):
@@ -58,10 +63,10 @@ class Deviation(NamedTuple):
     thousand_francs: int
 
 
-def need_accepted(number: int, place: int, book: Optional[bytes] = None) -> None:
-    """Raise where a call refused."""
+def need_accepted(number: int, place: int, book: Optional[bytes] = None, call: str = BOOK) -> None:
+    """Raise where a call refused, in the words of the call."""
     if number:
-        raise Refused(number, place, explain(number, place, book))
+        raise Refused(number, place, explain(number, place, book, call))
 
 
 def check(book: bytes) -> int:
@@ -75,7 +80,7 @@ def group(book: bytes, setting: int, product_group: int) -> Group:
     """The liability of a product group in a setting, with its years."""
     table = array("Q", bytes(8 * TABLE_NUMBERS))
     reply = calls.group(book, setting, product_group, table)
-    need_accepted(reply.refusal, reply.place, book)
+    need_accepted(reply.refusal, reply.place, book, GROUP)
     years = tuple((table[at], table[at + 1], table[at + 2], table[at + 3]) for at in range(0, TABLE_NUMBERS, 4))
     return Group(reply.liability, reply.n, years)
 
@@ -108,7 +113,7 @@ def report(book: bytes, setting: int) -> str:
 def record(book: bytes, number: int) -> bytes:
     """The 24 bytes of a record, counted from 1."""
     reply = calls.record(book, number)
-    need_accepted(reply.refusal, reply.place, book)
+    need_accepted(reply.refusal, reply.place, book, BOOK if reply.place else RECORD)
     return bytes(book[reply.start:reply.start + reply.length])
 
 
@@ -124,7 +129,7 @@ def read(book: bytes) -> BookValues:
     """The values and lists of a book."""
     lists = tuple(array("Q", bytes(8 * MOST_RECORDS)) for _ in range(4))
     reply = calls.read(book, *lists)
-    need_accepted(reply.refusal, reply.place, book)
+    need_accepted(reply.refusal, reply.place, book, READ)
     return taken_apart(reply.values, lists)
 
 
@@ -132,7 +137,7 @@ def write(values: BookValues) -> bytes:
     """The book of values and lists."""
     room = bytearray(HEADER_BYTES + RECORD_BYTES * max(0, values.records()))
     reply = calls.write(values.header(), *values.lists(), room)
-    need_accepted(reply.refusal, reply.place)
+    need_accepted(reply.refusal, reply.place, call=WRITE)
     return bytes(room[:reply.length])
 
 
@@ -140,7 +145,7 @@ def convert(book: bytes) -> bytes:
     """The book of age basis 2 on basis 1."""
     room = bytearray(len(book))
     reply = calls.convert(book, room)
-    need_accepted(reply.refusal, reply.place, book)
+    need_accepted(reply.refusal, reply.place, book, CONVERT)
     return bytes(room)
 
 
@@ -150,9 +155,9 @@ def funds(table: bytes, first: bytes, second: bytes) -> tuple[object, object]:
     verdicts = calls.funds(table, first, second, numbers)
     answers = []
     for at, (verdict, fund) in enumerate(zip(verdicts, (first, second))):
-        joined = fund[:TABLES_AT] + table + fund[TABLES_AT:]
         if verdict.refusal:
-            answers.append(Refused(verdict.refusal, verdict.place, explain(verdict.refusal, verdict.place, joined)))
+            words = explain_fund(verdict.refusal, verdict.place, table, fund)
+            answers.append(Refused(verdict.refusal, verdict.place, words))
         else:
             answers.append((verdict.n, tuple(numbers[8 * at:8 * at + 8])))
     return answers[0], answers[1]
@@ -185,5 +190,5 @@ def practice(start: int) -> bytes:
     """The practice book of a start number."""
     room = bytearray(LONGEST_BOOK)
     reply = calls.practice(start, room)
-    need_accepted(reply.refusal, reply.place)
+    need_accepted(reply.refusal, reply.place, call=PRACTICE)
     return bytes(room[:reply.length])

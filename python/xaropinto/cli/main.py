@@ -6,7 +6,7 @@ import traceback
 from typing import NoReturn, Optional, Sequence
 
 from xaropinto.answers import Refused
-from xaropinto.cli import desks, figures, portfolio, tools
+from xaropinto.cli import books, figures, portfolio, tools
 from xaropinto.cli.outcome import DONE, REFUSED, TROUBLE, Trouble, tell
 from xaropinto.library import LibraryMissing
 from xaropinto.sheets import BadLine
@@ -36,7 +36,7 @@ def all_verbs() -> argparse.ArgumentParser:
     parser = Parser(prog="xaropinto", epilog=ENDS, description=PURPOSE)
     parser.add_argument("--version", action="version", version=f"xaropinto {VERSION}")
     verbs = parser.add_subparsers(metavar="VERB", required=True)
-    for module in (figures, portfolio, desks, tools):
+    for module in (figures, portfolio, books, tools):
         module.add_verbs(verbs)
     return parser
 

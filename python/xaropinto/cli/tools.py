@@ -2,15 +2,18 @@
 
 import argparse
 from pathlib import Path
+from typing import Callable, TypeVar
 
 from xaropinto import answers
 from xaropinto.accounts_sheet import read_accounts, read_factors
-from xaropinto.cli.desks import add_output
+from xaropinto.cells_at_fault import in_accounts, in_factors
+from xaropinto.cli.books import add_output
 from xaropinto.cli.figures import add_verb, number
 from xaropinto.cli.outcome import Trouble, put_answer, read_file, write_file
 from xaropinto.layout import GROUPS
 from xaropinto.page import page_of
 
+Sheet = TypeVar("Sheet")
 FIVE = ("lowest", "first_quartile", "median", "third_quartile", "highest")
 
 
@@ -48,7 +51,7 @@ def add_spread(verbs) -> None:
     spread.set_defaults(run=show_spread)
 
 
-def read_sheet(path: str, reading):
+def read_sheet(path: str, reading: Callable[[Path], Sheet]) -> Sheet:
     """What a sheet holds."""
     try:
         return reading(Path(path))
@@ -58,7 +61,11 @@ def read_sheet(path: str, reading):
 
 def show_rates(chosen: argparse.Namespace) -> None:
     """As cost_rates.csv wants them."""
-    rates = answers.cost_rates(*read_sheet(chosen.accounts, read_accounts))
+    sheet = read_sheet(chosen.accounts, read_accounts)
+    try:
+        rates = answers.cost_rates(*sheet.accounts)
+    except answers.Refused as refused:
+        raise refused.at(in_accounts(refused.number, sheet)) from refused
     lines = [f"{group},{rate}\n" for group, rate in zip(GROUPS, rates)]
     put_answer("".join(["group,cost_rate_millionths\n", *lines]).encode())
 
@@ -72,8 +79,11 @@ def show_spread(chosen: argparse.Namespace) -> None:
 
 def show_deviation(chosen: argparse.Namespace) -> None:
     """In thousand francs."""
-    coefficients, correlation = read_sheet(chosen.factors, read_factors)
-    reply = answers.deviation(read_file(chosen.file), coefficients, correlation)
+    sheet, book = read_sheet(chosen.factors, read_factors), read_file(chosen.file)
+    try:
+        reply = answers.deviation(book, *sheet.model)
+    except answers.Refused as refused:
+        raise refused.at(in_factors(book, refused.number, sheet)) from refused
     put_answer(f"deviation {reply.thousand_francs} thousand francs\n".encode())
 
 
