@@ -9,6 +9,7 @@ from reference.layout import changed, record
 from reference.valuation import listing
 from reference.year_report import report_page
 from tests import ROOT
+from tests.cli.inputs import accounts_text, factors_text
 from tests.fixtures.insurers import MANY_PRODUCTS, dense_full_book, flat_values, insurer_book
 from tests.fixtures.age_basis_2 import on_basis_2
 from tests.support.program import ProgramFailed, verdict_lines
@@ -60,8 +61,9 @@ SAMPLES = [
 
 
 def files():
-    """Each file of samples/ by its name: the books, and beside each its listing and its report in the base setting."""
-    held = {}
+    """Each file of samples/ by its name: sheets of accounts and factors; the books, and beside each its listing and its
+    report in the base setting."""
+    held = {"accounts.csv": accounts_text().encode("ascii"), "factors.csv": factors_text().encode("ascii")}
     for name, book, _ in SAMPLES:
         held |= {f"{name}.book": book, f"{name}.listing": listing(book), f"{name}.report": report_page(book, 0)}
     return held

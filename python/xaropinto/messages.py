@@ -2,7 +2,6 @@
 
 from typing import NamedTuple, Optional
 
-from xaropinto.cell_numbers import plain
 from xaropinto.chains import CLASS, CODE, NEXT, SEX, SPARE, Step, class_in, next_field, record_of, step_to
 from xaropinto.layout import (CHAINS, HEADER_BYTES, LAST_CLASS, LONGEST_BOOK, RECORD_BYTES, SUBGROUPS, TABLES_AT, Field,
                               Record, header_fields, heads, percentages, record_at)
@@ -19,6 +18,7 @@ TEXT_BYTES = frozenset(range(32, 127)) | {9, 10, 12, 13} | frozenset(range(128, 
 # Enough of a file to know text by.
 FIRST_BYTES = 512
 TABLE_BYTES = HEADER_BYTES - TABLES_AT
+SST_YEAR = "SST year"
 SHORT, BAD_EDITION, BAD_BASIS, BAD_LENGTH, BAD_TABLE_FILE = 1, 2, 3, 5, 24
 
 
@@ -142,9 +142,14 @@ def wrong_basis(subject: Subject) -> str:
 
 def at_field(field: Field, subject: Subject) -> str:
     """A field, the value found and its range."""
-    unit = f" {field.unit}" if field.unit else ""
-    due = f"{plain(field.low)}" if field.low == field.high else f"{plain(field.low)} to {plain(field.high)}{unit}"
-    return f"{field.name} at {subject.byte(field.at)} is {plain(field.read(subject.book))}; it must be {due}"
+    found, low, high = (shown(field, number) for number in (field.read(subject.book), field.low, field.high))
+    due = low if low == high else f"{low} to {high}{' ' if field.unit else ''}{field.unit}"
+    return f"{field.name} at {subject.byte(field.at)} is {found}; it must be {due}"
+
+
+def shown(field: Field, number: int) -> str:
+    """A field's number as people read it; a year has no separator."""
+    return str(number) if field.name == SST_YEAR else f"{number:,}"
 
 
 def beyond_records(field: Field, subject: Subject) -> str:

@@ -14,20 +14,29 @@ ACCOUNTS = ((900_000, 1_000_000, 1_100_001),
              (9_200_000, 920_000, 0, 92_000, 82_000)))
 
 
+def factors_text(rows=tuple((coefficient, *row) for coefficient, row in FACTORS)):
+    """The factors with commas: a row of five numbers for each."""
+    columns = ["factor", "coefficient_millionths", *(f"{name}_thousandths" for name in FACTOR_NAMES)]
+    lines = [[name, *row] for name, row in zip(FACTOR_NAMES, rows)]
+    return "".join(",".join(map(str, line)) + "\n" for line in [columns, *lines])
+
+
 def put_factors(path):
     """The factors as a spreadsheet saves them: semicolons, a mark at the start, lines that end as on Windows."""
-    columns = ["factor", "coefficient_millionths", *(f"{name}_thousandths" for name in FACTOR_NAMES)]
-    lines = [[name, coefficient, *row] for name, (coefficient, row) in zip(FACTOR_NAMES, FACTORS)]
-    text = "".join(";".join(map(str, line)) + "\r\n" for line in [columns, *lines])
-    path.write_bytes(b"\xef\xbb\xbf" + text.encode())
+    path.write_bytes(b"\xef\xbb\xbf" + factors_text().replace(",", ";").replace("\n", "\r\n").encode())
 
 
-def put_accounts(path):
-    """The accounts, with commas."""
-    expenses, stock, claims, premium = ACCOUNTS
+def accounts_text(accounts=ACCOUNTS):
+    """The accounts with commas."""
+    expenses, stock, claims, premium = accounts
     lines = ["year,group,expenses_francs,stock_contracts,claims_francs,premium_francs"]
     for year in range(3):
         for at, name in enumerate(GROUPS):
             told = expenses[year] if at == 0 else ""
             lines.append(f"{year + 1},{name},{told},{stock[year][at]},{claims[year][at]},{premium[year][at]}")
-    path.write_text("\n".join(lines), encoding="utf-8")
+    return "\n".join(lines) + "\n"
+
+
+def put_accounts(path):
+    """The accounts in a file."""
+    path.write_text(accounts_text(), encoding="utf-8")

@@ -55,7 +55,7 @@ def all_verbs(folder):
         "check": (INPUT,), "list": (INPUT,), "years": (INPUT, "--setting", 0), "classes": (INPUT,), "beside": (INPUT,),
         "group": (INPUT, "--setting", 0, "--group", 2), "record": (INPUT, 1), "read": (INPUT, "-o", OUT),
         "cell": (INPUT, "--setting", 0, "--subgroup", "PG2", "--sex", "men", "--class", 118),
-        "deviation": (INPUT, folder / "factors.csv"), "page": (INPUT, "-o", OUT),
+        "deviation": (INPUT, folder / "factors.csv"), "page": (INPUT, "-o", OUT), "split": (INPUT, "-o", OUT),
     }
     verbs = {name: Verb(words, ACCEPTED, BROKEN) for name, words in on_a_book.items()}
     verbs["convert"] = Verb((INPUT, "-o", OUT), sample("newer_basis"), ACCEPTED)
@@ -151,7 +151,7 @@ class Words(unittest.TestCase):
         self.assertIn(f"{BROKEN}: refused 12 1232\n", run.told)
         self.assertIn("PG2 men, record 1, class 120: lapse at byte 1,232 is 1,000,001; it must be 0 to 1,000,000",
                       run.told)
-        self.assertIn("mended by: the portfolio desk", run.told)
+        self.assertIn("owner: the portfolio department", run.told)
 
     def test_the_worst_of_many(self):
         run = xaropinto("check", ACCEPTED, BROKEN)
