@@ -12,16 +12,14 @@ from pathlib import Path
 
 from tests import ROOT
 from tests.cli.run import DONE, REFUSED, TROUBLE, sample, surroundings, xaropinto
-from tests.support.openpyxl_path import import_openpyxl, link_openpyxl
+from tests.support.openpyxl_path import import_openpyxl, openpyxl_folder
 from tests.support.report import run_unit_tests
 
 SHEETS = ["header", "cost_rates", "curve", "mortality", "portfolio"]
 
 
-PACKAGES = tempfile.TemporaryDirectory()
-unittest.addModuleCleanup(PACKAGES.cleanup)
-openpyxl = import_openpyxl(link_openpyxl(Path(PACKAGES.name)))
-ENV = surroundings(PYTHONPATH=os.pathsep.join([str(ROOT / "python"), PACKAGES.name]))
+openpyxl = import_openpyxl()
+ENV = surroundings(PYTHONPATH=os.pathsep.join([str(ROOT / "python"), openpyxl_folder()]))
 
 
 @functools.cache
@@ -76,6 +74,7 @@ class ThereAndBack(Workbooks):
                 self.done("read", sample(name), "-o", sheets)
                 self.done("write", sheets, "-o", due)
                 self.done("read", due, "-o", self.workbook)
+                self.assertTrue(self.workbook.is_file())
                 self.done("write", self.workbook, "-o", self.book)
                 self.assertEqual(self.book.read_bytes(), due.read_bytes())
 

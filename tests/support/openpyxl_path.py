@@ -1,33 +1,37 @@
 """Where openpyxl stands, which reads and writes workbooks: for this interpreter, or for the system's."""
 
+import atexit
+import functools
 import importlib.util
 import sys
+import tempfile
 from pathlib import Path
 
 SYSTEM = Path("/usr/lib/python3/dist-packages")
 NEEDED = ("openpyxl", "et_xmlfile")
 
 
-def found(package):
-    """The folder of a package; None where it is not installed."""
+def installed(package):
+    """The folder of a package."""
     spec = importlib.util.find_spec(package)
-    if spec and spec.origin:
-        return Path(spec.origin).parent
-    return SYSTEM / package if (SYSTEM / package).is_dir() else None
+    path = Path(spec.origin).parent if spec and spec.origin else SYSTEM / package
+    if not path.is_dir():
+        raise FileNotFoundError(f"{package} is not installed: Debian's package python3-openpyxl has it")
+    return path
 
 
-def link_openpyxl(folder):
-    """Make a folder in which Python finds openpyxl and what it needs, and nothing else."""
+@functools.cache
+def openpyxl_folder():
+    """A folder in which Python finds openpyxl and what it needs, and nothing else; it is there until this run ends."""
+    held = tempfile.TemporaryDirectory()
+    atexit.register(held.cleanup)
     for package in NEEDED:
-        at = found(package)
-        if at is None:
-            raise FileNotFoundError(f"{package} is not installed: Debian's package python3-openpyxl has it")
-        (folder / package).symlink_to(at, target_is_directory=True)
-    return folder
+        (Path(held.name) / package).symlink_to(installed(package), target_is_directory=True)
+    return held.name
 
 
-def import_openpyxl(folder):
-    """The package, out of such a folder."""
-    if str(folder) not in sys.path:
-        sys.path.append(str(folder))
+@functools.cache
+def import_openpyxl():
+    """The package."""
+    sys.path.append(openpyxl_folder())
     return importlib.import_module("openpyxl")
