@@ -21,6 +21,8 @@ Name: {NAME}
 Version: {VERSION}
 Summary: The reference reckoning of the Swiss solvency test's long-term health liabilities: calls and command
 Requires-Python: >=3.10
+Provides-Extra: xlsx
+Requires-Dist: openpyxl; extra == "xlsx"
 """
 WHEEL = f"Wheel-Version: 1.0\nGenerator: {NAME}\nRoot-Is-Purelib: false\nTag: {TAG}\n"
 ENTRY_POINTS = f"[console_scripts]\n{NAME} = {NAME}.command.main:main\n"

@@ -48,10 +48,12 @@ class FactorsSheet(NamedTuple):
 
 
 def read_accounts(path: Path) -> AccountsSheet:
-    """A line for each year and group, years 1 to 3, in each PG1 to PG5; a year's expenses stand on its first line."""
+    """A line for each year and group; a year's expenses stand on its first line."""
     table = saved_table(path)
-    rows = in_order(rows_of(table, Kind(path.name, COLUMNS)), table, [year for year in YEARS for _ in GROUPS])
-    by_year = [rows[at:at + len(GROUPS)] for at in range(0, len(rows), len(GROUPS))]
+    rows = in_order(
+        rows_of(table, Kind(path.name, COLUMNS)), table, [year for year in YEARS for _ in GROUPS]
+    )
+    by_year = [rows[at : at + len(GROUPS)] for at in range(0, len(rows), len(GROUPS))]
     for year in by_year:
         for group, row in zip(GROUPS, year):
             if row.word("group").casefold() != group.casefold():
@@ -60,8 +62,10 @@ def read_accounts(path: Path) -> AccountsSheet:
         if row.word(EXPENSES):
             row.bad(EXPENSES, "a year's expenses stand on its first line alone")
     expenses = tuple(any_number(year[0], EXPENSES) for year in by_year)
-    stock, claims, premium = (tuple(tuple(any_number(row, column) for row in year) for year in by_year)
-                              for column in FIGURES)
+    stock, claims, premium = (
+        tuple(tuple(any_number(row, column) for row in year) for year in by_year)
+        for column in FIGURES
+    )
     return AccountsSheet(Accounts(expenses, stock, claims, premium), by_year)
 
 
@@ -76,5 +80,7 @@ def read_factors(path: Path) -> FactorsSheet:
     rows = in_order(rows_of(table, Kind(path.name, FACTOR_COLUMNS)), table, list(FACTORS))
     coefficients = tuple(any_number(row, COEFFICIENT) for row in rows)
     half = WORD_LIMIT // 2
-    correlation = tuple(tuple(row.number(column, -half, half - 1) for column in CORRELATIONS) for row in rows)
+    correlation = tuple(
+        tuple(row.number(column, -half, half - 1) for column in CORRELATIONS) for row in rows
+    )
     return FactorsSheet(RiskModel(coefficients, correlation), rows)

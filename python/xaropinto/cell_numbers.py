@@ -7,11 +7,16 @@ from typing import NamedTuple
 
 # Thousands are apart by nothing, or by one kind of apostrophe; more digits are beyond every range.
 THOUSANDS = "|".join(rf"[0-9]{{1,3}}(?:{mark}[0-9]{{3}}){{1,8}}" for mark in ("'", "\u2019"))
-NUMBER = re.compile(rf"(?P<sign>-?)(?P<whole>[0-9]{{1,24}}|{THOUSANDS})(?:\.(?P<part>[0-9]{{1,24}}))?")
-# A comma is a decimal mark in one country and parts thousands in another; so is a point before three digits.
+NUMBER = re.compile(
+    rf"(?P<sign>-?)(?P<whole>[0-9]{{1,24}}|{THOUSANDS})(?:\.(?P<part>[0-9]{{1,24}}))?"
+)
+# A comma is a decimal mark in one country and parts thousands in another; so is a point before
+# three digits.
 TWO_READINGS = re.compile(r"-?[0-9.'\u2019]*[0-9],[0-9.,'\u2019]*|-?[1-9][0-9]{0,2}\.[0-9]{3}")
-TWO_WAYS = ("this can be read in two ways; a point is the decimal mark, and with exactly three digits after it "
-            "one more digit is due (1.2340), thousands are apart by an apostrophe or by nothing (1234)")
+TWO_WAYS = (
+    "this can be read in two ways; a point is the decimal mark, and with exactly three digits "
+    "after it one more digit is due (1.2340); thousands are apart by an apostrophe or by nothing"
+)
 
 
 class NoNumber(ValueError):
@@ -32,8 +37,11 @@ class Unit(NamedTuple):
 
 PLAIN = Unit("", "", 1)
 # For each ending of a heading, the unit that may stand in its place.
-OTHER_UNITS = {"millionths": Unit("percent", "millionths", 10_000), "centimes": Unit("francs", "centimes", 100),
-               "thousandths": Unit("percent", "thousandths", 10)}
+OTHER_UNITS = {
+    "millionths": Unit("percent", "millionths", 10_000),
+    "centimes": Unit("francs", "centimes", 100),
+    "thousandths": Unit("percent", "thousandths", 10),
+}
 
 
 def plain(number: int) -> str:
@@ -51,7 +59,7 @@ def headings_of(column: str) -> dict[str, Unit]:
 
 
 def number_of(word: str, unit: Unit, low: int, high: int) -> int:
-    """The number that a word of this unit is in the book's own; `NoNumber` where it is none, or out of range."""
+    """The number of a word, in the book's own unit; `NoNumber` where it is none or out of range."""
     if TWO_READINGS.fullmatch(word):
         raise NoNumber(TWO_WAYS)
     found = NUMBER.fullmatch(word)

@@ -1,18 +1,27 @@
-"""Which cells of a sheet a refusal is about, found by asking the proved call again with other figures."""
+"""Which cells of a sheet are refused, found by asking the proved call again with other figures."""
 
 from itertools import combinations_with_replacement
 from typing import Iterator, NamedTuple, Optional
 
 from xaropinto import calls
-from xaropinto.accounts_sheet import (COEFFICIENT, CORRELATIONS, EXPENSES, FACTORS, FIGURES, Accounts,
-                                      AccountsSheet, FactorsSheet, RiskModel)
+from xaropinto.accounts_sheet import (
+    COEFFICIENT,
+    CORRELATIONS,
+    EXPENSES,
+    FACTORS,
+    FIGURES,
+    Accounts,
+    AccountsSheet,
+    FactorsSheet,
+    RiskModel,
+)
 from xaropinto.layout import GROUPS
 from xaropinto.tables import Row
 
 
 def replaced(numbers: tuple[int, ...], at: int, number: int) -> tuple[int, ...]:
     """The numbers with another in one place."""
-    return (*numbers[:at], number, *numbers[at + 1:])
+    return (*numbers[:at], number, *numbers[at + 1 :])
 
 
 OUT_OF_RANGE = 17
@@ -22,12 +31,14 @@ MOST_NAMED = 5
 YEARS = range(3)
 PERMITTED = Accounts((1,) * 3, *[((1,) * len(GROUPS),) * 3] * 3)
 FACTOR_COUNT = len(FACTORS)
-UNCORRELATED = RiskModel((0,) * FACTOR_COUNT, tuple(replaced((0,) * FACTOR_COUNT, at, 1_000)
-                                                    for at in range(FACTOR_COUNT)))
+UNCORRELATED = RiskModel(
+    (0,) * FACTOR_COUNT,
+    tuple(replaced((0,) * FACTOR_COUNT, at, 1_000) for at in range(FACTOR_COUNT)),
+)
 
 
 class Figure(NamedTuple):
-    """A cell of the accounts: the year, the figure's place in `Accounts`, and the group, which expenses have none of."""
+    """A cell of the accounts: the year, the kind of figure, and the group; expenses have none."""
 
     year: int
     kind: int
@@ -45,8 +56,10 @@ class Figure(NamedTuple):
             return accounts._replace(expenses=replaced(accounts.expenses, self.year, number))
         rows = rows_in(accounts, self.kind)
         changed = replaced(rows[self.year], self.group, number)
-        lists = [changed_rows(rows, self.year, changed) if kind == self.kind else rows_in(accounts, kind)
-                 for kind in range(len(FIGURES))]
+        lists = [
+            changed_rows(rows, self.year, changed) if kind == self.kind else rows_in(accounts, kind)
+            for kind in range(len(FIGURES))
+        ]
         return Accounts(accounts.expenses, *lists)
 
     def cell(self, sheet: AccountsSheet) -> tuple[Row, str]:
@@ -60,9 +73,11 @@ def rows_in(accounts: Accounts, kind: int) -> tuple[tuple[int, ...], ...]:
     return (accounts.stock, accounts.claims, accounts.premium)[kind]
 
 
-def changed_rows(rows: tuple[tuple[int, ...], ...], at: int, row: tuple[int, ...]) -> tuple[tuple[int, ...], ...]:
+def changed_rows(
+    rows: tuple[tuple[int, ...], ...], at: int, row: tuple[int, ...]
+) -> tuple[tuple[int, ...], ...]:
     """The rows with another in one place."""
-    return (*rows[:at], row, *rows[at + 1:])
+    return (*rows[:at], row, *rows[at + 1 :])
 
 
 def figures() -> Iterator[Figure]:
@@ -78,8 +93,13 @@ def in_accounts(number: int, sheet: AccountsSheet) -> str:
     """The cells that accounts are refused for; nothing where the fault is in no few of them."""
     accounts = sheet.accounts
     if number == OUT_OF_RANGE:
-        return named([figure.cell(sheet) for figure in figures()
-                      if calls.cost_rates(*figure.put(PERMITTED, figure.read(accounts))).refusal == number])
+        return named(
+            [
+                figure.cell(sheet)
+                for figure in figures()
+                if calls.cost_rates(*figure.put(PERMITTED, figure.read(accounts))).refusal == number
+            ]
+        )
     found = [figure.cell(sheet) for figure in figures() if helps(number, figure, accounts)]
     if not 0 < len(found) <= MOST_NAMED:
         return ""
@@ -94,16 +114,26 @@ def helps(number: int, figure: Figure, accounts: Accounts) -> bool:
 
 
 def in_factors(book: bytes, number: int, sheet: FactorsSheet) -> str:
-    """The cells that a risk model is refused for with 29: each by itself, or two that must be equal."""
+    """The cells that a model is refused for with 29: each by itself, or two that must be equal."""
     if number != BAD_MODEL:
         return ""
     coefficients, correlation = sheet.model
-    found = [(sheet.rows[at], COEFFICIENT) for at in range(FACTOR_COUNT)
-             if is_bad(book, UNCORRELATED._replace(coefficients=replaced((0,) * FACTOR_COUNT, at, coefficients[at])))]
+    found = [
+        (sheet.rows[at], COEFFICIENT)
+        for at in range(FACTOR_COUNT)
+        if is_bad(
+            book,
+            UNCORRELATED._replace(coefficients=replaced((0,) * FACTOR_COUNT, at, coefficients[at])),
+        )
+    ]
     for one, other in combinations_with_replacement(range(FACTOR_COUNT), 2):
         pair = dict.fromkeys(((one, other), (other, one)))
         held = {(row, column): correlation[row][column] for row, column in pair}
-        bad = [at for at, number in held.items() if is_bad(book, with_correlations(dict.fromkeys(pair, number)))]
+        bad = [
+            at
+            for at, number in held.items()
+            if is_bad(book, with_correlations(dict.fromkeys(pair, number)))
+        ]
         if not bad and is_bad(book, with_correlations(held)):
             bad = list(pair)
         found += [(sheet.rows[row], CORRELATIONS[column]) for row, column in bad]
@@ -117,8 +147,10 @@ def is_bad(book: bytes, model: RiskModel) -> bool:
 
 def with_correlations(cells: dict[tuple[int, int], int]) -> RiskModel:
     """A permitted model but for these cells of its correlation."""
-    rows = tuple(tuple(cells.get((row, column), number) for column, number in enumerate(numbers))
-                 for row, numbers in enumerate(UNCORRELATED.correlation))
+    rows = tuple(
+        tuple(cells.get((row, column), number) for column, number in enumerate(numbers))
+        for row, numbers in enumerate(UNCORRELATED.correlation)
+    )
     return UNCORRELATED._replace(correlation=rows)
 
 

@@ -1,4 +1,4 @@
-"""How the check comes to a record: along which chain, by which head or next, and after which record."""
+"""How the check comes to a record: along which chain, by which head or next, after which record."""
 
 from typing import Callable, Iterator, NamedTuple, Optional
 
@@ -10,7 +10,7 @@ SPARE = (3, 6, 7)
 
 
 class Step(NamedTuple):
-    """A record that is read: its chain, the field that leads to it, and the records of the chain read before it."""
+    """A record that is read: its chain, the field that leads to it, and those before it."""
 
     chain: int
     record: Record
@@ -42,7 +42,7 @@ def class_in(record: Record, book: bytes) -> int:
 
 
 def steps(book: bytes) -> Iterator[Step]:
-    """Every record in the order of the check, chain by chain; a chain that comes back to itself ends there."""
+    """Every record in the order of the check; a chain that comes back to itself ends there."""
     count = int.from_bytes(book[4:6], "little")
     for chain, head in enumerate(heads()):
         lead, before = head, ()  # type: tuple[Field, tuple[Record, ...]]
@@ -56,4 +56,6 @@ def steps(book: bytes) -> Iterator[Step]:
 
 def step_to(book: bytes, number: int, fails: Callable[[Step], bool]) -> Optional[Step]:
     """The first step to a record, by its number, at which it fails."""
-    return next((step for step in steps(book) if step.record.number == number and fails(step)), None)
+    return next(
+        (step for step in steps(book) if step.record.number == number and fails(step)), None
+    )

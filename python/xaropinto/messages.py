@@ -1,19 +1,57 @@
-"""A refusal in words: where in the book, what stands there, what the rule is, and who owns the fault."""
+"""A refusal in words: where in the book, what stands there, the rule, and the owner."""
 
 from typing import NamedTuple, Optional
 
-from xaropinto.chains import CLASS, CODE, NEXT, SEX, SPARE, Step, class_in, next_field, record_of, step_to
-from xaropinto.layout import (CHAINS, HEADER_BYTES, LAST_CLASS, LONGEST_BOOK, RECORD_BYTES, SUBGROUPS, TABLES_AT, Field,
-                              Record, header_fields, heads, percentages, record_at)
+from xaropinto.chains import (
+    CLASS,
+    CODE,
+    NEXT,
+    SEX,
+    SPARE,
+    Step,
+    class_in,
+    next_field,
+    record_of,
+    step_to,
+)
+from xaropinto.layout import (
+    CHAINS,
+    HEADER_BYTES,
+    LAST_CLASS,
+    LONGEST_BOOK,
+    RECORD_BYTES,
+    SUBGROUPS,
+    TABLES_AT,
+    Field,
+    Record,
+    header_fields,
+    heads,
+    percentages,
+    record_at,
+)
 from xaropinto.refusals import BOOK, refusal_of
 
 # The calls whose refusals have words of their own.
 CONVERT, WRITE, READ, RECORD, GROUP, FUNDS, PRACTICE = (
-    "convert", "write", "read", "record", "group", "funds", "practice")
+    "convert",
+    "write",
+    "read",
+    "record",
+    "group",
+    "funds",
+    "practice",
+)
 # How files begin that people take for a book.
-SIGNATURES = ((b"%PDF", "a PDF"), (b"PK\x03\x04", "a spreadsheet or another zipped file"),
-              (b"\xd0\xcf\x11\xe0", "an old spreadsheet or document"), (b"\x1f\x8b", "a compressed file"),
-              (b"\x89PNG", "a picture"), (b"\xef\xbb\xbf", "text"), (b"\xff\xfe", "text"), (b"{\\rtf", "a document"))
+SIGNATURES = (
+    (b"%PDF", "a PDF"),
+    (b"PK\x03\x04", "a spreadsheet or another zipped file"),
+    (b"\xd0\xcf\x11\xe0", "an old spreadsheet or document"),
+    (b"\x1f\x8b", "a compressed file"),
+    (b"\x89PNG", "a picture"),
+    (b"\xef\xbb\xbf", "text"),
+    (b"\xff\xfe", "text"),
+    (b"{\\rtf", "a document"),
+)
 TEXT_BYTES = frozenset(range(32, 127)) | {9, 10, 12, 13} | frozenset(range(128, 256))
 # Enough of a file to know text by.
 FIRST_BYTES = 512
@@ -55,36 +93,52 @@ def explain(number: int, place: int, book: Optional[bytes] = None, call: str = B
     """The refusal's words, those of the call; with the book's bytes also where and what."""
     if book is None:
         return in_words(number, call)
-    return in_words(number, call, foreign(number, book), found_at(number, place, Subject(book, call)))
+    return in_words(
+        number, call, foreign(number, book), found_at(number, place, Subject(book, call))
+    )
 
 
 def in_words(number: int, call: str, *found: str) -> str:
     """What was found, the rule and the owner."""
     row = refusal_of(number, call)
-    return "; ".join([*(words for words in found if words), f"rule: {row.rule}", f"owner: {row.owner}"])
+    return "; ".join(
+        [*(words for words in found if words), f"rule: {row.rule}", f"owner: {row.owner}"]
+    )
 
 
 def explain_fund(number: int, place: int, table: bytes, fund: bytes) -> str:
     """A fund's refusal, in places and lengths of the table file and the fund file."""
     if number == BAD_TABLE_FILE:
-        return in_words(number, FUNDS, f"the table file has {len(table):,} bytes", foreign(SHORT, table, "table file"))
+        return in_words(
+            number,
+            FUNDS,
+            f"the table file has {len(table):,} bytes",
+            foreign(SHORT, table, "table file"),
+        )
     if number == SHORT:
-        return in_words(number, FUNDS, foreign(number, fund, "fund file"), f"the fund file has {len(fund):,} bytes")
+        return in_words(
+            number,
+            FUNDS,
+            foreign(number, fund, "fund file"),
+            f"the fund file has {len(fund):,} bytes",
+        )
     if number == BAD_LENGTH:
         return in_words(number, FUNDS, wrong_length("fund file", fund, TABLES_AT))
     joined = Subject(fund[:TABLES_AT] + table + fund[TABLES_AT:], FUNDS)
-    return in_words(number, FUNDS, foreign(number, fund, "fund file"), found_at(number, place, joined))
+    return in_words(
+        number, FUNDS, foreign(number, fund, "fund file"), found_at(number, place, joined)
+    )
 
 
 def refused_file(number: int, place: int, fund: bytes) -> tuple[str, int]:
-    """Which file a fund's refusal is about, `table` or `fund`, and the place in it; of a length, the file's own."""
+    """The file of a fund's refusal, `table` or `fund`, and the place or length in it."""
     if number == BAD_TABLE_FILE:
         return "table", place
     return ("fund", len(fund)) if number in (SHORT, BAD_LENGTH) else fund_place(place)
 
 
 def foreign(number: int, book: bytes, due: str = "book") -> str:
-    """That the file is none of its kind at all, where its first rule is broken and its beginning shows what it is."""
+    """That a file is none of its kind at all, where its beginning shows what it is."""
     kind = kind_of(book) if number in (SHORT, BAD_EDITION) else ""
     return f"this is no {due} at all: it looks like {kind}" if kind else ""
 
@@ -100,7 +154,7 @@ def kind_of(book: bytes) -> str:
 
 
 def found_at(number: int, place: int, subject: Subject) -> str:
-    """Where a book's refusal points, and what stands there; nothing where the refusal is not the book's."""
+    """Where a book's refusal points, and what stands there; nothing where it is not the book's."""
     book = subject.book
     if number == SHORT:
         return f"the file has {place:,} bytes"
@@ -127,7 +181,9 @@ def wrong_length(kind: str, held: bytes, before_records: int) -> str:
     due = before_records + RECORD_BYTES * count
     longest = LONGEST_BOOK - HEADER_BYTES + before_records
     longer = f"; no {kind} is as long" if len(held) > longest else ""
-    return f"the {'file' if kind == 'book' else kind} has {len(held):,} bytes, and its {count:,} records ask for {due:,}{longer}"
+    file = "file" if kind == "book" else kind
+    records = f"its {count:,} records ask for {due:,}"
+    return f"the {file} has {len(held):,} bytes, and {records}{longer}"
 
 
 def wrong_basis(subject: Subject) -> str:
@@ -137,12 +193,16 @@ def wrong_basis(subject: Subject) -> str:
     words = at_field(field._replace(low=due, high=due), subject)
     if (found, due) == (2, 1):
         return f"{words}; `xaropinto convert` turns a book of age basis 2 into one of basis 1"
-    return f"{words}; a book of age basis 1 needs no conversion" if (found, due) == (1, 2) else words
+    return (
+        f"{words}; a book of age basis 1 needs no conversion" if (found, due) == (1, 2) else words
+    )
 
 
 def at_field(field: Field, subject: Subject) -> str:
     """A field, the value found and its range."""
-    found, low, high = (shown(field, number) for number in (field.read(subject.book), field.low, field.high))
+    found, low, high = (
+        shown(field, number) for number in (field.read(subject.book), field.low, field.high)
+    )
     due = low if low == high else f"{low} to {high}{' ' if field.unit else ''}{field.unit}"
     return f"{field.name} at {subject.byte(field.at)} is {found}; it must be {due}"
 
@@ -155,11 +215,12 @@ def shown(field: Field, number: int) -> str:
 def beyond_records(field: Field, subject: Subject) -> str:
     """A head or next that names no record."""
     count = int.from_bytes(subject.book[4:6], "little")
-    return f"{field.name} at {subject.byte(field.at)} is {field.read(subject.book):,}; the book has {count:,} records"
+    found = f"{field.name} at {subject.byte(field.at)} is {field.read(subject.book):,}"
+    return f"{found}; the book has {count:,} records"
 
 
 def in_record(number: int, place: int, subject: Subject) -> str:
-    """A fault in a linked record: the chain that is read, the record and its class, and what is wrong in it."""
+    """A fault in a linked record: the chain that is read, the record, its class, what is wrong."""
     record = record_at(place)
     step = step_to(subject.book, record.number, lambda step: is_fault(number, step, subject))
     named = f"{CHAINS[step.chain]}, " if step else ""
@@ -168,7 +229,7 @@ def in_record(number: int, place: int, subject: Subject) -> str:
 
 
 def is_fault(number: int, step: Step, subject: Subject) -> bool:
-    """Does a record break the rule when it is read by this step? Rules that a record alone breaks are broken at once."""
+    """Is the rule broken at this step? All but two are broken by the record alone."""
     if number == 10:
         return bool(wrong_start(step, subject))
     if number == 11:
@@ -177,7 +238,9 @@ def is_fault(number: int, step: Step, subject: Subject) -> bool:
     return True
 
 
-def wrong_in_record(number: int, place: int, record: Record, step: Optional[Step], subject: Subject) -> str:
+def wrong_in_record(
+    number: int, place: int, record: Record, step: Optional[Step], subject: Subject
+) -> str:
     """What is wrong in a record."""
     if number == 12:
         return at_field(next(field for field in record.fields() if field.at == place), subject)
@@ -199,13 +262,18 @@ def led_by(step: Step, subject: Subject) -> str:
 
 
 def wrong_start(step: Step, subject: Subject) -> str:
-    """The first byte of code, sex and spare bytes that is not the chain's; nothing where all are."""
+    """The first byte of code, sex and spare bytes that is not the chain's, if there is one."""
     book, start = subject.book, step.record.start
-    for name, offset, due in (("subgroup code", CODE, step.chain // 2 + 1), ("sex", SEX, step.chain % 2),
-                              *(("a spare byte", spare, 0) for spare in SPARE)):
+    for name, offset, due in (
+        ("subgroup code", CODE, step.chain // 2 + 1),
+        ("sex", SEX, step.chain % 2),
+        *(("a spare byte", spare, 0) for spare in SPARE),
+    ):
         if book[start + offset] != due:
             held = book[start + offset]
-            own = f" ({SUBGROUPS[held - 1]})" if offset == CODE and 0 < held <= len(SUBGROUPS) else ""
+            own = (
+                f" ({SUBGROUPS[held - 1]})" if offset == CODE and 0 < held <= len(SUBGROUPS) else ""
+            )
             return f"{name} at {subject.byte(start + offset)} is {held}{own}; it must be {due}"
     return ""
 
@@ -216,8 +284,9 @@ def due_class(step: Step, subject: Subject) -> int:
 
 
 def wrong_class(step: Step, subject: Subject) -> str:
-    """The class found and the one that was due; where the chain comes back to itself, that it is a loop."""
-    found = f"the class at {subject.byte(step.record.start + CLASS)} is {class_in(step.record, subject.book)}"
+    """The class found and the one that was due; or that the chain is a loop."""
+    at = subject.byte(step.record.start + CLASS)
+    found = f"the class at {at} is {class_in(step.record, subject.book)}"
     previous = step.previous()
     if previous is None:
         return f"{found}; a first class is at most {subject.last_class()}"

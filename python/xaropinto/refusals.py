@@ -1,4 +1,4 @@
-"""The refusals by number: the rule that is broken, the place that is reported, and the owner of the fault."""
+"""The refusals by number: the rule that is broken, the place that is reported, and the owner."""
 
 from functools import lru_cache
 from importlib import resources
@@ -19,7 +19,7 @@ class Refusal(NamedTuple):
 
 
 def table_lines() -> list[list[str]]:
-    """The lines of the one table: number, call, rule, place, owner, example; what is left out is empty."""
+    """The lines of the one table, each with all its columns; what is left out is empty."""
     text = resources.files(__package__).joinpath("refusals.tsv").read_text(encoding="utf-8")
     lines = [line.split("\t") for line in text.splitlines() if line and not line.startswith("#")]
     heading = lines[0]
@@ -29,12 +29,16 @@ def table_lines() -> list[list[str]]:
 @lru_cache(maxsize=None)
 def refusals() -> dict[int, Refusal]:
     """Each in the words that hold for all calls."""
-    return {int(number): Refusal(int(number), *words) for number, call, *words in table_lines() if not call}
+    return {
+        int(number): Refusal(int(number), *words)
+        for number, call, *words in table_lines()
+        if not call
+    }
 
 
 @lru_cache(maxsize=None)
 def own_words() -> dict[tuple[int, str], Refusal]:
-    """Each that a call words for itself; place, owner and example are the general ones where it says none."""
+    """Each that a call words for itself; what it leaves out is as it is for all calls."""
     held = {}
     for number, call, rule, _, owner, _ in table_lines():
         if call:

@@ -1,4 +1,4 @@
-"""A table of a spreadsheet: its lines as saved, its columns by heading, and the name of each cell."""
+"""A table of a spreadsheet: its lines as saved, its columns by heading, its cells by name."""
 
 import csv
 import io
@@ -31,7 +31,7 @@ class Kind(NamedTuple):
 
 
 class Table(NamedTuple):
-    """The lines of a table, each with its number; a sheet's cells are named by letter and number."""
+    """The lines of a table, each with its number; a sheet names its cells by letter and number."""
 
     file: str
     lines: tuple[tuple[int, tuple[str, ...]], ...]
@@ -108,8 +108,12 @@ def saved_table(path: Path) -> Table:
     text = decoded(path.name, path.read_bytes())
     told = SEPARATOR_LINE.match(text)
     if told and told[1] not in tuple(SEPARATORS):
-        raise BadLine(f"{path.name}, line 1", told[0].strip(), "the separator is a comma, a semicolon or a tab")
-    body = text[told.end():] if told else text
+        raise BadLine(
+            f"{path.name}, line 1",
+            told[0].strip(),
+            "the separator is a comma, a semicolon or a tab",
+        )
+    body = text[told.end() :] if told else text
     heading = re.split(r"[\r\n]", body.lstrip("\r\n"), maxsplit=1)[0]
     separator = told[1] if told else next((each for each in SEPARATORS if each in heading), ",")
     reader = csv.reader(io.StringIO(body, newline=""), delimiter=separator, strict=True)
@@ -118,7 +122,9 @@ def saved_table(path: Path) -> Table:
         for cells in reader:
             lines.append((before + reader.line_num, tuple(cells)))
     except csv.Error as wrong:
-        raise BadLine(f"{path.name}, line {before + reader.line_num}", "", f"no line of cells: {wrong}") from wrong
+        raise BadLine(
+            f"{path.name}, line {before + reader.line_num}", "", f"no line of cells: {wrong}"
+        ) from wrong
     return Table(path.name, tuple(lines))
 
 
@@ -129,26 +135,34 @@ def decoded(file: str, raw: bytes) -> str:
         try:
             text = raw.decode(encoding)
         except UnicodeDecodeError as wrong:
-            line, byte = raw[:wrong.start].count(b"\n") + 1, raw[wrong.start:wrong.start + 1]
+            line, byte = raw[: wrong.start].count(b"\n") + 1, raw[wrong.start : wrong.start + 1]
             continue
         if "\0" in text:
-            raise BadLine(f"{file}, line 1", "\0", "text has no zero bytes; UTF-16 begins with its mark")
+            raise BadLine(
+                f"{file}, line 1", "\0", "text has no zero bytes; UTF-16 begins with its mark"
+            )
         return text
-    raise BadLine(f"{file}, line {line}", repr(byte), "UTF-8, UTF-16 with its mark or Windows-1252 is due")
+    raise BadLine(
+        f"{file}, line {line}", repr(byte), "UTF-8, UTF-16 with its mark or Windows-1252 is due"
+    )
 
 
 def rows_of(table: Table, kind: Kind) -> list[Row]:
-    """The rows below the heading; empty lines, and empty cells after the last column, are passed over."""
+    """The rows below the heading, without empty lines and empty cells after the last column."""
     lines = [(line, tuple(cell.strip() for cell in cells)) for line, cells in table.lines]
     lines = [(line, without_tail(cells, len(kind.columns))) for line, cells in lines if any(cells)]
     columns = columns_of(lines[0][1], kind) if lines else None
     if columns is None:
         line, told = (lines[0][0], ",".join(lines[0][1])) if lines else (1, "")
         units = "; _percent may stand for _millionths and _thousandths, _francs for _centimes"
-        raise BadLine(table.place(line, 0, "any"), told, f"the heading is {','.join(kind.columns)}{units}")
+        raise BadLine(
+            table.place(line, 0, "any"), told, f"the heading is {','.join(kind.columns)}{units}"
+        )
     for line, cells in lines:
         if len(cells) != len(kind.columns):
-            raise BadLine(table.place(line, 0, "any"), ",".join(cells), f"{len(kind.columns)} columns are due")
+            raise BadLine(
+                table.place(line, 0, "any"), ",".join(cells), f"{len(kind.columns)} columns are due"
+            )
     return [Row(table, line, columns, cells) for line, cells in lines[1:]]
 
 

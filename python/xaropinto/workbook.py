@@ -1,4 +1,4 @@
-"""A book as one workbook of a spreadsheet program, through openpyxl: five sheets, named as the five files are."""
+"""A book as one workbook, through openpyxl: five sheets, named as the five files are."""
 
 import importlib
 import io
@@ -31,8 +31,10 @@ def openpyxl() -> Any:
     try:
         return importlib.import_module("openpyxl")
     except ImportError as missing:
-        raise NoWorkbook("a workbook needs openpyxl: pip install 'xaropinto[xlsx]', "
-                         "or Debian's package python3-openpyxl") from missing
+        raise NoWorkbook(
+            "a workbook needs openpyxl: pip install 'xaropinto[xlsx]', "
+            "or Debian's package python3-openpyxl"
+        ) from missing
 
 
 def workbook_tables(file: str, held: bytes) -> Tables:
@@ -48,6 +50,7 @@ def workbook_tables(file: str, held: bytes) -> Tables:
         if kind.name not in by_name:
             raise BadLine(f"{file}, sheet {kind.name}", "", "this sheet is missing")
         return sheet_table(file, kind.name, by_name[kind.name])
+
     return table
 
 
@@ -67,8 +70,10 @@ def loaded(held: bytes) -> Any:
 
 def sheet_table(file: str, name: str, sheet: Any) -> Table:
     """The cells of a sheet as words."""
-    lines = tuple((line, tuple(word_of(file, name, cell) for cell in cells))
-                  for line, cells in enumerate(sheet.iter_rows(), start=1))
+    lines = tuple(
+        (line, tuple(word_of(file, name, cell) for cell in cells))
+        for line, cells in enumerate(sheet.iter_rows(), start=1)
+    )
     return Table(file, lines, name)
 
 
@@ -78,14 +83,21 @@ def word_of(file: str, name: str, cell: Any) -> str:
     if value is None:
         return ""
     if cell.data_type in REFUSED_TYPES:
-        raise BadLine(place, str(value), f"this is {REFUSED_TYPES[cell.data_type]}; a plain value is due")
+        raise BadLine(
+            place, str(value), f"this is {REFUSED_TYPES[cell.data_type]}; a plain value is due"
+        )
     if isinstance(value, str):
         return value
     if "%" in cell.number_format:
-        raise BadLine(place, str(value), "a cell shown in percent can be read in two ways; "
-                      "a plain number is due")
+        raise BadLine(
+            place,
+            str(value),
+            "a cell shown in percent can be read in two ways; " "a plain number is due",
+        )
     if not (abs(value) < EXACT and value == int(value)):
-        raise BadLine(place, str(value), "a number in a workbook is whole; others are entered as text")
+        raise BadLine(
+            place, str(value), "a number in a workbook is whole; others are entered as text"
+        )
     return str(int(value))
 
 

@@ -1,4 +1,4 @@
-"""Sheets as spreadsheets save them: which are read, and to the same book; which are refused, by which cell."""
+"""Sheets as spreadsheets save them: which are read, and which are refused by which cell."""
 
 import subprocess
 import sys
@@ -36,7 +36,9 @@ def each_cell(change):
     held = {}
     for file, text in PLAIN.items():
         heading, *lines = text.splitlines()
-        held[file] = "\n".join([heading, *(",".join(map(change, line.split(","))) for line in lines)]) + "\n"
+        held[file] = (
+            "\n".join([heading, *(",".join(map(change, line.split(","))) for line in lines)]) + "\n"
+        )
     return held
 
 
@@ -54,14 +56,29 @@ def scaled(word, digits):
 
 def in_other_units():
     """The sheets in percent and francs."""
-    digits = {"cost_rate_millionths": 4, "rate_millionths": 4, "men_millionths": 4, "women_millionths": 4,
-              "lapse_millionths": 4, "premium_centimes": 2, "claims_centimes": 2}
+    digits = {
+        "cost_rate_millionths": 4,
+        "rate_millionths": 4,
+        "men_millionths": 4,
+        "women_millionths": 4,
+        "lapse_millionths": 4,
+        "premium_centimes": 2,
+        "claims_centimes": 2,
+    }
     held = {}
     for file, text in PLAIN.items():
         heading, *lines = [line.split(",") for line in text.splitlines()]
-        rows = [[scaled(cell, digits[name]) if name in digits else cell for name, cell in zip(heading, line)]
-                for line in lines]
-        named = [name.replace("_millionths", "_percent").replace("_centimes", "_francs") for name in heading]
+        rows = [
+            [
+                scaled(cell, digits[name]) if name in digits else cell
+                for name, cell in zip(heading, line)
+            ]
+            for line in lines
+        ]
+        named = [
+            name.replace("_millionths", "_percent").replace("_centimes", "_francs")
+            for name in heading
+        ]
         held[file] = "".join(",".join(line) + "\n" for line in [named, *rows])
     return held
 
@@ -90,7 +107,7 @@ class Sheets(unittest.TestCase):
         self.assertEqual(self.out.read_bytes(), due)
 
     def refuse(self, file, old, new, *told):
-        """A sheet with something else in one place is refused in these words, and nothing is written."""
+        """A sheet changed in one place is refused in these words, and nothing is written."""
         self.assertIn(old, PLAIN[file])
         run = self.write({**PLAIN, file: PLAIN[file].replace(old, new, 1)})
         self.assertEqual((run.code, run.out), (REFUSED, b""))
@@ -104,25 +121,37 @@ class Saved(Sheets):
 
     def test_encodings_and_separators(self):
         with_tail = each_text(lambda text: text.replace("\n", ",,,\r\n") + ",,,,\r\n\r\n")
-        for sheets in (PLAIN, with_tail, each_text(lambda text: MARK + text.encode()),
-                       each_text(lambda text: text.replace(",", "\t").replace("\n", "\r\n")),
-                       each_text(lambda text: text.replace(",", "\t").encode("utf-16")),
-                       each_text(lambda text: b"\xfe\xff" + text.encode("utf-16-be")),
-                       each_text(lambda text: "sep=;\r\n" + text.replace(",", ";")),
-                       each_text(lambda text: "SEP=\t\n" + text.replace(",", "\t")),
-                       each_text(lambda text: "\n".join([text.split("\n", 1)[0].upper(), text.split("\n", 1)[1]]))):
+        for sheets in (
+            PLAIN,
+            with_tail,
+            each_text(lambda text: MARK + text.encode()),
+            each_text(lambda text: text.replace(",", "\t").replace("\n", "\r\n")),
+            each_text(lambda text: text.replace(",", "\t").encode("utf-16")),
+            each_text(lambda text: b"\xfe\xff" + text.encode("utf-16-be")),
+            each_text(lambda text: "sep=;\r\n" + text.replace(",", ";")),
+            each_text(lambda text: "SEP=\t\n" + text.replace(",", "\t")),
+            each_text(
+                lambda text: "\n".join([text.split("\n", 1)[0].upper(), text.split("\n", 1)[1]])
+            ),
+        ):
             with self.subTest(start=sheets["header.csv"][:20]):
                 self.accept(sheets)
 
     def test_thousands(self):
         for mark in ("'", "\u2019"):
             self.accept(each_cell(lambda word, mark=mark: apart(word, mark)))
-        windows = {file: text.encode("cp1252") for file, text in each_cell(lambda word: apart(word, "\u2019")).items()}
+        windows = {
+            file: text.encode("cp1252")
+            for file, text in each_cell(lambda word: apart(word, "\u2019")).items()
+        }
         self.assertIn(b"\x92", windows["portfolio.csv"])
         self.accept(windows)
 
     def test_lines_are_counted_with_the_separator_line(self):
-        sheets = {**PLAIN, "curve.csv": "sep=,\n" + PLAIN["curve.csv"].replace("\n2,-5000", "\n2,x")}
+        sheets = {
+            **PLAIN,
+            "curve.csv": "sep=,\n" + PLAIN["curve.csv"].replace("\n2,-5000", "\n2,x"),
+        }
         self.assertIn("curve.csv, line 4, column rate_millionths: 'x'", self.write(sheets).told)
 
     def test_not_text(self):
@@ -138,39 +167,75 @@ class Numbers(Sheets):
 
     def test_percent_and_francs(self):
         sheets = in_other_units()
-        self.assertIn("lapse_percent,premium_francs,claims_francs\nPG2,men,118,3,7.0001,601.23,304.56\n",
-                      sheets["portfolio.csv"])
+        self.assertIn(
+            "lapse_percent,premium_francs,claims_francs\nPG2,men,118,3,7.0001,601.23,304.56\n",
+            sheets["portfolio.csv"],
+        )
         self.accept(sheets)
 
     def test_no_whole_number(self):
-        for sheet, old, new, column, base in (("portfolio.csv", "7.0001", "7.00011", "lapse_percent", "millionths"),
-                                              ("portfolio.csv", "601.23", "601.2301", "premium_francs", "centimes")):
+        for sheet, old, new, column, base in (
+            ("portfolio.csv", "7.0001", "7.00011", "lapse_percent", "millionths"),
+            ("portfolio.csv", "601.23", "601.2301", "premium_francs", "centimes"),
+        ):
             sheets = in_other_units()
             run = self.write({**sheets, sheet: sheets[sheet].replace(old, new)})
             self.assertEqual(run.code, REFUSED)
-            self.assertIn(f"{sheet}, line 2, column {column}: '{new}'; this is no whole number of {base}", run.told)
+            self.assertIn(
+                f"{sheet}, line 2, column {column}: '{new}'; this is no whole number of {base}",
+                run.told,
+            )
 
     def test_range_in_the_unit(self):
         sheets = in_other_units()
-        run = self.write({**sheets, "portfolio.csv": sheets["portfolio.csv"].replace("7.0001", "100.0001")})
-        self.assertIn("column lapse_percent: '100.0001'; a number from 0 to 100 percent is due", run.told)
+        run = self.write(
+            {**sheets, "portfolio.csv": sheets["portfolio.csv"].replace("7.0001", "100.0001")}
+        )
+        self.assertIn(
+            "column lapse_percent: '100.0001'; a number from 0 to 100 percent is due", run.told
+        )
 
     def test_two_readings(self):
         for word in ("70.001", "1.234", '"70,001"', '"1,5"', '"1\'234,5"'):
-            self.refuse("portfolio.csv", "118,3,70001", f"118,3,{word}",
-                        "portfolio.csv, line 2, column lapse_millionths: ", "read in two ways")
+            self.refuse(
+                "portfolio.csv",
+                "118,3,70001",
+                f"118,3,{word}",
+                "portfolio.csv, line 2, column lapse_millionths: ",
+                "read in two ways",
+            )
         sheets = in_other_units()
         for word in ("7.125", '"7,0001"'):
-            run = self.write({**sheets, "portfolio.csv": sheets["portfolio.csv"].replace("7.0001", word)})
+            run = self.write(
+                {**sheets, "portfolio.csv": sheets["portfolio.csv"].replace("7.0001", word)}
+            )
             self.assertEqual(run.code, REFUSED)
             self.assertIn("portfolio.csv, line 2, column lapse_percent: ", run.told)
             self.assertIn("read in two ways", run.told)
 
     def test_no_number(self):
-        for word in ("7'00", "7'0001", "'70001", "1'000\u2019000", "7e4", "70001%", "+70001", "", "70001.0",
-                     "\u0667", "0x11", "7 0001", "9" * 5_000):
-            self.refuse("portfolio.csv", "118,3,70001", f"118,3,{word}",
-                        "portfolio.csv, line 2, column lapse_millionths: ", "a whole number from 0 to 1,000,000")
+        for word in (
+            "7'00",
+            "7'0001",
+            "'70001",
+            "1'000\u2019000",
+            "7e4",
+            "70001%",
+            "+70001",
+            "",
+            "70001.0",
+            "\u0667",
+            "0x11",
+            "7 0001",
+            "9" * 5_000,
+        ):
+            self.refuse(
+                "portfolio.csv",
+                "118,3,70001",
+                f"118,3,{word}",
+                "portfolio.csv, line 2, column lapse_millionths: ",
+                "a whole number from 0 to 1,000,000",
+            )
 
     def test_years_and_single_values(self):
         self.refuse("header.csv", "sst_year,2021", "sst_year,2016", "from 2017 to 2100 is due")
@@ -184,10 +249,21 @@ class AgeBasis(Sheets):
         """The sheets with classes of basis 2."""
         heading, *lines = [line.split(",") for line in PLAIN["portfolio.csv"].splitlines()]
         rows = [[*line[:2], str(int(line[2]) + 1), *line[3:]] for line in lines]
-        return {**PLAIN, "portfolio.csv": "".join(",".join(line) + "\n" for line in [heading, *rows]),
-                "header.csv": "".join(line + "\n" for line in (
-                    "field,value", "edition,1", "age_basis,2", "sst_year,2021", "mortality_percentage_men,0",
-                    "mortality_percentage_women,0"))}
+        return {
+            **PLAIN,
+            "portfolio.csv": "".join(",".join(line) + "\n" for line in [heading, *rows]),
+            "header.csv": "".join(
+                line + "\n"
+                for line in (
+                    "field,value",
+                    "edition,1",
+                    "age_basis,2",
+                    "sst_year,2021",
+                    "mortality_percentage_men,0",
+                    "mortality_percentage_women,0",
+                )
+            ),
+        }
 
     def test_basis_2(self):
         sheets = self.on_basis_2()
@@ -201,16 +277,25 @@ class AgeBasis(Sheets):
 
     def test_class_0_and_121(self):
         sheets = self.on_basis_2()
-        run = self.write({**sheets, "portfolio.csv": sheets["portfolio.csv"].replace("men,119", "men,0")})
+        run = self.write(
+            {**sheets, "portfolio.csv": sheets["portfolio.csv"].replace("men,119", "men,0")}
+        )
         self.assertEqual(run.code, REFUSED)
-        self.assertIn("column class: '0'; a whole number from 1 to 121 is due: on age basis 2 a class is SST year - "
-                      "birth year", run.told)
+        self.assertIn(
+            "column class: '0'; a whole number from 1 to 121 is due: on age basis 2 a class is "
+            "SST year - birth year",
+            run.told,
+        )
         self.refuse("portfolio.csv", "men,120", "men,121", "column class: '121'", "age_basis is 2")
         sheets["portfolio.csv"] = sheets["portfolio.csv"].replace("men,121", "women,121")
-        self.assertIn("class 121 of this chain is missing; a chain goes up to 121", self.write(sheets).told)
+        self.assertIn(
+            "class 121 of this chain is missing; a chain goes up to 121", self.write(sheets).told
+        )
 
     def test_no_other_basis(self):
-        self.refuse("header.csv", "age_basis,1", "age_basis,3", "header.csv, line 3, column value: '3'")
+        self.refuse(
+            "header.csv", "age_basis,1", "age_basis,3", "header.csv, line 3, column value: '3'"
+        )
 
     def test_refused_book_names_the_converter(self):
         run = xaropinto("check", sample("newer_basis"))
@@ -239,7 +324,10 @@ class Folders(Sheets):
         self.assertEqual((run.code, self.held()), (TROUBLE, before))
         self.assertIn("--replace", run.told)
         self.assertEqual(self.read("--replace").code, DONE)
-        self.assertEqual({name: text.decode() for name, text in self.held().items()}, sheets_of(sample("small_insurer")))
+        self.assertEqual(
+            {name: text.decode() for name, text in self.held().items()},
+            sheets_of(sample("small_insurer")),
+        )
 
     def test_an_empty_folder(self):
         self.target.mkdir()
@@ -260,12 +348,28 @@ class Folders(Sheets):
                     self.assertEqual(self.read(book="worked_example").code, DONE)
                 kept = self.held() if before else None
                 # Files of at most 4 blocks: the portfolio does not fit.
-                line = ["sh", "-c", 'ulimit -f 4; exec "$@"', "sh", sys.executable, "-m", "xaropinto", "read",
-                        str(sample("small_insurer")), "-o", str(self.target), *(["--replace"] if before else [])]
+                line = [
+                    "sh",
+                    "-c",
+                    'ulimit -f 4; exec "$@"',
+                    "sh",
+                    sys.executable,
+                    "-m",
+                    "xaropinto",
+                    "read",
+                    str(sample("small_insurer")),
+                    "-o",
+                    str(self.target),
+                    *(["--replace"] if before else []),
+                ]
                 ended = subprocess.run(line, capture_output=True, check=False, env=surroundings())
                 self.assertEqual(ended.returncode, TROUBLE, ended.stderr)
-                self.assertEqual(self.held() if before else self.target.exists(), kept if before else False)
-                self.assertEqual([path.name for path in self.folder.iterdir()], ["target"] if before else [])
+                self.assertEqual(
+                    self.held() if before else self.target.exists(), kept if before else False
+                )
+                self.assertEqual(
+                    [path.name for path in self.folder.iterdir()], ["target"] if before else []
+                )
 
 
 if __name__ == "__main__":

@@ -1,4 +1,4 @@
-"""A book as one workbook: there and back byte for byte; which cells are refused; and a machine without openpyxl."""
+"""A book as one workbook: there and back, refused cells, and a machine without openpyxl."""
 
 import datetime
 import functools
@@ -84,7 +84,9 @@ class ThereAndBack(Workbooks):
         self.assertEqual(held.sheetnames, SHEETS)
         for name in SHEETS:
             lines = [",".join(map(str, row)) for row in held[name].iter_rows(values_only=True)]
-            self.assertEqual(lines, (self.folder / "sheets" / f"{name}.csv").read_text().splitlines())
+            self.assertEqual(
+                lines, (self.folder / "sheets" / f"{name}.csv").read_text().splitlines()
+            )
 
     def test_text_whole_floats_case_and_order(self):
         def change(book):
@@ -95,6 +97,7 @@ class ThereAndBack(Workbooks):
             book["curve"].title = "other"
             book["other"].title = "Curve"
             book.move_sheet("portfolio", -4)
+
         run = self.changed(change)
         self.assertEqual((run.code, run.told), (DONE, ""))
         self.assertEqual(self.book.read_bytes(), sample("worked_example").read_bytes())
@@ -104,27 +107,47 @@ class Refused(Workbooks):
     """By the cell, and by the sheet."""
 
     def test_cells(self):
-        for value, words in (("=3+0", "'=3+0'; this is a formula"), (True, "this is true or false"),
-                             (datetime.date(2021, 1, 1), "this is a date"), (3.5, "'3.5'; a number in a workbook is whole"),
-                             ("#N/A", "this is an error"), (1e300, "a number in a workbook is whole"),
-                             ("1.234", "'1.234'; this can be read in two ways"), (None, "''; a whole number from 0"),
-                             (100_001, "'100001'; a whole number from 0 to 100,000")):
+        for value, words in (
+            ("=3+0", "'=3+0'; this is a formula"),
+            (True, "this is true or false"),
+            (datetime.date(2021, 1, 1), "this is a date"),
+            (3.5, "'3.5'; a number in a workbook is whole"),
+            ("#N/A", "this is an error"),
+            (1e300, "a number in a workbook is whole"),
+            ("1.234", "'1.234'; this can be read in two ways"),
+            (None, "''; a whole number from 0"),
+            (100_001, "'100001'; a whole number from 0 to 100,000"),
+        ):
             with self.subTest(value=value):
+
                 def change(book, value=value):
                     book["portfolio"]["D3"] = value
+
                 self.refused(change, "book.xlsx, sheet portfolio, cell D3", words)
 
     def test_percent_format(self):
         def change(book):
             book["portfolio"]["E2"].number_format = "0.00%"
-        self.refused(change, "book.xlsx, sheet portfolio, cell E2", "percent can be read in two ways")
+
+        self.refused(
+            change, "book.xlsx, sheet portfolio, cell E2", "percent can be read in two ways"
+        )
 
     def test_sheets(self):
         self.refused(lambda book: book.remove(book["curve"]), "book.xlsx, sheet curve", "missing")
-        self.refused(lambda book: book.create_sheet("portfolio 2"), "book.xlsx, sheet portfolio 2", "the sheets are")
+        self.refused(
+            lambda book: book.create_sheet("portfolio 2"),
+            "book.xlsx, sheet portfolio 2",
+            "the sheets are",
+        )
 
     def test_no_workbook(self):
-        for held in (b"", b"PK\x03\x04", worked_example()[:2_000], sample("worked_example").read_bytes()):
+        for held in (
+            b"",
+            b"PK\x03\x04",
+            worked_example()[:2_000],
+            sample("worked_example").read_bytes(),
+        ):
             self.workbook.write_bytes(held)
             run = self.run_verb("write", self.workbook, "-o", self.book)
             self.assertEqual((run.code, run.out, run.told.count("\n")), (TROUBLE, b"", 1), run.told)
@@ -152,8 +175,10 @@ class WithoutOpenpyxl(Workbooks):
         missing.mkdir()
         (missing / "openpyxl.py").write_text("raise ModuleNotFoundError('openpyxl')\n")
         env = surroundings(PYTHONPATH=os.pathsep.join([str(missing), str(ROOT / "python")]))
-        for words in (("read", sample("worked_example"), "-o", self.folder / "other.xlsx"),
-                      ("write", self.workbook, "-o", self.book)):
+        for words in (
+            ("read", sample("worked_example"), "-o", self.folder / "other.xlsx"),
+            ("write", self.workbook, "-o", self.book),
+        ):
             run = xaropinto(*words, env=env)
             self.assertEqual((run.code, run.out, run.told.count("\n")), (TROUBLE, b"", 1))
             self.assertIn("pip install 'xaropinto[xlsx]'", run.told)

@@ -1,6 +1,6 @@
-"""A book through LibreOffice as it is set up in Switzerland: out as a workbook, saved anew there, and in again.
+"""A book through LibreOffice as it is set up in Switzerland: out as a workbook, saved, in again.
 
-Saved as a workbook, and as files of separated values with every number shown with its thousands apart. It needs
+Saved as a workbook, and as separated values that show their thousands apart. It needs
 LibreOffice Calc (Debian's package libreoffice-calc) and openpyxl (python3-openpyxl).
 """
 
@@ -21,10 +21,11 @@ PROGRAM = "soffice"
 MOST_SECONDS = 300
 SETTINGS = """<?xml version="1.0" encoding="UTF-8"?>
 <oor:items xmlns:oor="http://openoffice.org/2001/registry">
-<item oor:path="/org.openoffice.Setup/L10N"><prop oor:name="ooSetupSystemLocale" oor:op="fuse"><value>de-CH</value>
-</prop></item></oor:items>
+<item oor:path="/org.openoffice.Setup/L10N">
+<prop oor:name="ooSetupSystemLocale" oor:op="fuse"><value>de-CH</value></prop>
+</item></oor:items>
 """
-# Semicolons, quotes where needed, UTF-8, German (Switzerland), cells as shown, every sheet in a file of its own.
+# Semicolons, UTF-8, German (Switzerland), cells as shown, every sheet in a file of its own.
 SEPARATED = "csv:Text - txt - csv (StarCalc):59,34,76,1,,2055,false,true,true,false,false,-1"
 ENV = surroundings(PYTHONPATH=os.pathsep.join([str(ROOT / "python"), openpyxl_folder()]))
 # As a person lets a spreadsheet show large numbers.
@@ -40,7 +41,9 @@ class Spreadsheet(unittest.TestCase):
         self.folder = Path(held.name)
         for name in ("profile/user", "saved", "sheets"):
             (self.folder / name).mkdir(parents=True)
-        (self.folder / "profile" / "user" / "registrymodifications.xcu").write_text(SETTINGS, encoding="utf-8")
+        (self.folder / "profile" / "user" / "registrymodifications.xcu").write_text(
+            SETTINGS, encoding="utf-8"
+        )
 
     def done(self, *words):
         """A verb that writes a file and reports nothing."""
@@ -48,14 +51,28 @@ class Spreadsheet(unittest.TestCase):
 
     def save(self, workbook, kind):
         """Let LibreOffice open a workbook and save it as another kind of file."""
-        ended = subprocess.run([PROGRAM, f"-env:UserInstallation=file://{self.folder}/profile", "--headless",
-                                "--convert-to", kind, "--outdir", str(self.folder / "saved"), str(workbook)],
-                               capture_output=True, timeout=MOST_SECONDS, check=False)
+        ended = subprocess.run(
+            [
+                PROGRAM,
+                f"-env:UserInstallation=file://{self.folder}/profile",
+                "--headless",
+                "--convert-to",
+                kind,
+                "--outdir",
+                str(self.folder / "saved"),
+                str(workbook),
+            ],
+            capture_output=True,
+            timeout=MOST_SECONDS,
+            check=False,
+        )
         self.assertEqual(ended.returncode, 0, ended.stderr)
 
     def book_and_workbook(self, name):
         """A book in order, and its workbook."""
-        first, book, workbook = (self.folder / each for each in ("first.xlsx", "due.book", "book.xlsx"))
+        first, book, workbook = (
+            self.folder / each for each in ("first.xlsx", "due.book", "book.xlsx")
+        )
         self.done("read", sample(name), "-o", first)
         self.done("write", first, "-o", book)
         self.done("read", book, "-o", workbook)

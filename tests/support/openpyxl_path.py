@@ -1,4 +1,4 @@
-"""Where openpyxl stands, which reads and writes workbooks: for this interpreter, or for the system's."""
+"""Where openpyxl stands, for workbooks: of this interpreter, or of the system's."""
 
 import atexit
 import functools
@@ -16,13 +16,15 @@ def installed(package):
     spec = importlib.util.find_spec(package)
     path = Path(spec.origin).parent if spec and spec.origin else SYSTEM / package
     if not path.is_dir():
-        raise FileNotFoundError(f"{package} is not installed: Debian's package python3-openpyxl has it")
+        raise FileNotFoundError(
+            f"{package} is not installed: Debian's package python3-openpyxl has it"
+        )
     return path
 
 
 @functools.cache
 def openpyxl_folder():
-    """A folder in which Python finds openpyxl and what it needs, and nothing else; it is there until this run ends."""
+    """A folder, until this run ends, with openpyxl and what it needs and nothing else."""
     held = tempfile.TemporaryDirectory()
     atexit.register(held.cleanup)
     for package in NEEDED:

@@ -18,25 +18,60 @@ TABLE_FILE, FUND_FILE = "table", "fund"
 
 def add_verbs(verbs: Any) -> None:
     """Their words."""
-    write = verbs.add_parser("write", help="a book out of a workbook, or of a folder of comma-separated files",
-                             epilog="Example: xaropinto write book.xlsx -o mine.book")
-    write.add_argument("sheets", metavar="SHEETS", help="a workbook (.xlsx) with the sheets header, cost_rates, "
-                       "curve, mortality and portfolio, or a folder with these as .csv, as `xaropinto read` writes")
-    add_output(write, "the book")
-    write.set_defaults(run=write_book)
-    read = add_verb(verbs, "read", read_book, "a book as a workbook, or as a folder of comma-separated files",
-                    "xaropinto read mine.book -o book.xlsx")
+    add_write(verbs)
+    read = add_verb(
+        verbs,
+        "read",
+        read_book,
+        "a book as a workbook, or as a folder of comma-separated files",
+        "xaropinto read mine.book -o book.xlsx",
+    )
     add_output(read, "the workbook (.xlsx) or folder")
     add_replace(read)
-    convert = add_verb(verbs, "convert", convert_book, "a book of age basis 2 as one of basis 1",
-                       "xaropinto convert newer.book -o mine.book")
+    convert = add_verb(
+        verbs,
+        "convert",
+        convert_book,
+        "a book of age basis 2 as one of basis 1",
+        "xaropinto convert newer.book -o mine.book",
+    )
     add_output(convert, "the book")
-    split = add_verb(verbs, "split", split_book, "the table file and the fund file of a book",
-                     "xaropinto split mine.book -o parts, for parts/table and parts/fund")
+    add_fund_verbs(verbs)
+
+
+def add_write(verbs: Any) -> None:
+    """The verb that takes sheets."""
+    write = verbs.add_parser(
+        "write",
+        help="a book out of a workbook, or of a folder of comma-separated files",
+        epilog="Example: xaropinto write book.xlsx -o mine.book",
+    )
+    write.add_argument(
+        "sheets",
+        metavar="SHEETS",
+        help="a workbook (.xlsx) with the sheets header, cost_rates, curve, mortality and "
+        "portfolio, or a folder with these as .csv, as `read` writes them",
+    )
+    add_output(write, "the book")
+    write.set_defaults(run=write_book)
+
+
+def add_fund_verbs(verbs: Any) -> None:
+    """The verbs of the table file and fund files."""
+    split = add_verb(
+        verbs,
+        "split",
+        split_book,
+        "the table file and the fund file of a book",
+        "xaropinto split mine.book -o parts, for parts/table and parts/fund",
+    )
     add_output(split, "the folder")
     add_replace(split)
-    funds = verbs.add_parser("funds", help="the eight totals of two funds on the same tables",
-                             epilog="Example: xaropinto funds parts/table parts/fund other/fund")
+    funds = verbs.add_parser(
+        "funds",
+        help="the eight totals of two funds on the same tables",
+        epilog="Example: xaropinto funds parts/table parts/fund other/fund",
+    )
     for name in ("table", "first", "second"):
         funds.add_argument(name, metavar=name.upper())
     funds.set_defaults(run=show_funds)
@@ -44,12 +79,16 @@ def add_verbs(verbs: Any) -> None:
 
 def add_output(verb: argparse.ArgumentParser, what: str) -> None:
     """Where to write."""
-    verb.add_argument("-o", dest="out", metavar="PATH", required=True, help=f"{what} that is written")
+    verb.add_argument(
+        "-o", dest="out", metavar="PATH", required=True, help=f"{what} that is written"
+    )
 
 
 def add_replace(verb: argparse.ArgumentParser) -> None:
     """Whether a folder may give way."""
-    verb.add_argument("--replace", action="store_true", help="replace a folder that holds such files only")
+    verb.add_argument(
+        "--replace", action="store_true", help="replace a folder that holds such files only"
+    )
 
 
 def write_book(chosen: argparse.Namespace) -> None:
@@ -64,8 +103,10 @@ def write_book(chosen: argparse.Namespace) -> None:
             tables = folder_tables(path)
         values = read_sheets(tables)
     except (OSError, ValueError, NoWorkbook) as trouble:
-        raise Trouble(f"{getattr(trouble, 'filename', None) or chosen.sheets}: "
-                      f"{getattr(trouble, 'strerror', None) or trouble}") from trouble
+        raise Trouble(
+            f"{getattr(trouble, 'filename', None) or chosen.sheets}: "
+            f"{getattr(trouble, 'strerror', None) or trouble}"
+        ) from trouble
     write_file(chosen.out, answers.write(values))
 
 
@@ -91,12 +132,18 @@ def split_book(chosen: argparse.Namespace) -> None:
     """The two files of an accepted book; Funds joins them to the same book again."""
     book = read_file(chosen.file)
     answers.check(book)
-    write_folder(chosen.out, {TABLE_FILE: book[TABLES_AT:HEADER_BYTES],
-                              FUND_FILE: book[:TABLES_AT] + book[HEADER_BYTES:]}, chosen.replace)
+    write_folder(
+        chosen.out,
+        {
+            TABLE_FILE: book[TABLES_AT:HEADER_BYTES],
+            FUND_FILE: book[:TABLES_AT] + book[HEADER_BYTES:],
+        },
+        chosen.replace,
+    )
 
 
 def show_funds(chosen: argparse.Namespace) -> int:
-    """Fund, setting, total and n; a refused fund is told on standard error, and the other is shown all the same."""
+    """Fund, setting, total and n; one fund is shown though the other is refused."""
     table, first, second = (read_file(path) for path in (chosen.table, chosen.first, chosen.second))
     lines, refused = ["fund,setting,total,n\n"], []
     files = ((chosen.first, first), (chosen.second, second))

@@ -1,4 +1,4 @@
-"""A folder of files, written as a whole: a new folder beside, which then takes the name, or none of it."""
+"""A folder of files, written as a whole: a new folder beside, which then takes the name."""
 
 import os
 import shutil
@@ -10,8 +10,8 @@ from xaropinto.cli.outcome import STANDARD, Trouble, current_mask
 
 
 def write_folder(path: str, files: Mapping[str, bytes], replace: bool) -> None:
-    """Write all files or none. A folder that holds anything is left alone; with `replace` it gives way where it holds
-    files of these names only."""
+    """Write all files or none. A folder that holds anything is left alone; with `replace` it gives
+    way where it holds files of these names only."""
     target = Path(path)
     need_place(path, target, set(files), replace)
     beside = None
@@ -37,9 +37,13 @@ def need_place(path: str, target: Path, names: set[str], replace: bool) -> None:
     except (OSError, ValueError) as trouble:
         raise Trouble(f"{path}: {getattr(trouble, 'strerror', None) or trouble}") from trouble
     if held and not replace:
-        raise Trouble(f"{path}: the folder holds {min(held)!r}; name a new folder, or say --replace")
+        raise Trouble(
+            f"{path}: the folder holds {min(held)!r}; name a new folder, or say --replace"
+        )
     if held - names:
-        raise Trouble(f"{path}: the folder holds {min(held - names)!r}, which --replace would destroy")
+        raise Trouble(
+            f"{path}: the folder holds {min(held - names)!r}, which --replace would destroy"
+        )
 
 
 def put_file(path: Path, held: bytes) -> None:
