@@ -25,7 +25,7 @@ Provides-Extra: xlsx
 Requires-Dist: openpyxl; extra == "xlsx"
 """
 WHEEL = f"Wheel-Version: 1.0\nGenerator: {NAME}\nRoot-Is-Purelib: false\nTag: {TAG}\n"
-ENTRY_POINTS = f"[console_scripts]\n{NAME} = {NAME}.command.main:main\n"
+ENTRY_POINTS = f"[console_scripts]\n{NAME} = {NAME}.cli.main:main\n"
 
 
 def get_requires_for_build_wheel(config_settings=None):

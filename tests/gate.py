@@ -60,7 +60,7 @@ PROGRAMS = [
     script("listing program, by the paper's figures", "tests.programs.test_listing_main", 9),
     script("report program", "tests.programs.test_year_report_main", 9),
     script("convert program, by hand-worked books", "tests.programs.test_age_basis_main", 9),
-    script("sample books", "tools.sample_books", 37, "test"),
+    script("sample books", "tools.sample_books", 39, "test"),
     script("random books against the second check", "tests.fuzz.test_check", 17),
     script("random listings against the second reckoning and the fractions", "tests.fuzz.test_listing", 25),
 ]
@@ -80,6 +80,10 @@ CALLS = [
     script("practice books from Python, on random start numbers", "tests.api.test_practice_book", 19),
     script("the command's habits", "tests.cli.test_habits", 15),
     script("the command's answers, against the second reading", "tests.cli.test_figures", 19),
+    script("sheets as spreadsheets save them", "tests.cli.test_sheets", 19),
+    script("a book as a workbook", "tests.cli.test_workbook", 9),
+    script("the words of a refusal", "tests.cli.test_messages", 15),
+    script("table file and fund files", "tests.cli.test_funds_files", 6),
     script("what is installed", "tests.cli.test_installed", 8),
 ]
 PARTS = [PROOFS, *PROGRAMS, CALLERS, *CALLS]

@@ -74,7 +74,9 @@ class Installed(unittest.TestCase):
                     "--no-index", "--disable-pip-version-check", "--target", self.folder / "there",
                     self.folder / "python")
         self.assertEqual(ended.returncode, 0, ended.stderr)
-        self.assertTrue((self.folder / "there" / "bin" / "xaropinto").is_file())
+        ended = run(self.folder / "there" / "bin" / "xaropinto", "list", sample("small_insurer"), folder=self.folder,
+                    env={"PYTHONPATH": str(self.folder / "there")})
+        self.assertEqual((ended.returncode, ended.stdout, ended.stderr), (0, LISTING, b""))
         ended = run(sys.executable, "-c", "import xaropinto, sys; print(xaropinto.__version__, xaropinto.check("
                     "open(sys.argv[1], 'rb').read()))", sample("small_insurer"), folder=self.folder,
                     env={"PYTHONPATH": str(self.folder / "there")})
