@@ -53,7 +53,7 @@ def read_accounts(path: Path) -> AccountsSheet:
     rows = in_order(
         rows_of(table, Kind(path.name, COLUMNS)), table, [year for year in YEARS for _ in GROUPS]
     )
-    by_year = [rows[at : at + len(GROUPS)] for at in range(0, len(rows), len(GROUPS))]
+    by_year = [rows[at:at + len(GROUPS)] for at in range(0, len(rows), len(GROUPS))]
     for year in by_year:
         for group, row in zip(GROUPS, year):
             if row.word("group").casefold() != group.casefold():

@@ -21,7 +21,7 @@ from xaropinto.tables import Row
 
 def replaced(numbers: tuple[int, ...], at: int, number: int) -> tuple[int, ...]:
     """The numbers with another in one place."""
-    return (*numbers[:at], number, *numbers[at + 1 :])
+    return (*numbers[:at], number, *numbers[at + 1:])
 
 
 OUT_OF_RANGE = 17
@@ -77,7 +77,7 @@ def changed_rows(
     rows: tuple[tuple[int, ...], ...], at: int, row: tuple[int, ...]
 ) -> tuple[tuple[int, ...], ...]:
     """The rows with another in one place."""
-    return (*rows[:at], row, *rows[at + 1 :])
+    return (*rows[:at], row, *rows[at + 1:])
 
 
 def figures() -> Iterator[Figure]:

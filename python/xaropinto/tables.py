@@ -113,7 +113,7 @@ def saved_table(path: Path) -> Table:
             told[0].strip(),
             "the separator is a comma, a semicolon or a tab",
         )
-    body = text[told.end() :] if told else text
+    body = text[told.end():] if told else text
     heading = re.split(r"[\r\n]", body.lstrip("\r\n"), maxsplit=1)[0]
     separator = told[1] if told else next((each for each in SEPARATORS if each in heading), ",")
     reader = csv.reader(io.StringIO(body, newline=""), delimiter=separator, strict=True)
@@ -135,7 +135,7 @@ def decoded(file: str, raw: bytes) -> str:
         try:
             text = raw.decode(encoding)
         except UnicodeDecodeError as wrong:
-            line, byte = raw[: wrong.start].count(b"\n") + 1, raw[wrong.start : wrong.start + 1]
+            line, byte = raw[:wrong.start].count(b"\n") + 1, raw[wrong.start:wrong.start + 1]
             continue
         if "\0" in text:
             raise BadLine(

@@ -44,7 +44,7 @@ def workbook_tables(file: str, held: bytes) -> Tables:
     for title in sheets.sheetnames:
         if not any(same_word(title, name) for name in names):
             raise BadLine(f"{file}, sheet {title}", title, f"the sheets are {', '.join(names)}")
-    by_name = {title.casefold(): sheets[title] for title in sheets.sheetnames}
+    by_name = {sheet.title.casefold(): sheet for sheet in sheets.worksheets}
 
     def table(kind: Kind) -> Table:
         if kind.name not in by_name:

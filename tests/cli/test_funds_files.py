@@ -12,8 +12,8 @@ from tests.cli.run import DONE, REFUSED, TROUBLE, sample, xaropinto
 from tests.support.report import run_unit_tests
 
 BOOK = sample("worked_example").read_bytes()
-TABLE = BOOK[FRONT_BYTES : FRONT_BYTES + TABLE_BYTES]
-FUND = BOOK[:FRONT_BYTES] + BOOK[FRONT_BYTES + TABLE_BYTES :]
+TABLE = BOOK[FRONT_BYTES:FRONT_BYTES + TABLE_BYTES]
+FUND = BOOK[:FRONT_BYTES] + BOOK[FRONT_BYTES + TABLE_BYTES:]
 
 
 class Files(unittest.TestCase):
@@ -71,7 +71,7 @@ class Refused(Files):
 
     def test_a_record(self):
         bad = changed(BOOK, (record(1).amounts[1], 1_000_001))
-        told = self.told(TABLE, bad[:FRONT_BYTES] + bad[FRONT_BYTES + TABLE_BYTES :])
+        told = self.told(TABLE, bad[:FRONT_BYTES] + bad[FRONT_BYTES + TABLE_BYTES:])
         self.assertIn("first: refused 12 68\n", told)
         self.assertIn("lapse at byte 68 of the fund file is 1,000,001", told)
         self.assertNotIn("1,232", told)
