@@ -82,7 +82,7 @@ CALLS = [
     script("the command's answers, against the second reading", "tests.cli.test_figures", 19),
     script("sheets as spreadsheets save them", "tests.cli.test_sheets", 19),
     script("a book as a workbook", "tests.cli.test_workbook", 9),
-    script("the words of a refusal", "tests.cli.test_messages", 15),
+    script("the words of a refusal", "tests.cli.test_messages", 16),
     script("table file and fund files", "tests.cli.test_funds_files", 6),
     script("what is installed", "tests.cli.test_installed", 8),
 ]

@@ -1,11 +1,13 @@
 """A refusal in words: those of its call, the chain that is read, the cell that is at fault."""
 
+import random
 import sys
 import tempfile
 import unittest
+from collections import Counter
 from pathlib import Path
 
-from reference.layout import CHAINS, changed, record
+from reference.layout import CHAINS, RECORD_COUNT, changed, record
 from tests import ROOT
 from tests.cli.inputs import ACCOUNTS, FACTORS, accounts_text, factors_text
 from tests.cli.run import REFUSED, SAMPLES, sample, xaropinto
@@ -14,6 +16,7 @@ from tests.support.report import run_unit_tests
 sys.path.insert(0, str(ROOT / "python"))
 
 from xaropinto import answers  # noqa: E402
+from xaropinto.layout import CHAINS as NAMES  # noqa: E402
 
 WORKED, NEWER = sample("worked_example").read_bytes(), sample("newer_basis").read_bytes()
 PG1A_MEN, PG2_WOMEN = CHAINS[0].head, CHAINS[7].head
@@ -54,6 +57,21 @@ class OfABook(unittest.TestCase):
             "PG1a men, record 3, class 120: next of record 2 at byte 1,248 leads here; "
             "subgroup code at byte 1,268 is 4 (PG2); it must be 1",
         )
+
+    def test_the_chain_that_is_named_is_the_one_at_fault(self):
+        draw, book, refused = random.Random(36), sample("small_insurer").read_bytes(), Counter()
+        count = RECORD_COUNT.read(book)
+        links = [chain.head for chain in CHAINS] + [record(at).next for at in range(1, count + 1)]
+        for _ in range(600):
+            damaged = changed(book, (draw.choice(links), draw.randint(1, count)))
+            try:
+                answers.check(damaged)
+            except answers.Refused as found:
+                named = NAMES.index(found.words.split(",")[0])
+                refused[found.number] += 1
+                # One head or next is wrong: without its chain the proved check accepts the book.
+                answers.check(changed(damaged, (CHAINS[named].head, 0)))
+        self.assertGreater(min(refused[number] for number in (10, 11, 13)), 5)
 
     def test_class_that_was_due(self):
         self.refused(
