@@ -1,5 +1,6 @@
 # `make` lists the targets. The toolchain, a POSIX shell, make and Python 3.10 or later are needed; gcc for the
-# library and what calls it, g++, cargo and valgrind for the callers' tests.
+# library and what calls it, g++, cargo and valgrind for the callers' tests, openpyxl
+# (Debian's python3-openpyxl) for those of workbooks.
 .DEFAULT_GOAL := help
 .PHONY: help test quick check list report convert practice fuzz streams samples lib install dist callers bench clean FORCE
 

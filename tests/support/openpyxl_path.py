@@ -37,3 +37,7 @@ def import_openpyxl():
     """The package."""
     sys.path.append(openpyxl_folder())
     return importlib.import_module("openpyxl")
+
+
+if __name__ == "__main__":
+    print(f"openpyxl {import_openpyxl().__version__}")
