@@ -1,28 +1,34 @@
-"""The calls as functions that answer with figures, or raise `Refused`."""
+"""The calls as functions that answer with figures, or raise `RefusedError`."""
 
 from array import array
-from typing import NamedTuple, Optional, Sequence
+from typing import NamedTuple, Optional, Sequence, Union
 
 from xaropinto import calls
 from xaropinto.book_values import BookValues, taken_apart
 from xaropinto.layout import HEADER_BYTES, LONGEST_BOOK, MOST_RECORDS, RECORD_BYTES, YEARS
-from xaropinto.messages import CONVERT, GROUP, PRACTICE, READ, RECORD, WRITE, explain, explain_fund
-from xaropinto.refusals import BOOK
+from xaropinto.messages import (CONVERT, FUNDS, GROUP, PRACTICE, READ, RECORD, WRITE, explain,
+                                explain_fund)
+from xaropinto.refusals import BOOK, refusal_of
 
 TABLE_NUMBERS = 4 * YEARS
 MOST_LISTING_BYTES = 512
 
 
-class Refused(Exception):
-    """The first rule that is broken: its number, the place, and both in words."""
+class RefusedError(Exception):
+    """The first rule that is broken: its number, the place, both in words, and the owner."""
 
-    def __init__(self, number: int, place: int, words: str):
+    def __init__(self, number: int, place: int, words: str, owner: str = ""):
         super().__init__(f"refused {number} {place}: {words}")
-        self.number, self.place, self.words = number, place, words
+        self.number, self.place, self.words, self.owner = number, place, words, owner
 
-    def at(self, found: str) -> "Refused":
+    def at(self, found: str) -> "RefusedError":
         """The same refusal, with words of what it was found in before its own."""
-        return Refused(self.number, self.place, f"{found}; {self.words}" if found else self.words)
+        words = f"{found}; {self.words}" if found else self.words
+        return RefusedError(self.number, self.place, words, self.owner)
+
+    def moved(self, place: int) -> "RefusedError":
+        """The same refusal, at its place in another file."""
+        return RefusedError(self.number, place, self.words, self.owner)
 
 
 class Group(NamedTuple):
@@ -63,10 +69,21 @@ class Deviation(NamedTuple):
     thousand_francs: int
 
 
+class FundTotals(NamedTuple):
+    """n and the totals by setting of one of two funds, in centimes."""
+
+    n: int
+    totals: tuple[int, ...]
+
+
+FundReply = Union[FundTotals, RefusedError]
+
+
 def need_accepted(number: int, place: int, book: Optional[bytes] = None, call: str = BOOK) -> None:
     """Raise where a call refused, in the words of the call."""
     if number:
-        raise Refused(number, place, explain(number, place, book, call))
+        words = explain(number, place, book, call)
+        raise RefusedError(number, place, words, refusal_of(number, call).owner)
 
 
 def check(book: bytes) -> int:
@@ -127,10 +144,10 @@ def cell(book: bytes, setting: int, code: int, sex: int, age_class: int) -> Cell
 
 def read(book: bytes) -> BookValues:
     """The values and lists of a book."""
-    lists = tuple(array("Q", bytes(8 * MOST_RECORDS)) for _ in range(4))
-    reply = calls.read(book, *lists)
+    counts, lapses, premiums, claims = (array("Q", bytes(8 * MOST_RECORDS)) for _ in range(4))
+    reply = calls.read(book, counts, lapses, premiums, claims)
     need_accepted(reply.refusal, reply.place, book, READ)
-    return taken_apart(reply.values, lists)
+    return taken_apart(reply.values, (counts, lapses, premiums, claims))
 
 
 def write(values: BookValues) -> bytes:
@@ -149,18 +166,20 @@ def convert(book: bytes) -> bytes:
     return bytes(room)
 
 
-def funds(table: bytes, first: bytes, second: bytes) -> tuple[object, object]:
-    """Each fund's totals, or the `Refused` that it is refused with: one fund does not hold back the other."""
+def funds(table: bytes, first: bytes, second: bytes) -> tuple[FundReply, FundReply]:
+    """Each fund's n and totals, or the error that it is refused with: one fund does not hold back the other."""
     numbers = array("q", bytes(8 * 16))
-    verdicts = calls.funds(table, first, second, numbers)
-    answers = []
-    for at, (verdict, fund) in enumerate(zip(verdicts, (first, second))):
-        if verdict.refusal:
-            words = explain_fund(verdict.refusal, verdict.place, table, fund)
-            answers.append(Refused(verdict.refusal, verdict.place, words))
-        else:
-            answers.append((verdict.n, tuple(numbers[8 * at:8 * at + 8])))
-    return answers[0], answers[1]
+    one, other = calls.funds(table, first, second, numbers)
+    return (fund_reply(one, numbers[:8], table, first), fund_reply(other, numbers[8:], table, second))
+
+
+def fund_reply(verdict: calls.Verdict, numbers: Sequence[int], table: bytes, fund: bytes) -> FundReply:
+    """What is answered of one fund."""
+    if not verdict.refusal:
+        return FundTotals(verdict.n, tuple(numbers))
+    words = explain_fund(verdict.refusal, verdict.place, table, fund)
+    owner = refusal_of(verdict.refusal, FUNDS).owner
+    return RefusedError(verdict.refusal, verdict.place, words, owner)
 
 
 def cost_rates(expenses: Sequence[int], stock: Sequence[Sequence[int]], claims: Sequence[Sequence[int]],

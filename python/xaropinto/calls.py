@@ -7,16 +7,16 @@ or a buffer to be written, is lent as it is.
 """
 
 import ctypes
-from functools import lru_cache
-from typing import Any, NamedTuple, Sequence, Union
+from typing import Any, Callable, NamedTuple, Optional, Sequence, Union
 
-from xaropinto.library import find_library
+from xaropinto.library import LibraryError, loaded_library
 
 WORD_LIMIT = 2**64
 # A book; a table, list or buffer that is lent is anything with the numbers of its kind.
 Bytes = Union[bytes, bytearray, memoryview]
 Row = Sequence[int]
 Rows = Sequence[Row]
+Numbers = tuple[int, ...]
 
 
 class Verdict(NamedTuple):
@@ -42,8 +42,8 @@ class TotalsReply(NamedTuple):
     refusal: int
     place: int
     n: int
-    totals: tuple
-    differences: tuple
+    totals: Numbers
+    differences: Numbers
 
 
 class RecordReply(NamedTuple):
@@ -60,7 +60,7 @@ class CostRates(NamedTuple):
 
     refusal: int
     place: int
-    rates: tuple
+    rates: Numbers
 
 
 class ReportReply(NamedTuple):
@@ -76,12 +76,12 @@ class Values(NamedTuple):
     5 cost rates, 49 curve rates, 242 of mortality; the first classes of 14 chains."""
 
     edition: int
-    percentages: tuple
+    percentages: Numbers
     year: int
-    cost_rates: tuple
-    curve: tuple
-    mortality: tuple
-    first_classes: tuple
+    cost_rates: Numbers
+    curve: Numbers
+    mortality: Numbers
+    first_classes: Numbers
 
 
 class WriteReply(NamedTuple):
@@ -204,7 +204,10 @@ class _DeviationReply(ctypes.Structure):
     _fields_ = [("refusal", ctypes.c_uint64), ("place", ctypes.c_uint64), ("deviation", ctypes.c_uint64)]
 
 
-# What is lent: a pointer and a length.
+# The words or bytes of a buffer that is passed to a call.
+_Words = ctypes.Array[Any]
+_Word = Union[ctypes.c_uint64, ctypes.c_int64]
+# What is passed: a pointer and a length.
 _BOOK = (ctypes.c_char_p, ctypes.c_size_t)
 _NUMBERS = (ctypes.POINTER(ctypes.c_uint64), ctypes.c_size_t)
 _BYTES = (ctypes.POINTER(ctypes.c_uint8), ctypes.c_size_t)
@@ -215,24 +218,21 @@ _SIGNED = {order + letter for order in ("", "@", "=", "<") for letter in "ql"}
 
 
 class _Call:
-    """A function of the library, looked up when it is first called: help and words do without the library."""
+    """A function of the library, found when it is first called: help and words do without the library."""
 
-    def __init__(self, name, reply, *arguments):
+    def __init__(self, name: str, reply: type[ctypes.Structure], *arguments: Any):
         self.name, self.reply, self.arguments = name, reply, arguments
-        self.function = None
+        self.function: Optional[Callable[..., Any]] = None
 
-    def __call__(self, *arguments):
+    def __call__(self, *arguments: Any) -> Any:
         if self.function is None:
-            function = getattr(_library(), self.name)
+            try:
+                function = getattr(loaded_library(), self.name)
+            except AttributeError as error:
+                raise LibraryError(f"the library has no {self.name}: it is of another version") from error
             function.restype, function.argtypes = self.reply, self.arguments
             self.function = function
         return self.function(*arguments)
-
-
-@lru_cache(maxsize=None)
-def _library():
-    """The shared library, loaded once."""
-    return ctypes.CDLL(str(find_library()))
 
 
 _CHECK = _Call("xaropinto_check", _Verdict, *_BOOK)
@@ -304,20 +304,20 @@ def cost_rates(expenses: Row, stock: Rows, claims: Rows, premium: Rows) -> CostR
     return CostRates(reply.refusal, reply.place, tuple(reply.rates))
 
 
-def _numbers(row, count):
+def _numbers(row: Row, count: int) -> Numbers:
     """So many numbers of 64 bits."""
-    row = tuple(row)
-    if len(row) != count:
-        raise ValueError(f"{len(row)} numbers where {count} are due")
-    return tuple(_word(number) for number in row)
+    numbers = tuple(row)
+    if len(numbers) != count:
+        raise ValueError(f"{len(numbers)} numbers where {count} are due")
+    return tuple(map(_word, numbers))
 
 
-def _rows(rows):
+def _rows(rows: Rows) -> Numbers:
     """Three rows of five numbers, end to end."""
-    rows = tuple(rows)
-    if len(rows) != _YEARS:
-        raise ValueError(f"{len(rows)} rows where {_YEARS} are due")
-    return sum((_numbers(row, _PRODUCT_GROUPS) for row in rows), ())
+    held = tuple(rows)
+    if len(held) != _YEARS:
+        raise ValueError(f"{len(held)} rows where {_YEARS} are due")
+    return tuple(number for row in held for number in _numbers(row, _PRODUCT_GROUPS))
 
 
 def report(book: Bytes, setting: int, out: Any) -> ReportReply:
@@ -410,7 +410,7 @@ def spread(lowest: int, first_quartile: int, median: int, third_quartile: int, h
     return Spread(reply.refusal, reply.place, reply.level != 0, reply.mean, reply.coefficient)
 
 
-def _double(number):
+def _double(number: float) -> float:
     """The number as a double, which must be the number itself."""
     if isinstance(number, float):
         return number
@@ -431,12 +431,12 @@ def deviation(book: Bytes, coefficients: Row, correlation: Rows) -> DeviationRep
     return DeviationReply(reply.refusal, reply.place, reply.deviation)
 
 
-def _square(rows):
+def _square(rows: Rows) -> Numbers:
     """Four rows of four signed numbers, end to end."""
-    rows = tuple(tuple(row) for row in rows)
-    if [len(row) for row in rows] != [_FACTORS] * _FACTORS:
+    held = tuple(tuple(row) for row in rows)
+    if [len(row) for row in held] != [_FACTORS] * _FACTORS:
         raise ValueError(f"{_FACTORS} rows of {_FACTORS} numbers are due")
-    return tuple(_signed_word(number) for row in rows for number in row)
+    return tuple(_signed_word(number) for row in held for number in row)
 
 
 def practice(start: int, out: Any) -> WriteReply:
@@ -449,40 +449,37 @@ def practice(start: int, out: Any) -> WriteReply:
     return WriteReply(reply.refusal, reply.place, reply.length)
 
 
-def _lent_values(values):
+def _lent_values(values: Values) -> _Values:
     """The values in C's form; each table has the length that it must have, and each number fits."""
     lent = _Values(edition=_word(values.edition), year=_word(values.year))
-    for name, kind in _Values._fields_:
-        if name in ("edition", "year"):
-            continue
-        table = tuple(getattr(values, name))
-        if len(table) != kind._length_:
-            raise ValueError(f"{name} must have {kind._length_} numbers")
-        fits = _signed_word if name == "curve" else _word
-        setattr(lent, name, kind(*map(fits, table)))
+    for name in ("percentages", "cost_rates", "curve", "mortality", "first_classes"):
+        table, place = tuple(getattr(values, name)), getattr(lent, name)
+        if len(table) != len(place):
+            raise ValueError(f"{name} must have {len(place)} numbers")
+        place[:] = tuple(map(_signed_word if name == "curve" else _word, table))
     return lent
 
 
-def _with_lengths(lists):
+def _with_lengths(lists: Sequence[_Words]) -> list[Any]:
     """Each list and then its length."""
     return [word for numbers in lists for word in (numbers, len(numbers))]
 
 
-def _need_apart(one, other):
+def _need_apart(one: _Words, other: _Words) -> None:
     """Two lent buffers, one of which the call writes, must not overlap."""
     start, other_start = ctypes.addressof(one), ctypes.addressof(other)
     if start < other_start + ctypes.sizeof(other) and other_start < start + ctypes.sizeof(one):
         raise ValueError("buffers that are lent together must not overlap")
 
 
-def _lent_book(book):
+def _lent_book(book: Bytes) -> tuple[bytes, int]:
     """Bytes that stay as they are during a call, and how many they are."""
     if not isinstance(book, bytes):
         book = bytes(memoryview(book))
     return book, len(book)
 
 
-def _lent_table(table):
+def _lent_table(table: Any) -> _Words:
     """The table's own numbers; rows of a table, such as fifty of four, stand one after the other."""
     view = memoryview(table)
     if view.ndim not in (1, 2) or not view.c_contiguous or view.itemsize != 8 or view.format not in _UNSIGNED:
@@ -492,7 +489,7 @@ def _lent_table(table):
     return _lent_words(view, ctypes.c_uint64)
 
 
-def _lent_signed(numbers):
+def _lent_signed(numbers: Any) -> _Words:
     """The same of signed numbers."""
     view = memoryview(numbers)
     if view.ndim != 1 or view.itemsize != 8 or view.format not in _SIGNED:
@@ -500,7 +497,7 @@ def _lent_signed(numbers):
     return _lent_words(view, ctypes.c_int64)
 
 
-def _lent_words(view, kind):
+def _lent_words(view: memoryview, kind: type[_Word]) -> _Words:
     """A row's own words of 64 bits."""
     if view.nbytes == 0:
         # An empty buffer may stand anywhere.
@@ -511,7 +508,7 @@ def _lent_words(view, kind):
     return numbers
 
 
-def _lent_buffer(out):
+def _lent_buffer(out: Any) -> _Words:
     """The buffer's own bytes."""
     view = memoryview(out)
     if view.ndim != 1 or view.itemsize != 1:
@@ -522,14 +519,14 @@ def _lent_buffer(out):
     return (ctypes.c_uint8 * len(view)).from_buffer(view)
 
 
-def _word(number):
+def _word(number: int) -> int:
     """A number that fits; ctypes would cut it silently."""
     if not 0 <= number < WORD_LIMIT:
         raise ValueError(f"{number} does not fit in 64 bits")
     return number
 
 
-def _signed_word(number):
+def _signed_word(number: int) -> int:
     """The same of a signed number."""
     if not -(WORD_LIMIT // 2) <= number < WORD_LIMIT // 2:
         raise ValueError(f"{number} does not fit in 64 bits")

@@ -1,4 +1,4 @@
-"""Where the fields of a book stand, so that a refusal's place can be put into words. Nothing is reckoned by it."""
+"""Where the fields of a book stand, so that a refusal's place can be put into words. No figure comes from it."""
 
 from typing import Iterator, NamedTuple, Optional
 
@@ -81,14 +81,22 @@ def record_at(place: int) -> Record:
     return Record(number, HEADER_BYTES + RECORD_BYTES * (number - 1))
 
 
-def chain_of(book: bytes, wanted: int) -> Optional[int]:
-    """Which chain links a record, by its number; None where none does that is whole up to there."""
-    count = int.from_bytes(book[4:6], "little")
-    for number, head in enumerate(heads()):
+def record_count(book: bytes) -> int:
+    """N, as the header says it."""
+    return int.from_bytes(book[4:6], "little")
+
+
+def linked_records(book: bytes) -> Iterator[tuple[int, int]]:
+    """Chain and record number of each linked record, chain by chain; a chain is followed as far as it is whole."""
+    count = record_count(book)
+    for chain, head in enumerate(heads()):
         at, steps = head.read(book), 0
-        while 0 < at <= count and steps <= count:
-            if at == wanted:
-                return number
+        while 0 < at <= count and steps < count:
+            yield chain, at
             start = HEADER_BYTES + RECORD_BYTES * (at - 1)
             at, steps = int.from_bytes(book[start + 4:start + 6], "little"), steps + 1
-    return None
+
+
+def chain_of(book: bytes, wanted: int) -> Optional[int]:
+    """Which chain links a record, by its number; None where none does that is whole up to there."""
+    return next((chain for chain, number in linked_records(book) if number == wanted), None)
