@@ -2,12 +2,12 @@
 
 import argparse
 from pathlib import Path
-from typing import Any
 
 from xaropinto import answers
-from xaropinto.cli.figures import add_verb
-from xaropinto.cli.folders import write_folder
-from xaropinto.cli.outcome import DONE, REFUSED, Trouble, put_answer, read_file, tell, write_file
+from xaropinto.cli.errors import DONE, REFUSED, CommandError, reason_of
+from xaropinto.cli.files import read_file, write_file, write_folder
+from xaropinto.cli.outcome import Table, begin_input, put, report_refusal
+from xaropinto.cli.words import Verbs, add_verb
 from xaropinto.layout import HEADER_BYTES, TABLES_AT
 from xaropinto.messages import refused_file
 from xaropinto.sheets import csv_files, folder_tables, read_sheets
@@ -16,7 +16,7 @@ from xaropinto.workbook import NoWorkbook, is_workbook, workbook_of, workbook_ta
 TABLE_FILE, FUND_FILE = "table", "fund"
 
 
-def add_verbs(verbs: Any) -> None:
+def add_verbs(verbs: Verbs) -> None:
     """Their words."""
     add_write(verbs)
     read = add_verb(
@@ -39,7 +39,7 @@ def add_verbs(verbs: Any) -> None:
     add_fund_verbs(verbs)
 
 
-def add_write(verbs: Any) -> None:
+def add_write(verbs: Verbs) -> None:
     """The verb that takes sheets."""
     write = verbs.add_parser(
         "write",
@@ -56,7 +56,7 @@ def add_write(verbs: Any) -> None:
     write.set_defaults(run=write_book)
 
 
-def add_fund_verbs(verbs: Any) -> None:
+def add_fund_verbs(verbs: Verbs) -> None:
     """The verbs of the table file and fund files."""
     split = add_verb(
         verbs,
@@ -98,15 +98,13 @@ def write_book(chosen: argparse.Namespace) -> None:
         if is_workbook(chosen.sheets) and not path.is_dir():
             tables = workbook_tables(path.name, read_file(chosen.sheets))
         elif path.is_file():
-            raise Trouble(f"{chosen.sheets}: neither a folder nor a workbook (.xlsx)")
+            raise CommandError(f"{chosen.sheets}: neither a folder nor a workbook (.xlsx)")
         else:
             tables = folder_tables(path)
         values = read_sheets(tables)
-    except (OSError, ValueError, NoWorkbook) as trouble:
-        raise Trouble(
-            f"{getattr(trouble, 'filename', None) or chosen.sheets}: "
-            f"{getattr(trouble, 'strerror', None) or trouble}"
-        ) from trouble
+    except (OSError, ValueError, NoWorkbook) as error:
+        file = getattr(error, "filename", None) or chosen.sheets
+        raise CommandError(f"{file}: {reason_of(error)}") from error
     write_file(chosen.out, answers.write(values))
 
 
@@ -118,8 +116,8 @@ def read_book(chosen: argparse.Namespace) -> None:
         return
     try:
         held = workbook_of(values)
-    except NoWorkbook as trouble:
-        raise Trouble(f"{chosen.out}: {trouble}") from trouble
+    except NoWorkbook as error:
+        raise CommandError(f"{chosen.out}: {error}") from error
     write_file(chosen.out, held)
 
 
@@ -145,19 +143,20 @@ def split_book(chosen: argparse.Namespace) -> None:
 def show_funds(chosen: argparse.Namespace) -> int:
     """Fund, setting, total and n; one fund is shown though the other is refused."""
     table, first, second = (read_file(path) for path in (chosen.table, chosen.first, chosen.second))
-    lines, refused = ["fund,setting,total,n\n"], []
+    rows: list[tuple[int, int, int, int]] = []
+    # By path and place: a fault of the table file is that of both funds.
+    refused: dict[tuple[str, int], answers.RefusedError] = {}
     files = ((chosen.first, first), (chosen.second, second))
-    for name, (path, fund), reply in zip((1, 2), files, answers.funds(table, first, second)):
-        if isinstance(reply, answers.Refused):
-            file, place = refused_file(reply.number, reply.place, fund)
+    for fund, (path, held), reply in zip((1, 2), files, answers.funds(table, first, second)):
+        if isinstance(reply, answers.RefusedError):
+            file, place = refused_file(reply.number, reply.place, held)
             at_fault = chosen.table if file == TABLE_FILE else path
-            refused.append(f"{at_fault}: refused {reply.number} {place}\n{at_fault}: {reply.words}")
+            refused[at_fault, place] = reply.moved(place)
         else:
-            n, totals = reply
-            lines += [f"{name},{setting},{total},{n}\n" for setting, total in enumerate(totals)]
-    # A fault of the table file is that of both funds.
-    for words in dict.fromkeys(refused):
-        tell(words)
-    if len(lines) > 1:
-        put_answer("".join(lines).encode())
+            rows += [(fund, setting, each, reply.n) for setting, each in enumerate(reply.totals)]
+    if rows:
+        put(Table(("fund", "setting", "total", "n"), rows))
+    for (path, _), error in refused.items():
+        begin_input(path)
+        report_refusal(error, f"{path}: ")
     return REFUSED if refused else DONE
