@@ -15,6 +15,7 @@ install -m 755 target/bin/year_report_main "$to/bin/xaropinto-report"
 install -m 755 target/bin/age_basis_main "$to/bin/xaropinto-convert"
 install -m 755 packaging/xaropinto "$to/bin/"
 install -m 644 packaging/xaropinto.1 "$to/share/man/man1/"
-install -m 644 python/xaropinto/*.py python/xaropinto/refusals.tsv python/xaropinto/py.typed "$package/"
+install -m 644 python/xaropinto/*.py python/xaropinto/*.tsv python/xaropinto/*.json \
+	python/xaropinto/py.typed "$package/"
 install -m 644 python/xaropinto/cli/*.py "$package/cli/"
 install -m 755 "target/lib/$shared" "$package/libxaropinto.so"

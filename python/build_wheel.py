@@ -15,7 +15,7 @@ NAME = "xaropinto"
 LIBRARY = HERE / NAME / "libxaropinto.so"
 INFO = f"{NAME}-{VERSION}.dist-info"
 TAG = "py3-none-linux_x86_64"
-KINDS = (".py", ".tsv", ".typed", ".so")
+KINDS = (".py", ".tsv", ".json", ".typed", ".so")
 METADATA = f"""Metadata-Version: 2.1
 Name: {NAME}
 Version: {VERSION}
@@ -25,7 +25,7 @@ Provides-Extra: xlsx
 Requires-Dist: openpyxl; extra == "xlsx"
 """
 WHEEL = f"Wheel-Version: 1.0\nGenerator: {NAME}\nRoot-Is-Purelib: false\nTag: {TAG}\n"
-ENTRY_POINTS = f"[console_scripts]\n{NAME} = {NAME}.cli.main:main\n"
+ENTRY_POINTS = f"[console_scripts]\n{NAME} = {NAME}.start:start\n"
 
 
 def get_requires_for_build_wheel(config_settings=None):
