@@ -35,3 +35,8 @@ def xaropinto(*words, sent=b"", output=subprocess.PIPE, env=None):
 def sample(name):
     """The path of a sample book."""
     return SAMPLES / f"{name}.book"
+
+
+def without_warnings(told):
+    """The lines on standard error that are no warnings."""
+    return [line for line in told.splitlines() if "warning: " not in line]

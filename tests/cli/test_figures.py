@@ -19,7 +19,7 @@ from reference.year_report import report_text
 from reference.in_force import screen_reply
 from reference.claims_variation import spread
 from tests.cli.inputs import ACCOUNTS, FACTORS, put_accounts, put_factors
-from tests.cli.run import DONE, REFUSED, SAMPLES, TROUBLE, sample, xaropinto
+from tests.cli.run import DONE, REFUSED, SAMPLES, TROUBLE, sample, without_warnings, xaropinto
 from tests.support.report import run_unit_tests
 
 ACCEPTED = ("one_record", "worked_example", "edition_2", "small_insurer", "full")
@@ -53,13 +53,13 @@ class OfABook(unittest.TestCase):
     def answer(self, *words, sent=b""):
         """The text that a verb answers with."""
         run = xaropinto(*words, sent=sent)
-        self.assertEqual((run.code, run.told), (DONE, ""))
+        self.assertEqual((run.code, without_warnings(run.told)), (DONE, []))
         return run.out.decode()
 
     def test_check(self):
         for name in ACCEPTED:
             n = totals(bytes_of(name))[2]
-            self.assertEqual(self.answer("check", sample(name)), f"{sample(name)}: accepted {n}\n")
+            self.assertEqual(self.answer("check", sample(name)).splitlines()[0], f"{sample(name)}: accepted {n}")
 
     def test_list(self):
         for name in ACCEPTED:

@@ -30,7 +30,7 @@ class OfABook(unittest.TestCase):
         more = ("-o", "/dev/null") if verb == "convert" else ()
         run = xaropinto(verb, "-", *more, sent=book)
         self.assertEqual(run.code, REFUSED)
-        self.assertIn(f"refused {refusal}\n", run.told)
+        self.assertIn(f"refused {refusal}\n", run.out.decode() if verb == "check" else run.told)
         for words in told:
             self.assertIn(words, run.told)
         return run.told
@@ -178,7 +178,7 @@ class OfABook(unittest.TestCase):
                 "a chain's first class is at most 120, or 121 where it has no records",
             ),
         ):
-            with self.assertRaises(answers.Refused) as caught:
+            with self.assertRaises(answers.RefusedError) as caught:
                 answers.write(changed_values)
             self.assertEqual(
                 (caught.exception.number, caught.exception.words.split("; ")[0]),
