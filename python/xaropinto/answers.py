@@ -6,8 +6,17 @@ from typing import NamedTuple, Optional, Sequence, Union
 from xaropinto import calls
 from xaropinto.book_values import BookValues, taken_apart
 from xaropinto.layout import HEADER_BYTES, LONGEST_BOOK, MOST_RECORDS, RECORD_BYTES, YEARS
-from xaropinto.messages import (CONVERT, FUNDS, GROUP, PRACTICE, READ, RECORD, WRITE, explain,
-                                explain_fund)
+from xaropinto.messages import (
+    CONVERT,
+    FUNDS,
+    GROUP,
+    PRACTICE,
+    READ,
+    RECORD,
+    WRITE,
+    explain,
+    explain_fund,
+)
 from xaropinto.refusals import BOOK, refusal_of
 
 TABLE_NUMBERS = 4 * YEARS
@@ -43,7 +52,8 @@ class Group(NamedTuple):
 
 
 class Totals(NamedTuple):
-    """The totals by setting in centimes; the differences of settings 1 less 2, 3 less 4, 5 less 6, 7 less 0."""
+    """The totals by setting in centimes; the differences of settings 1 less 2, 3 less 4, 5 less 6,
+    7 less 0."""
 
     n: int
     totals: tuple[int, ...]
@@ -98,7 +108,10 @@ def group(book: bytes, setting: int, product_group: int) -> Group:
     table = array("Q", bytes(8 * TABLE_NUMBERS))
     reply = calls.group(book, setting, product_group, table)
     need_accepted(reply.refusal, reply.place, book, GROUP)
-    years = tuple((table[at], table[at + 1], table[at + 2], table[at + 3]) for at in range(0, TABLE_NUMBERS, 4))
+    years = tuple(
+        (table[at], table[at + 1], table[at + 2], table[at + 3])
+        for at in range(0, TABLE_NUMBERS, 4)
+    )
     return Group(reply.liability, reply.n, years)
 
 
@@ -111,20 +124,20 @@ def totals(book: bytes) -> Totals:
 
 def listing(book: bytes) -> str:
     """The text to file: a line for each setting."""
-    room = bytearray(MOST_LISTING_BYTES)
-    reply = calls.listing(book, room)
+    buffer = bytearray(MOST_LISTING_BYTES)
+    reply = calls.listing(book, buffer)
     need_accepted(reply.refusal, reply.place, book)
-    return room[:reply.length].decode("ascii")
+    return buffer[: reply.length].decode("ascii")
 
 
 def report(book: bytes, setting: int) -> str:
     """The year report of a setting, as comma-separated lines."""
-    told = calls.report_room(book, setting)
-    need_accepted(told.refusal, told.place, book)
-    room = bytearray(told.length)
-    reply = calls.report(book, setting, room)
+    needed = calls.report_room(book, setting)
+    need_accepted(needed.refusal, needed.place, book)
+    buffer = bytearray(needed.length)
+    reply = calls.report(book, setting, buffer)
     need_accepted(reply.refusal, reply.place, book)
-    return room[:reply.length].decode("ascii")
+    return buffer[: reply.length].decode("ascii")
 
 
 def record(book: bytes, number: int) -> bytes:
@@ -152,28 +165,34 @@ def read(book: bytes) -> BookValues:
 
 def write(values: BookValues) -> bytes:
     """The book of values and lists."""
-    room = bytearray(HEADER_BYTES + RECORD_BYTES * max(0, values.records()))
-    reply = calls.write(values.header(), *values.lists(), room)
+    buffer = bytearray(HEADER_BYTES + RECORD_BYTES * max(0, values.records()))
+    reply = calls.write(values.header(), *values.lists(), buffer)
     need_accepted(reply.refusal, reply.place, call=WRITE)
-    return bytes(room[:reply.length])
+    return bytes(buffer[: reply.length])
 
 
 def convert(book: bytes) -> bytes:
     """The book of age basis 2 on basis 1."""
-    room = bytearray(len(book))
-    reply = calls.convert(book, room)
+    buffer = bytearray(len(book))
+    reply = calls.convert(book, buffer)
     need_accepted(reply.refusal, reply.place, book, CONVERT)
-    return bytes(room)
+    return bytes(buffer)
 
 
 def funds(table: bytes, first: bytes, second: bytes) -> tuple[FundReply, FundReply]:
-    """Each fund's n and totals, or the error that it is refused with: one fund does not hold back the other."""
+    """Each fund's n and totals, or the error that it is refused with: one fund does not hold back
+    the other."""
     numbers = array("q", bytes(8 * 16))
     one, other = calls.funds(table, first, second, numbers)
-    return (fund_reply(one, numbers[:8], table, first), fund_reply(other, numbers[8:], table, second))
+    return (
+        fund_reply(one, numbers[:8], table, first),
+        fund_reply(other, numbers[8:], table, second),
+    )
 
 
-def fund_reply(verdict: calls.Verdict, numbers: Sequence[int], table: bytes, fund: bytes) -> FundReply:
+def fund_reply(
+    verdict: calls.Verdict, numbers: Sequence[int], table: bytes, fund: bytes
+) -> FundReply:
     """What is answered of one fund."""
     if not verdict.refusal:
         return FundTotals(verdict.n, tuple(numbers))
@@ -182,23 +201,36 @@ def fund_reply(verdict: calls.Verdict, numbers: Sequence[int], table: bytes, fun
     return RefusedError(verdict.refusal, verdict.place, words, owner)
 
 
-def cost_rates(expenses: Sequence[int], stock: Sequence[Sequence[int]], claims: Sequence[Sequence[int]],
-               premium: Sequence[Sequence[int]]) -> tuple[int, ...]:
+def cost_rates(
+    expenses: Sequence[int],
+    stock: Sequence[Sequence[int]],
+    claims: Sequence[Sequence[int]],
+    premium: Sequence[Sequence[int]],
+) -> tuple[int, ...]:
     """The cost rates of PG1 to PG5 out of three years of accounts, in millionths."""
     reply = calls.cost_rates(expenses, stock, claims, premium)
     need_accepted(reply.refusal, reply.place)
     return reply.rates
 
 
-def spread(lowest: int, first_quartile: int, median: int, third_quartile: int, highest: int, xi: float,
-           eta: float) -> Spread:
+def spread(
+    lowest: int,
+    first_quartile: int,
+    median: int,
+    third_quartile: int,
+    highest: int,
+    xi: float,
+    eta: float,
+) -> Spread:
     """Mean and coefficient of yearly claims."""
     reply = calls.spread(lowest, first_quartile, median, third_quartile, highest, xi, eta)
     need_accepted(reply.refusal, reply.place)
     return Spread(reply.mean, None if reply.level else reply.coefficient)
 
 
-def deviation(book: bytes, coefficients: Sequence[int], correlation: Sequence[Sequence[int]]) -> Deviation:
+def deviation(
+    book: bytes, coefficients: Sequence[int], correlation: Sequence[Sequence[int]]
+) -> Deviation:
     """One standard deviation of the four factors."""
     reply = calls.deviation(book, coefficients, correlation)
     need_accepted(reply.refusal, reply.place, book)
@@ -207,7 +239,7 @@ def deviation(book: bytes, coefficients: Sequence[int], correlation: Sequence[Se
 
 def practice(start: int) -> bytes:
     """The practice book of a start number."""
-    room = bytearray(LONGEST_BOOK)
-    reply = calls.practice(start, room)
+    buffer = bytearray(LONGEST_BOOK)
+    reply = calls.practice(start, buffer)
     need_accepted(reply.refusal, reply.place, call=PRACTICE)
-    return bytes(room[:reply.length])
+    return bytes(buffer[: reply.length])

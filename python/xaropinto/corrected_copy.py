@@ -9,6 +9,7 @@ that it did not reach before, and what a chain has given up is not corrected for
 from typing import Optional
 
 from xaropinto import calls
+from xaropinto.chains import CLASS, CODE, NEXT, SEX, SPARE, class_in, next_field, record_of, steps
 from xaropinto.layout import (
     CHAINS,
     HEADER_BYTES,
@@ -18,7 +19,6 @@ from xaropinto.layout import (
     Field,
     header_fields,
     heads,
-    linked_records,
     percentages,
     record_at,
     record_count,
@@ -26,11 +26,9 @@ from xaropinto.layout import (
 from xaropinto.messages import CONVERT
 from xaropinto.refusals import BOOK
 
-TOO_SHORT, EDITION, BASIS, HEADER, LENGTH = 1, 2, 3, 4, 5
-LINK, OWNER, CLASS, END, CLASS_0 = 9, 10, 11, 13, 21
+TOO_SHORT, BAD_EDITION, BAD_BASIS, BAD_HEADER, BAD_LENGTH = 1, 2, 3, 4, 5
+BAD_LINK, BAD_OWNER, BAD_CLASS, BAD_END, CLASS_0 = 9, 10, 11, 13, 21
 NEWER_BASIS = 2
-# Where a record has its code, sex, class, next and spare bytes.
-CODE_AT, SEX_AT, CLASS_AT, NEXT_AT, SPARE_AT = 0, 1, 2, 4, (3, 6, 7)
 FIELDS_OF_A_RECORD = 9
 
 
@@ -54,7 +52,8 @@ class CorrectedCopy:
 
     def unlinked_count(self) -> int:
         """How many records no chain reaches."""
-        return record_count(self.held()) - len({each for _, each in linked_records(self.held())})
+        linked = {step.record.number for step in steps(self.held())}
+        return record_count(self.held()) - len(linked)
 
     def verdict(self, other: Optional[bytes] = None) -> calls.Verdict:
         """Of this copy, or of another book on the same basis."""
@@ -67,25 +66,25 @@ class CorrectedCopy:
 
     def correct(self, number: int, place: int) -> None:
         """Set what was refused to a permitted value."""
-        if number == EDITION:
+        if number == BAD_EDITION:
             self.bytes[0] = 2 if all(map(self.in_range, percentages())) else 1
-        elif number == BASIS:
+        elif number == BAD_BASIS:
             self.newer = self.bytes[1] == NEWER_BASIS
             self.bytes[1] = NEWER_BASIS if self.newer else 1
-        elif number == HEADER and place == 6:
+        elif number == BAD_HEADER and place == 6:
             self.put(6, 2, 0)
-        elif number == LENGTH or (number == HEADER and place == 4):
+        elif number == BAD_LENGTH or (number == BAD_HEADER and place == 4):
             self.fit_length()
-        elif number == LINK and place < HEADER_BYTES:
+        elif number == BAD_LINK and place < HEADER_BYTES:
             self.put(place, 2, 0)
-        elif number in (LINK, OWNER, CLASS, END, CLASS_0):
+        elif number in (BAD_LINK, BAD_OWNER, BAD_CLASS, BAD_END, CLASS_0):
             self.correct_record(number, record_at(place).number)
         else:
             self.clamp(place)
 
     def put(self, at: int, size: int, number: int, signed: bool = False) -> None:
         """Set a field."""
-        self.bytes[at : at + size] = number.to_bytes(size, "little", signed=signed)
+        self.bytes[at:at + size] = number.to_bytes(size, "little", signed=signed)
 
     def in_range(self, field: Field) -> bool:
         """Has a field a permitted value?"""
@@ -95,7 +94,7 @@ class CorrectedCopy:
         """As many records as the file has bytes for; what is left over is cut off."""
         records = min(MOST_RECORDS, (len(self.bytes) - HEADER_BYTES) // RECORD_BYTES)
         self.put(4, 2, records)
-        del self.bytes[HEADER_BYTES + RECORD_BYTES * records :]
+        del self.bytes[HEADER_BYTES + RECORD_BYTES * records:]
 
     def clamp(self, place: int) -> None:
         """Bring a field to the nearer end of its range."""
@@ -108,13 +107,13 @@ class CorrectedCopy:
     def correct_record(self, number: int, record: int) -> None:
         """A fault of a record in the chain that is read: of the record, or of the chain."""
         chain = self.chain_at_fault()
-        path = self.path_to(chain, record, number == CLASS)
-        if number == OWNER:
+        path = self.path_to(chain, record, number == BAD_CLASS)
+        if number == BAD_OWNER:
             self.correct_owner(chain, record)
-        elif number in (CLASS, CLASS_0):
+        elif number in (BAD_CLASS, CLASS_0):
             self.correct_class(chain, path)
-        elif number == END and self.class_of(record) == self.last_class():
-            self.put(start_of(record) + NEXT_AT, 2, 0)
+        elif number == BAD_END and self.class_of(record) == self.last_class():
+            self.put(record_of(record).start + NEXT, 2, 0)
         else:
             self.set_head(chain, 0)
 
@@ -122,7 +121,7 @@ class CorrectedCopy:
         """The first chain with which the book is refused when all heads behind it are 0."""
         for chain, head in enumerate(heads()):
             without = bytearray(self.bytes)
-            without[head.at + 2 : heads()[-1].at + 2] = bytes(2 * (len(CHAINS) - 1 - chain))
+            without[head.at + 2:heads()[-1].at + 2] = bytes(2 * (len(CHAINS) - 1 - chain))
             if self.verdict(bytes(without)).refusal:
                 return chain
         raise ValueError("no chain of the book is refused")
@@ -149,12 +148,11 @@ class CorrectedCopy:
 
     def class_of(self, record: int) -> int:
         """A record's class."""
-        return self.bytes[start_of(record) + CLASS_AT]
+        return class_in(record_of(record), self.held())
 
     def next_of(self, record: int) -> int:
         """The number that follows a record in its chain."""
-        at = start_of(record) + NEXT_AT
-        return int.from_bytes(self.bytes[at : at + 2], "little")
+        return next_field(record_of(record)).read(self.held())
 
     def set_head(self, chain: int, record: int) -> None:
         """Let a chain start elsewhere, or nowhere."""
@@ -163,20 +161,20 @@ class CorrectedCopy:
     def correct_owner(self, chain: int, record: int) -> None:
         """The first byte that is not the chain's; but a record of another chain stays as it is, and
         the chain that was led into it is given up."""
-        start, code, sex = start_of(record), chain // 2 + 1, chain % 2
-        foreign = (self.bytes[start + CODE_AT], self.bytes[start + SEX_AT]) != (code, sex)
+        start, code, sex = record_of(record).start, chain // 2 + 1, chain % 2
+        foreign = (self.bytes[start + CODE], self.bytes[start + SEX]) != (code, sex)
         if foreign and self.reached_by_its_own(record):
             self.set_head(chain, 0)
             return
-        due = {CODE_AT: code, SEX_AT: sex, **dict.fromkeys(SPARE_AT, 0)}
+        due = {CODE: code, SEX: sex, **dict.fromkeys(SPARE, 0)}
         at = next(each for each in due if self.bytes[start + each] != due[each])
         self.bytes[start + at] = due[at]
 
     def reached_by_its_own(self, record: int) -> bool:
         """Does the chain of a record's own code and sex reach it?"""
-        start = start_of(record)
-        chain = 2 * (self.bytes[start + CODE_AT] - 1) + self.bytes[start + SEX_AT]
-        if self.bytes[start + SEX_AT] > 1 or not 0 <= chain < len(CHAINS):
+        start = record_of(record).start
+        chain = 2 * (self.bytes[start + CODE] - 1) + self.bytes[start + SEX]
+        if self.bytes[start + SEX] > 1 or not 0 <= chain < len(CHAINS):
             return False
         at, count = heads()[chain].read(self.held()), record_count(self.held())
         for _ in range(count):
@@ -195,7 +193,7 @@ class CorrectedCopy:
         if record in path[:-1]:
             self.set_head(chain, 0)
         elif due is not None and due == asked and self.first_class() <= due <= self.last_class():
-            self.bytes[start_of(record) + CLASS_AT] = due
+            self.bytes[record_of(record).start + CLASS] = due
         elif (chain, start) in self.moved_to or start > record_count(self.held()):
             self.set_head(chain, 0)
         else:
@@ -211,8 +209,3 @@ class CorrectedCopy:
         if following == 0:
             return self.last_class()
         return self.class_of(following) - 1 if following <= record_count(self.held()) else None
-
-
-def start_of(record: int) -> int:
-    """Where a record starts, by its number."""
-    return HEADER_BYTES + RECORD_BYTES * (record - 1)

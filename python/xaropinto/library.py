@@ -15,9 +15,6 @@ class LibraryError(ImportError):
     """The shared library is not there, cannot be loaded, or lacks a call."""
 
 
-LibraryMissing = LibraryError
-
-
 def places() -> list[Path]:
     """Where it may stand: beside the package, or where `make lib` puts it in the repository."""
     return [HERE / NAME, HERE.parents[1] / "target" / "lib" / NAME]
@@ -31,7 +28,9 @@ def find_library() -> Path:
         if path.is_file():
             return path
     tried = ", ".join(map(str, candidates))
-    raise LibraryError(f"no {NAME} at {tried}: run `make lib` in the repository, or set {VARIABLE} to its path")
+    raise LibraryError(
+        f"no {NAME} at {tried}: run `make lib` in the repository, or set {VARIABLE} to its path"
+    )
 
 
 @lru_cache(maxsize=None)

@@ -1,4 +1,5 @@
-"""Exit codes and outputs of every verb: what is done, refused, not there, a folder, closed, full; and wrong words."""
+"""Exit codes and outputs of every verb: what is done, refused, not there, a folder, closed, full;
+and wrong words."""
 
 import subprocess
 import sys
@@ -22,7 +23,8 @@ REFUSED_OUTPUT = {"check": f"{BROKEN}: refused 12 1232\n".encode(),
 
 
 class Verb(NamedTuple):
-    """The words behind a verb, with places for what it reads and writes; an input that it takes, and one refused."""
+    """The words behind a verb, with places for what it reads and writes; an input that it takes,
+    and one refused."""
 
     words: tuple
     good: Optional[object]

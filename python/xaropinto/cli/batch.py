@@ -8,7 +8,8 @@ from typing import Callable, Optional, Sequence
 from xaropinto.answers import RefusedError
 from xaropinto.cli.errors import DONE, CommandError, reason_of
 from xaropinto.cli.files import STANDARD, read_file
-from xaropinto.cli.outcome import Answer, attempt, put_to, to_stderr
+from xaropinto.cli.outcome import Answer, attempt, put_to
+from xaropinto.cli.streams import to_stderr
 
 # What is made of a book, by its name and bytes.
 Make = Callable[[str, bytes], Answer]

@@ -16,8 +16,8 @@ from xaropinto.cli.outcome import (
     keep_refusal,
     put,
     report_refusal,
-    to_stderr,
 )
+from xaropinto.cli.streams import to_stderr
 from xaropinto.cli.words import Verbs, add_parser
 from xaropinto.faults import Faults, all_faults
 from xaropinto.number_format import counted, francs, percent

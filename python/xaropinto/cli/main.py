@@ -14,14 +14,20 @@ from xaropinto.cli.outcome import attempt, begin_run, end_run, report_error
 from xaropinto.cli.streams import stderr_failed, to_stderr
 from xaropinto.version import VERSION
 
-ENDS = ("Exit codes: 0 done; 1 refused; 2 wrong use, or a file that cannot be read or written; 130 interrupted; "
-        "143 terminated. `-` is standard input.")
-PURPOSE = ("Checks, lists and writes parameter books of the Swiss solvency test's long-term health liabilities. "
-           "Verdict, n, totals, differences, liabilities, listing, year report, in force, cost rates, spread, "
-           "deviation and the bytes of books come from proved calls. Not proved, and only tested, is what the command "
-           "does itself: files read and written, contracts by class, means of product groups, books that it changes "
-           "before it asks, distances, words and charts.")
-# The arguments that name what is read, where there is one, and what is written; all others that name a file or folder are inputs.
+ENDS = (
+    "Exit codes: 0 done; 1 refused; 2 wrong use, or a file that cannot be read or written; "
+    "130 interrupted; 143 terminated. `-` is standard input."
+)
+PURPOSE = (
+    "Checks, lists and writes parameter books of the Swiss solvency test's long-term health "
+    "liabilities. Verdict, n, totals, differences, liabilities, listing, year report, in force, "
+    "cost rates, spread, deviation and the bytes of books come from proved calls. Not proved, and "
+    "only tested, is what the command does itself: files read and written, contracts by class, "
+    "means of product groups, books that it changes before it asks, distances, warnings, words and "
+    "charts."
+)
+# The arguments that name what is read, where there is one, and what is written; all others that
+# name a file or folder are inputs.
 INPUTS = ("file", "folder", "sheets", "accounts", "table")
 OUTPUTS = ("out", "into")
 # The verbs whose answer is, or can be, comma-separated.
@@ -48,10 +54,16 @@ def all_verbs() -> argparse.ArgumentParser:
     for module in (figures, portfolio, books, tools):
         module.add_verbs(verbs)
     for name, verb in verbs.choices.items():
-        verb.add_argument("--json", action="store_true", help="the answer as JSON, a refusal included")
+        verb.add_argument(
+            "--json", action="store_true", help="the answer as JSON, a refusal included"
+        )
         if name in SEPARATED:
-            verb.add_argument("--separator", type=separator, metavar="CHARACTER",
-                              help="between the columns of comma-separated lines, in place of a comma")
+            verb.add_argument(
+                "--separator",
+                type=separator,
+                metavar="CHARACTER",
+                help="between the columns of comma-separated lines, in place of a comma",
+            )
     return parser
 
 
@@ -59,7 +71,9 @@ def separator(word: str) -> str:
     """One character that can stand in no number and no quoted cell; `tab` is a tabulator."""
     character = "\t" if word == "tab" else word
     if len(character) != 1 or character.isalnum() or character in "\"'\n\r-. ":
-        raise argparse.ArgumentTypeError(f"{word!r} is no separator: one character such as ; or the word tab is due")
+        raise argparse.ArgumentTypeError(
+            f"{word!r} is no separator: one character such as ; or the word tab is due"
+        )
     return character
 
 
@@ -118,12 +132,18 @@ def input_paths(chosen: argparse.Namespace) -> list[str]:
     paths: list[str] = []
     for name, value in vars(chosen).items():
         if name not in (*OUTPUTS, "verb", "separator"):
-            paths += [word for word in (value if isinstance(value, list) else [value]) if isinstance(word, str)]
+            paths += [
+                word
+                for word in (value if isinstance(value, list) else [value])
+                if isinstance(word, str)
+            ]
     return paths
 
 
 def stop_on_signals() -> None:
-    """End in order on a signal, once; those that come after it are passed over, and so are those ignored before."""
+    """End in order on a signal, once; those that come after it are passed over, and so are those
+    ignored before."""
+
     def stop(number: int, _: Optional[FrameType]) -> None:
         for each in ENDING:
             signal.signal(each, signal.SIG_IGN)
@@ -138,4 +158,5 @@ def fault_line(error: Exception) -> str:
     """A fault of the command in one line, with the place where it arose."""
     where = traceback.extract_tb(error.__traceback__)[-1]
     words = " ".join(f"{type(error).__name__}: {error}".split())
-    return f"xaropinto: this is a fault of the command, please report it: {words} ({where.name}, line {where.lineno})"
+    place = f"{where.name}, line {where.lineno}"
+    return f"xaropinto: this is a fault of the command, please report it: {words} ({place})"

@@ -1,4 +1,5 @@
-"""What a verb answers, in words or as JSON, and how a refusal or an error is reported. schema.json has the JSON."""
+"""What a verb answers, in words or as JSON, and how a refusal or an error is reported. The JSON is
+that of schema.json."""
 
 import csv
 import io
@@ -7,21 +8,15 @@ from typing import Callable, Iterable, Mapping, NamedTuple, Optional, Sequence, 
 
 from xaropinto.answers import RefusedError
 from xaropinto.cli.errors import DONE, REFUSED, TROUBLE, CommandError
-from xaropinto.cli.files import read_file, take_written, write_file
+from xaropinto.cli.files import take_written, write_file
 from xaropinto.cli.streams import put_bytes, to_stderr
 from xaropinto.library import LibraryError
 from xaropinto.plausibility import Note
 from xaropinto.tables import BadLine
 from xaropinto.version import VERSION
 
-__all__ = ["DONE", "REFUSED", "TROUBLE", "Answer", "Cell", "CommandError", "Fields", "Json",
-           "Table", "Trouble", "attempt", "begin_input", "begin_run", "end_run", "keep_refusal", "put",
-           "put_answer", "put_notes", "put_to", "read_file", "report_error", "report_refusal", "tell", "to_stderr",
-           "write_file"]
-
 Json = Union[None, bool, int, float, str, Sequence["Json"], Mapping[str, "Json"]]
 Cell = Union[int, str]
-Trouble, tell = CommandError, to_stderr
 
 
 class Table(NamedTuple):
@@ -33,7 +28,9 @@ class Table(NamedTuple):
     def text(self, separator: str) -> str:
         """As a spreadsheet reads it."""
         held = io.StringIO()
-        csv.writer(held, delimiter=separator, lineterminator="\n").writerows([self.headings, *self.rows])
+        csv.writer(held, delimiter=separator, lineterminator="\n").writerows(
+            [self.headings, *self.rows]
+        )
         return held.getvalue()
 
     def data(self) -> Json:
@@ -89,7 +86,8 @@ def end_run(verb: str, code: int) -> None:
 
 
 def attempt(name: str, act: Callable[[], Optional[int]], prefix: str = "") -> int:
-    """Do what is asked of one input; the exit code. What stops it is reported here, lines of words with the prefix."""
+    """Do what is asked of one input; the exit code. What stops it is reported here, lines of words
+    with the prefix."""
     _run.results.append({"input": name, "status": "done"})
     try:
         code = act() or DONE
@@ -97,7 +95,10 @@ def attempt(name: str, act: Callable[[], Optional[int]], prefix: str = "") -> in
         report_refusal(refused, prefix)
         code = REFUSED
     except BadLine as bad:
-        _run.keep(status="refused", refusal={"number": None, "place": None, "owner": None, "words": str(bad)})
+        _run.keep(
+            status="refused",
+            refusal={"number": None, "place": None, "owner": None, "words": str(bad)},
+        )
         _say(f"{prefix}refused: {bad}")
         code = REFUSED
     except (CommandError, LibraryError) as error:
@@ -125,8 +126,15 @@ def report_error(error: Exception) -> int:
 
 def keep_refusal(refused: RefusedError) -> None:
     """A refusal for the JSON document."""
-    _run.keep(status="refused", refusal={"number": refused.number, "place": refused.place,
-                                         "owner": refused.owner, "words": refused.words})
+    _run.keep(
+        status="refused",
+        refusal={
+            "number": refused.number,
+            "place": refused.place,
+            "owner": refused.owner,
+            "words": refused.words,
+        },
+    )
 
 
 def report_refusal(refused: RefusedError, prefix: str = "", verdict: bool = True) -> None:
@@ -152,11 +160,6 @@ def put_to(path: Optional[str], answer: Answer) -> None:
         put(answer)
     else:
         write_file(path, answer.text(_run.separator).encode("utf-8", "surrogateescape"))
-
-
-def put_answer(held: bytes) -> None:
-    """A text on standard output."""
-    put(Fields(held.decode("utf-8", "surrogateescape"), {"text": held.decode("utf-8", "replace")}))
 
 
 def put_notes(notes: Iterable[Note], prefix: str = "") -> None:

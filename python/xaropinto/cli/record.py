@@ -28,7 +28,7 @@ def show_record(chosen: argparse.Namespace) -> int:
 def unchecked_bytes(path: str, book: bytes, number: int) -> bytes:
     """The bytes at a record's place, whatever the header says."""
     start = HEADER_BYTES + RECORD_BYTES * (number - 1)
-    held = book[start : start + RECORD_BYTES] if number else b""
+    held = book[start:start + RECORD_BYTES] if number else b""
     if len(held) != RECORD_BYTES:
         whole = max(0, len(book) - HEADER_BYTES) // RECORD_BYTES
         raise CommandError(

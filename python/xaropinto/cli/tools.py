@@ -24,32 +24,51 @@ FIVE = ("lowest", "first_quartile", "median", "third_quartile", "highest")
 
 def add_verbs(verbs: Verbs) -> None:
     """Their words."""
-    rates = verbs.add_parser("rates", help="the five cost rates out of three years of accounts, in millionths",
-                             epilog="Example: xaropinto rates accounts.csv. Columns: year (1 to 3), group, "
-                                    "expenses_francs (on a year's first line), stock_contracts, claims_francs, "
-                                    "premium_francs")
+    rates = verbs.add_parser(
+        "rates",
+        help="the five cost rates out of three years of accounts, in millionths",
+        epilog="Example: xaropinto rates accounts.csv. Columns: year (1 to 3), group, "
+        "expenses_francs (on a year's first line), stock_contracts, claims_francs, "
+        "premium_francs",
+    )
     rates.add_argument("accounts", metavar="ACCOUNTS.csv")
     rates.set_defaults(run=show_rates)
     add_spread(verbs)
-    deviation = add_verb(verbs, "deviation", show_deviation, "one standard deviation of the four factors",
-                         "xaropinto deviation mine.book factors.csv. Columns: factor, coefficient_millionths, and the "
-                         "correlation with mortality_, lapse_, costs_ and claims_thousandths")
+    deviation = add_verb(
+        verbs,
+        "deviation",
+        show_deviation,
+        "one standard deviation of the four factors",
+        "xaropinto deviation mine.book factors.csv. Columns: factor, coefficient_millionths, and "
+        "the correlation with mortality_, lapse_, costs_ and claims_thousandths",
+    )
     deviation.add_argument("factors", metavar="FACTORS.csv")
-    practice = verbs.add_parser("practice", help="a large book that holds no insurer's data",
-                                epilog="Example: xaropinto practice 2021 -o practice.book")
+    practice = verbs.add_parser(
+        "practice",
+        help="a large book that holds no insurer's data",
+        epilog="Example: xaropinto practice 2021 -o practice.book",
+    )
     practice.add_argument("start", type=number, metavar="START")
     add_output(practice, "the book")
     practice.set_defaults(run=write_practice)
-    page = add_parser(verbs, "page", write_page, "a page to print and to keep: verdict, totals, charts",
-                      "xaropinto page mine.book -o mine.html")
+    page = add_parser(
+        verbs,
+        "page",
+        write_page,
+        "a page to print and to keep: verdict, totals, charts",
+        "xaropinto page mine.book -o mine.html",
+    )
     add_files(page, PAGE)
     add_notes(page)
 
 
 def add_spread(verbs: Verbs) -> None:
     """Five figures and two factors."""
-    spread = verbs.add_parser("spread", help="mean and coefficient of yearly claims",
-                              epilog="Example: xaropinto spread 100 200 300 400 900 --xi 2.5 --eta 1.3")
+    spread = verbs.add_parser(
+        "spread",
+        help="mean and coefficient of yearly claims",
+        epilog="Example: xaropinto spread 100 200 300 400 900 --xi 2.5 --eta 1.3",
+    )
     for name in FIVE:
         spread.add_argument(name, type=number, help="centimes")
     for name in ("--xi", "--eta"):
@@ -77,11 +96,19 @@ def show_rates(chosen: argparse.Namespace) -> None:
 
 def show_spread(chosen: argparse.Namespace) -> None:
     """Mean and coefficient, with all their digits."""
-    lowest, first_quartile, median, third_quartile, highest = (getattr(chosen, name) for name in FIVE)
-    reply = answers.spread(lowest, first_quartile, median, third_quartile, highest, chosen.xi, chosen.eta)
+    lowest, first_quartile, median, third_quartile, highest = (
+        getattr(chosen, name) for name in FIVE
+    )
+    reply = answers.spread(
+        lowest, first_quartile, median, third_quartile, highest, chosen.xi, chosen.eta
+    )
     coefficient = "level" if reply.coefficient is None else repr(reply.coefficient)
-    put(Fields(f"mean {reply.mean!r}\ncoefficient {coefficient}\n",
-               {"mean": reply.mean, "coefficient": reply.coefficient}))
+    put(
+        Fields(
+            f"mean {reply.mean!r}\ncoefficient {coefficient}\n",
+            {"mean": reply.mean, "coefficient": reply.coefficient},
+        )
+    )
 
 
 def show_deviation(chosen: argparse.Namespace) -> None:
@@ -91,8 +118,12 @@ def show_deviation(chosen: argparse.Namespace) -> None:
         reply = answers.deviation(book, *held.model)
     except answers.RefusedError as refused:
         raise refused.at(in_factors(book, refused.number, held)) from refused
-    put(Fields(f"deviation {reply.thousand_francs} thousand francs\n",
-               {"deviation_thousand_francs": reply.thousand_francs}))
+    put(
+        Fields(
+            f"deviation {reply.thousand_francs} thousand francs\n",
+            {"deviation_thousand_francs": reply.thousand_francs},
+        )
+    )
 
 
 def write_practice(chosen: argparse.Namespace) -> None:
@@ -104,7 +135,9 @@ def write_page(chosen: argparse.Namespace) -> int:
     """The page of a book; a refused one has none."""
     if chosen.out is None and chosen.into is None:
         raise CommandError("page wants -o PATH or --folder OUT")
-    return run_files(chosen, PAGE, page_answer, lambda book, prefix: report_notes(book, chosen, prefix))
+    return run_files(
+        chosen, PAGE, page_answer, lambda book, prefix: report_notes(book, chosen, prefix)
+    )
 
 
 def page_answer(path: str, book: bytes) -> Fields:
