@@ -27,8 +27,9 @@ def surroundings(**more):
 
 def xaropinto(*words, sent=b"", output=subprocess.PIPE, env=None):
     """Run the command with these words, and bytes on its standard input."""
-    ended = subprocess.run([sys.executable, "-m", "xaropinto", *map(str, words)], input=sent, stdout=output,
-                           stderr=subprocess.PIPE, timeout=MOST_SECONDS, check=False, env=env or surroundings())
+    line = [sys.executable, "-m", "xaropinto", *map(str, words)]
+    ended = subprocess.run(line, input=sent, stdout=output, stderr=subprocess.PIPE,
+                           timeout=MOST_SECONDS, check=False, env=env or surroundings())
     return Run(ended.returncode, ended.stdout or b"", ended.stderr.decode("utf-8", "replace"))
 
 

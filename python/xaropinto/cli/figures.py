@@ -46,6 +46,20 @@ def add_verbs(verbs: Verbs) -> None:
     )
     add_files(years, YEARS.format("S"))
     add_setting(years)
+    add_group(verbs)
+    add_cell(verbs)
+    record = add_verb(
+        verbs,
+        "record",
+        show_record,
+        "the fields of a record, counted from 1, of a refused book too",
+        "xaropinto record mine.book 17",
+    )
+    record.add_argument("number", type=number)
+
+
+def add_group(verbs: Verbs) -> None:
+    """A product group's figures."""
     group = add_verb(
         verbs,
         "group",
@@ -55,6 +69,10 @@ def add_verbs(verbs: Verbs) -> None:
     )
     add_setting(group)
     group.add_argument("--group", type=product_group, required=True, help=GROUP_HELP)
+
+
+def add_cell(verbs: Verbs) -> None:
+    """One cell of a book."""
     cell = add_verb(
         verbs,
         "cell",
@@ -66,14 +84,6 @@ def add_verbs(verbs: Verbs) -> None:
     cell.add_argument("--subgroup", choices=SUBGROUPS, required=True)
     cell.add_argument("--sex", choices=SEXES, required=True)
     cell.add_argument("--class", dest="age_class", type=number, required=True, help="0 to 120")
-    record = add_verb(
-        verbs,
-        "record",
-        show_record,
-        "the fields of a record, counted from 1, of a refused book too",
-        "xaropinto record mine.book 17",
-    )
-    record.add_argument("number", type=number)
 
 
 def show_listing(chosen: argparse.Namespace) -> int:
