@@ -87,7 +87,7 @@ CALLS = [
     script("outputs, inputs and endings of the command", "tests.cli.test_outputs", 16),
     script("check, and every fault of a file", "tests.cli.test_check", 15),
     script("JSON, by its schema", "tests.cli.test_json", 8),
-    script("the archive, and the types of the package", "tests.cli.test_package", 7),
+    script("the archive, and the types of the package", "tests.cli.test_package", 6),
     script("what is installed", "tests.cli.test_installed", 8),
 ]
 PARTS = [PROOFS, *PROGRAMS, CALLERS, *CALLS]

@@ -66,7 +66,7 @@ class OfABook(unittest.TestCase):
             damaged = changed(book, (draw.choice(links), draw.randint(1, count)))
             try:
                 answers.check(damaged)
-            except answers.Refused as found:
+            except answers.RefusedError as found:
                 named = NAMES.index(found.words.split(",")[0])
                 refused[found.number] += 1
                 # One head or next is wrong: without its chain the proved check accepts the book.

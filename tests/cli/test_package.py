@@ -1,9 +1,7 @@
-"""The archive of `make dist`, the Rust crate in it, what pip installs as a command, and the types
-of the package."""
+"""The archive of `make dist`, the Rust crate in it, and the types of the package."""
 
 import ast
 import os
-import shutil
 import subprocess
 import sys
 import tempfile
@@ -121,39 +119,6 @@ class Archive(unittest.TestCase):
         self.assertEqual((ended.returncode, ended.stdout), (0, 2 * LISTING), ended.stderr)
         ended = run("./example", "samples/small_insurer.book", folder=self.top)
         self.assertIn(b"libxaropinto.so.2: cannot open shared object file", ended.stderr)
-
-
-class Pip(unittest.TestCase):
-    """What pip installs."""
-
-    def test_command(self):
-        with tempfile.TemporaryDirectory() as folder:
-            shutil.copytree(ROOT / "python", Path(folder) / "python")
-            there = Path(folder) / "there"
-            ended = run(
-                sys.executable,
-                "-m",
-                "pip",
-                "install",
-                "--quiet",
-                "--no-build-isolation",
-                "--no-deps",
-                "--no-index",
-                "--disable-pip-version-check",
-                "--target",
-                there,
-                Path(folder) / "python",
-            )
-            self.assertEqual(ended.returncode, 0, ended.stderr)
-            ended = run(
-                there / "bin" / "xaropinto",
-                "list",
-                sample("small_insurer"),
-                folder=folder,
-                PYTHONPATH=str(there),
-            )
-            self.assertEqual((ended.returncode, ended.stdout), (0, LISTING), ended.stderr)
-            self.assertTrue((there / "xaropinto" / "schema.json").is_file())
 
 
 class Types(unittest.TestCase):

@@ -2,7 +2,6 @@
 an input."""
 
 import os
-import secrets
 import shutil
 import signal
 import stat
@@ -102,7 +101,7 @@ def write_file(path: str, held: bytes) -> None:
 
 def beside(target: Path, kind: str) -> Path:
     """A name in the same folder that nobody else has: known before anything stands under it."""
-    return target.parent / f".{target.name[:100]}.{secrets.token_hex(8)}.{kind}"
+    return target.parent / f".{target.name[:100]}.{os.urandom(8).hex()}.{kind}"
 
 
 def replace_file(target: Path, held: bytes) -> None:
