@@ -215,6 +215,11 @@ class Ending(InAFolder):
             ended = by_shell("2>/dev/full", *words)
             self.assertEqual((ended.returncode, ended.stdout), (TROUBLE, out))
 
+    def test_standard_input_twice(self):
+        for words in (("check", "-", "-"), ("funds", "-", "-", sample("one_record"))):
+            ended = by_shell("", *words, sent=ACCEPTED.read_bytes())
+            self.one_line(ended, TROUBLE)
+
     def test_closed_input(self):
         for verb in ("check", "list", "classes"):
             self.one_line(by_shell("<&-", verb, "-"), TROUBLE)

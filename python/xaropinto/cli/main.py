@@ -114,6 +114,8 @@ def run_one(chosen: argparse.Namespace) -> int:
     """The verb's exit code. One of many files reports each of them itself."""
     if chosen.json and getattr(chosen, "out", None) == STANDARD:
         raise CommandError("--json and `-o -` would both write to standard output")
+    if input_paths(chosen).count(STANDARD) > 1:
+        raise CommandError("standard input can be read once")
 
     def act() -> int:
         code: Optional[int] = chosen.run(chosen)
