@@ -1,5 +1,6 @@
 # `make` lists the targets. The toolchain, a POSIX shell, make and Python 3.10 or later are needed; gcc for the
-# library and what calls it, g++, cargo and valgrind for the callers' tests.
+# library and what calls it, g++, cargo and valgrind for the callers' tests, openpyxl
+# (Debian's python3-openpyxl) for those of workbooks.
 .DEFAULT_GOAL := help
 .PHONY: help test quick check list report convert practice fuzz streams samples lib install dist callers bench clean FORCE
 
@@ -76,9 +77,7 @@ install: lib target/bin/listing_main target/bin/year_report_main target/bin/age_
 	@sh packaging/install.sh "$(DESTDIR)$(PREFIX)" $(SHARED) $(VERSION)
 
 dist: lib target/bin/listing_main target/bin/year_report_main target/bin/age_basis_main ## an archive for machines without the toolchain, under target/dist
-	@rm -rf target/dist && sh packaging/install.sh target/dist/$(DIST) $(SHARED) $(VERSION)
-	@tar -C target/dist -czf target/dist/$(DIST).tar.gz $(DIST)
-	@echo target/dist/$(DIST).tar.gz
+	@sh packaging/dist.sh target/dist $(DIST) $(SHARED) $(VERSION)
 
 callers: ## run the tests of the callers in C, Rust and Python
 	@python3 -m tests.gate callers

@@ -353,69 +353,102 @@ static inline const char *xaropinto_refusal_text(uint64_t refusal)
         return "accepted";
     /* refusals: begin, written by python3 -m tools.refusals write */
     case 1:
-        return "a book has at least 1,220 bytes, a fund file at least 56; place: the length of the file; mended by: the desk that writes the file";
+        return "a book has at least 1,220 bytes, a fund file at least 56; place: the length of "
+               "the file; owner: the department that writes the file";
     case 2:
-        return "the edition is 1 or 2; place: 0; mended by: the desk that writes the file";
+        return "the edition is 1 or 2; place: 0; owner: the department that writes the file";
     case 3:
-        return "the age basis is 1; for the converter it is 2; place: 1; mended by: the desk that writes the file";
+        return "the age basis is 1; for Convert it is 2; place: 1; owner: the department that "
+               "writes the file";
     case 4:
-        return "the SST year is 2017 to 2100, there are at most 1,694 records, and bytes 6 and 7 are zero in edition 1; place: 2, 4 or 6, the first; 0 in Write; mended by: the desk that writes the file";
+        return "the SST year is 2017 to 2100, there are at most 1,694 records, and bytes 6 and "
+               "7 are zero in edition 1; place: 2, 4 or 6, the first; 0 in Write; owner: the "
+               "department that writes the file";
     case 5:
-        return "the length is 1,220 bytes and 24 for each record; place: the length of the file; mended by: the desk that writes the file";
+        return "the length is 1,220 bytes and 24 for each record; place: the length of the "
+               "file; owner: the department that writes the file";
     case 6:
-        return "a cost rate is at most 1,000,000 millionths; place: the field; 0 in Write; mended by: the insurer's cost sheet";
+        return "a cost rate is at most 1,000,000 millionths; place: the field; 0 in Write; "
+               "owner: the insurer's cost sheet";
     case 7:
-        return "a curve rate is -10,000 to 200,000 millionths; place: the field; 0 in Write; mended by: the keeper of the supervisor's tables";
+        return "a curve rate is -10,000 to 200,000 millionths; place: the field; 0 in Write; "
+               "owner: the keeper of the supervisor's tables";
     case 8:
-        return "a mortality is at most 1,000,000 millionths; place: the field; 0 in Write; mended by: the keeper of the supervisor's tables";
+        return "a mortality is at most 1,000,000 millionths; place: the field; 0 in Write; "
+               "owner: the keeper of the supervisor's tables";
     case 9:
-        return "a head or next is at most the number of records; so is the number that the looker is asked for, and it is not 0; place: the field; 0 in the looker; mended by: the portfolio desk; in the looker the caller";
+        return "a head or next is at most the number of records; so is the number that Record "
+               "is asked for, and it is not 0; place: the field; 0 in Record; owner: the "
+               "portfolio department; in Record the caller";
     case 10:
-        return "a linked record has its chain's code and sex, and zero in its spare bytes; place: the record's start; mended by: the portfolio desk";
+        return "a linked record has its chain's code and sex, and zero in its spare bytes; "
+               "place: the record's start; owner: the portfolio department";
     case 11:
-        return "a chain's first class is at most 120, each later class one more; place: record + 2; 0 in Write; mended by: the portfolio desk";
+        return "a chain's first class is at most 120, in Convert 121, in Write 121 for no "
+               "records; each later class is one more; place: record + 2; 0 in Write; owner: "
+               "the portfolio department";
     case 12:
-        return "the count is at most 100,000, the lapse at most 1,000,000 millionths, premium and claims each at most 10,000,000 centimes; place: the field, the first; 0 in Write; mended by: the portfolio desk";
+        return "the count is at most 100,000, the lapse at most 1,000,000 millionths, premium "
+               "and claims each at most 10,000,000 centimes; place: the field, the first; 0 in "
+               "Write; owner: the portfolio department";
     case 13:
-        return "a chain ends at class 120 and nowhere else; place: record + 4; mended by: the portfolio desk";
+        return "a chain ends at class 120, in Convert at 121, and nowhere else; place: record "
+               "+ 4; owner: the portfolio department";
     case 14:
-        return "the setting is 0 to 7; place: 0; mended by: the caller";
+        return "the setting is 0 to 7; place: 0; owner: the caller";
     case 15:
-        return "the product group is 1 to 5; place: 0; mended by: the caller";
+        return "the product group is 1 to 5; place: 0; owner: the caller";
     case 16:
-        return "what is lent to be written is long enough: 200 numbers for Group, 16 for Funds, the book's length for the converter, 41,876 bytes for Practice; place: 0; mended by: the caller";
+        return "the buffer passed is long enough: 200 numbers for Group, 16 for Funds, the "
+               "book's length for Convert, 41,876 bytes for Practice; place: 0; owner: the "
+               "caller";
     case 17:
-        return "amounts of accounts are at most 1,000,000,000 francs, a stock at most 10,000,000 contracts; place: 0; mended by: the insurer's cost sheet";
+        return "amounts of accounts are at most 1,000,000,000 francs, a stock at most "
+               "10,000,000 contracts; place: 0; owner: the insurer's cost sheet";
     case 18:
-        return "no year's stock or claims add up to 0, and a group with something in any of three years has premium in each; place: 0; mended by: the insurer's cost sheet";
+        return "no year's stock or claims add up to 0, and a group with something in any of "
+               "three years has premium in each; place: 0; owner: the insurer's cost sheet";
     case 19:
-        return "no cost rate out of the accounts is above 1,000,000 millionths; place: 0; mended by: the insurer's cost sheet";
+        return "no cost rate out of the accounts is above 1,000,000 millionths; place: 0; "
+               "owner: the insurer's cost sheet";
     case 20:
-        return "the buffer passed for a listing or a year report is as long as the text; place: 0; mended by: the caller";
+        return "the buffer passed for a listing or a year report is as long as the text; "
+               "place: 0; owner: the caller";
     case 21:
-        return "on age basis 2 no linked record has class 0; place: record + 2; mended by: the portfolio desk";
+        return "on age basis 2 no linked record has class 0; place: record + 2; owner: the "
+               "portfolio department";
     case 22:
-        return "the lists have the lengths that their chains ask, and what is to be filled is long enough; place: 0; mended by: the caller";
+        return "the lists have the lengths that their chains ask, and what is to be filled is "
+               "long enough; place: 0; owner: the caller";
     case 23:
-        return "each mortality percentage of edition 2 is 1 to 100; place: 6 or 7, the first; 0 in Write; mended by: the desk that writes the file";
+        return "each mortality percentage of edition 2 is 1 to 100; place: 6 or 7, the first; "
+               "0 in Write; owner: the department that writes the file";
     case 24:
-        return "the table file has 1,164 bytes; place: 0; mended by: the desk that writes the file";
+        return "the table file has 1,164 bytes; place: 0; owner: the department that writes "
+               "the file";
     case 25:
-        return "the subgroup code is 1 to 7, the sex 0 or 1, and the buffer has at least 50 numbers; place: 0; mended by: the caller";
+        return "the subgroup code is 1 to 7, the sex 0 or 1, and the buffer has at least 50 "
+               "numbers; place: 0; owner: the caller";
     case 26:
-        return "the chain of that code and sex has a record of that class; place: 0; mended by: the caller";
+        return "the chain of that code and sex has a record of that class; place: 0; owner: "
+               "the caller";
     case 27:
-        return "none of the five figures is below the one before it or above 10,000,000 centimes, and the highest is not 0; place: 0; mended by: the portfolio desk";
+        return "none of the five figures is below the one before it or above 10,000,000 "
+               "centimes, and the highest is not 0; place: 0; owner: the portfolio department";
     case 28:
-        return "the sample factors are numbers from 1/1,024 to 1,000; place: 0; mended by: the keeper of the supervisor's tables";
+        return "the sample factors are numbers from 1/1,024 to 1,000; place: 0; owner: the "
+               "keeper of the supervisor's tables";
     case 29:
-        return "a coefficient is at most 1,000,000 millionths; the correlation is symmetric, 1,000 on its diagonal and -1,000 to 1,000 elsewhere; place: 0; mended by: the caller";
+        return "a coefficient is at most 1,000,000 millionths; the correlation is symmetric, "
+               "1,000 on its diagonal and -1,000 to 1,000 elsewhere; place: 0; owner: the "
+               "caller";
     case 30:
-        return "no scaled factor is above 1,000,000 or below -1,000,000; place: 0; mended by: the caller";
+        return "no scaled factor is above 1,000,000 or below -1,000,000; place: 0; owner: the "
+               "caller";
     case 31:
-        return "the quadratic form is not negative; place: 0; mended by: the caller";
+        return "the quadratic form is not negative; place: 0; owner: the caller";
     case 32:
-        return "the start number is not 0; place: 0; mended by: the caller";
+        return "the start number is not 0; place: 0; owner: the caller";
     /* refusals: end */
     default:
         return "";

@@ -2,6 +2,7 @@
 
 import argparse
 import sys
+import textwrap
 
 from tests import ROOT
 
@@ -10,28 +11,33 @@ sys.path.insert(0, str(ROOT / "python"))
 from xaropinto.refusals import refusals  # noqa: E402
 
 BEGIN, END = "refusals: begin", "refusals: end"
+# The most characters of a literal in C.
+LITERAL = 78
 
 
 def in_book(rows):
     """A table's lines."""
     head = ["| number | rule | place | owner | broken by |", "|---|---|---|---|---|"]
-    return head + [f"| {row.number} | {row.rule} | {row.place} | {row.mended_by} | {row.example} |"
+    return head + [f"| {row.number} | {row.rule} | {row.place} | {row.owner} | {row.example} |"
                    for row in rows]
 
 
 def in_header(rows):
-    """The cases of a function in C."""
-    return [line for row in rows
-            for line in (f"    case {row.number}:",
-                         f'        return "{row.rule}; place: {row.place};'
-                         f' mended by: {row.mended_by}";')]
+    """The cases of a function in C; a long text is several literals, one after the other."""
+    held = []
+    for row in rows:
+        words = textwrap.wrap(f"{row.rule}; place: {row.place}; owner: {row.owner}", LITERAL)
+        literals = [f'"{each} "' for each in words[:-1]] + [f'"{words[-1]}";']
+        held += [f"    case {row.number}:", f"        return {literals[0]}",
+                 *(f"               {each}" for each in literals[1:])]
+    return held
 
 
 def in_rust(rows):
     """The arms of a match in Rust."""
     return [line for row in rows
             for line in (f"        {row.number} => {{",
-                         f'            "{row.rule}; mended by: {row.mended_by}"',
+                         f'            "{row.rule}; owner: {row.owner}"',
                          "        }")]
 
 

@@ -9,6 +9,7 @@ from reference.layout import changed, record
 from reference.valuation import listing
 from reference.year_report import report_page
 from tests import ROOT
+from tests.cli.inputs import accounts_text, factors_text
 from tests.fixtures.insurers import MANY_PRODUCTS, dense_full_book, flat_values, insurer_book
 from tests.fixtures.age_basis_2 import on_basis_2
 
@@ -58,8 +59,9 @@ SAMPLES = [
 
 
 def files():
-    """Each file of samples/ by its name: the books, each with its listing and base report."""
-    held = {}
+    """Each file of samples/ by its name: sheets; books, each with its listing and report."""
+    held = {"accounts.csv": accounts_text().encode("ascii"),
+            "factors.csv": factors_text().encode("ascii")}
     for name, book, _ in SAMPLES:
         held |= {f"{name}.book": book, f"{name}.listing": listing(book),
                  f"{name}.report": report_page(book, 0)}

@@ -1,18 +1,34 @@
-//! Links the archive that `make lib` puts under the repository's target/lib.
+//! Links libxaropinto.a of the folder that XAROPINTO_LIB_DIR names; without it, of the repository's
+//! target/lib, where `make lib` puts it, or of the lib/ of an unpacked archive.
 
 use std::env;
-use std::path::Path;
+use std::path::PathBuf;
 use std::process;
 
+const VARIABLE: &str = "XAROPINTO_LIB_DIR";
+const ARCHIVE: &str = "libxaropinto.a";
+
 fn main() {
-    let package = env::var("CARGO_MANIFEST_DIR").expect("cargo names the package's folder");
-    let folder = Path::new(&package).join("../../target/lib");
-    let archive = folder.join("libxaropinto.a");
-    println!("cargo:rerun-if-changed={}", archive.display());
-    if !archive.is_file() {
-        eprintln!("target/lib/libxaropinto.a is not there: run `make lib` at the repository's top");
+    println!("cargo:rerun-if-env-changed={VARIABLE}");
+    let package = env::var_os("CARGO_MANIFEST_DIR").expect("cargo names the package's folder");
+    let folders = match env::var_os(VARIABLE) {
+        Some(named) => vec![PathBuf::from(named)],
+        None => ["../../target/lib", "../../lib"]
+            .map(|each| PathBuf::from(&package).join(each))
+            .to_vec(),
+    };
+    let Some(folder) = folders.iter().find(|each| each.join(ARCHIVE).is_file()) else {
+        let tried: Vec<_> = folders
+            .iter()
+            .map(|each| each.display().to_string())
+            .collect();
+        eprintln!(
+            "no {ARCHIVE} in {}: run `make lib` at the repository's top, or set {VARIABLE}",
+            tried.join(", ")
+        );
         process::exit(1);
-    }
+    };
+    println!("cargo:rerun-if-changed={}", folder.join(ARCHIVE).display());
     println!("cargo:rustc-link-search=native={}", folder.display());
     println!("cargo:rustc-link-lib=static=xaropinto");
 }

@@ -2,7 +2,7 @@
 
 import sys
 
-from xaropinto.cli.main import main
+from xaropinto.start import start
 
 if __name__ == "__main__":
-    sys.exit(main())
+    sys.exit(start())

@@ -1,22 +1,24 @@
-"""The proved check and reckoning of a parameter book, its cost rates, and the spread of claims, called through ctypes.
+"""The proved check and valuation of a parameter book, its cost rates, and the spread of claims,
+called through ctypes.
 
-`make lib` links the shared library; `xaropinto.library` finds it. `include/xaropinto.h` says what each call answers
-and which refusals it gives. A book is `bytes`, which nothing can change and which is lent as it is, or anything else
-with bytes, such as a `bytearray`, which is copied first: other threads run during a call and may write to it. A table,
-or a buffer to be written, is lent as it is.
+`make lib` links the shared library; `xaropinto.library` finds it. `include/xaropinto.h` says what
+each call answers and which refusals it gives. A book is `bytes`, which nothing can change and which
+is passed as it is, or anything else with bytes, such as a `bytearray`, which is copied first: other
+threads run during a call and may write to it. A table, or a buffer to be written, is passed as it
+is.
 """
 
 import ctypes
-from functools import lru_cache
-from typing import Any, NamedTuple, Sequence, Union
+from typing import Any, Callable, NamedTuple, Optional, Sequence, Union
 
-from xaropinto.library import find_library
+from xaropinto.library import LibraryError, loaded_library
 
 WORD_LIMIT = 2**64
-# A book; a table, list or buffer that is lent is anything with the numbers of its kind.
+# A book; a table, list or buffer that is passed is anything with the numbers of its kind.
 Bytes = Union[bytes, bytearray, memoryview]
 Row = Sequence[int]
 Rows = Sequence[Row]
+Numbers = tuple[int, ...]
 
 
 class Verdict(NamedTuple):
@@ -28,7 +30,8 @@ class Verdict(NamedTuple):
 
 
 class GroupReply(NamedTuple):
-    """The liability of a product group in centimes, negative where it is a credit, and the group's n."""
+    """The liability of a product group in centimes, negative where it is a credit, and the group's
+    n."""
 
     refusal: int
     place: int
@@ -42,8 +45,8 @@ class TotalsReply(NamedTuple):
     refusal: int
     place: int
     n: int
-    totals: tuple
-    differences: tuple
+    totals: Numbers
+    differences: Numbers
 
 
 class RecordReply(NamedTuple):
@@ -60,7 +63,7 @@ class CostRates(NamedTuple):
 
     refusal: int
     place: int
-    rates: tuple
+    rates: Numbers
 
 
 class ReportReply(NamedTuple):
@@ -72,16 +75,17 @@ class ReportReply(NamedTuple):
 
 
 class Values(NamedTuple):
-    """A book's values: the edition, and its mortality percentages of men and women, both 0 in edition 1; the SST year;
-    5 cost rates, 49 curve rates, 242 of mortality; the first classes of 14 chains."""
+    """A book's values: the edition, and its mortality percentages of men and women, both 0 in
+    edition 1; the SST year; 5 cost rates, 49 curve rates, 242 of mortality; the first classes of 14
+    chains."""
 
     edition: int
-    percentages: tuple
+    percentages: Numbers
     year: int
-    cost_rates: tuple
-    curve: tuple
-    mortality: tuple
-    first_classes: tuple
+    cost_rates: Numbers
+    curve: Numbers
+    mortality: Numbers
+    first_classes: Numbers
 
 
 class WriteReply(NamedTuple):
@@ -108,7 +112,8 @@ class InForceReply(NamedTuple):
 
 
 class Spread(NamedTuple):
-    """Mean and coefficient of yearly claims, doubles; where they are level, the mean alone and a coefficient of 0."""
+    """Mean and coefficient of yearly claims, doubles; where they are level, the mean alone and a
+    coefficient of 0."""
 
     refusal: int
     place: int
@@ -130,18 +135,31 @@ class _Verdict(ctypes.Structure):
 
 
 class _GroupReply(ctypes.Structure):
-    _fields_ = [("refusal", ctypes.c_uint64), ("place", ctypes.c_uint64),
-                ("liability", ctypes.c_int64), ("n", ctypes.c_uint64)]
+    _fields_ = [
+        ("refusal", ctypes.c_uint64),
+        ("place", ctypes.c_uint64),
+        ("liability", ctypes.c_int64),
+        ("n", ctypes.c_uint64),
+    ]
 
 
 class _TotalsReply(ctypes.Structure):
-    _fields_ = [("refusal", ctypes.c_uint64), ("place", ctypes.c_uint64), ("n", ctypes.c_uint64),
-                ("totals", ctypes.c_int64 * 8), ("differences", ctypes.c_int64 * 4)]
+    _fields_ = [
+        ("refusal", ctypes.c_uint64),
+        ("place", ctypes.c_uint64),
+        ("n", ctypes.c_uint64),
+        ("totals", ctypes.c_int64 * 8),
+        ("differences", ctypes.c_int64 * 4),
+    ]
 
 
 class _RecordReply(ctypes.Structure):
-    _fields_ = [("refusal", ctypes.c_uint64), ("place", ctypes.c_uint64),
-                ("start", ctypes.c_uint64), ("length", ctypes.c_uint64)]
+    _fields_ = [
+        ("refusal", ctypes.c_uint64),
+        ("place", ctypes.c_uint64),
+        ("start", ctypes.c_uint64),
+        ("length", ctypes.c_uint64),
+    ]
 
 
 _YEARS, _PRODUCT_GROUPS = 3, 5
@@ -149,26 +167,48 @@ _ROWS = ctypes.c_uint64 * (_YEARS * _PRODUCT_GROUPS)
 
 
 class _Accounts(ctypes.Structure):
-    _fields_ = [("expenses", ctypes.c_uint64 * _YEARS), ("stock", _ROWS), ("claims", _ROWS), ("premium", _ROWS)]
+    _fields_ = [
+        ("expenses", ctypes.c_uint64 * _YEARS),
+        ("stock", _ROWS),
+        ("claims", _ROWS),
+        ("premium", _ROWS),
+    ]
 
 
 class _CostRates(ctypes.Structure):
-    _fields_ = [("refusal", ctypes.c_uint64), ("place", ctypes.c_uint64),
-                ("rates", ctypes.c_uint64 * _PRODUCT_GROUPS)]
+    _fields_ = [
+        ("refusal", ctypes.c_uint64),
+        ("place", ctypes.c_uint64),
+        ("rates", ctypes.c_uint64 * _PRODUCT_GROUPS),
+    ]
 
 
 class _ReportReply(ctypes.Structure):
-    _fields_ = [("refusal", ctypes.c_uint64), ("place", ctypes.c_uint64), ("length", ctypes.c_uint64)]
+    _fields_ = [
+        ("refusal", ctypes.c_uint64),
+        ("place", ctypes.c_uint64),
+        ("length", ctypes.c_uint64),
+    ]
 
 
 class _Values(ctypes.Structure):
-    _fields_ = [("edition", ctypes.c_uint64), ("percentages", ctypes.c_uint64 * 2), ("year", ctypes.c_uint64),
-                ("cost_rates", ctypes.c_uint64 * 5), ("curve", ctypes.c_int64 * 49),
-                ("mortality", ctypes.c_uint64 * 242), ("first_classes", ctypes.c_uint64 * 14)]
+    _fields_ = [
+        ("edition", ctypes.c_uint64),
+        ("percentages", ctypes.c_uint64 * 2),
+        ("year", ctypes.c_uint64),
+        ("cost_rates", ctypes.c_uint64 * 5),
+        ("curve", ctypes.c_int64 * 49),
+        ("mortality", ctypes.c_uint64 * 242),
+        ("first_classes", ctypes.c_uint64 * 14),
+    ]
 
 
 class _WriteReply(ctypes.Structure):
-    _fields_ = [("refusal", ctypes.c_uint64), ("place", ctypes.c_uint64), ("length", ctypes.c_uint64)]
+    _fields_ = [
+        ("refusal", ctypes.c_uint64),
+        ("place", ctypes.c_uint64),
+        ("length", ctypes.c_uint64),
+    ]
 
 
 class _ReadReply(ctypes.Structure):
@@ -184,27 +224,47 @@ class _InForceReply(ctypes.Structure):
 
 
 class _Summary(ctypes.Structure):
-    _fields_ = [("lowest", ctypes.c_uint64), ("first_quartile", ctypes.c_uint64), ("median", ctypes.c_uint64),
-                ("third_quartile", ctypes.c_uint64), ("highest", ctypes.c_uint64)]
+    _fields_ = [
+        ("lowest", ctypes.c_uint64),
+        ("first_quartile", ctypes.c_uint64),
+        ("median", ctypes.c_uint64),
+        ("third_quartile", ctypes.c_uint64),
+        ("highest", ctypes.c_uint64),
+    ]
 
 
 class _SpreadReply(ctypes.Structure):
-    _fields_ = [("refusal", ctypes.c_uint64), ("place", ctypes.c_uint64), ("level", ctypes.c_uint64),
-                ("mean", ctypes.c_double), ("coefficient", ctypes.c_double)]
+    _fields_ = [
+        ("refusal", ctypes.c_uint64),
+        ("place", ctypes.c_uint64),
+        ("level", ctypes.c_uint64),
+        ("mean", ctypes.c_double),
+        ("coefficient", ctypes.c_double),
+    ]
 
 
 _FACTORS = 4
 
 
 class _RiskModel(ctypes.Structure):
-    _fields_ = [("coefficients", ctypes.c_uint64 * _FACTORS), ("correlation", ctypes.c_int64 * (_FACTORS * _FACTORS))]
+    _fields_ = [
+        ("coefficients", ctypes.c_uint64 * _FACTORS),
+        ("correlation", ctypes.c_int64 * (_FACTORS * _FACTORS)),
+    ]
 
 
 class _DeviationReply(ctypes.Structure):
-    _fields_ = [("refusal", ctypes.c_uint64), ("place", ctypes.c_uint64), ("deviation", ctypes.c_uint64)]
+    _fields_ = [
+        ("refusal", ctypes.c_uint64),
+        ("place", ctypes.c_uint64),
+        ("deviation", ctypes.c_uint64),
+    ]
 
 
-# What is lent: a pointer and a length.
+# The words or bytes of a buffer that is passed to a call.
+_Words = ctypes.Array[Any]
+_Word = Union[ctypes.c_uint64, ctypes.c_int64]
+# What is passed: a pointer and a length.
 _BOOK = (ctypes.c_char_p, ctypes.c_size_t)
 _NUMBERS = (ctypes.POINTER(ctypes.c_uint64), ctypes.c_size_t)
 _BYTES = (ctypes.POINTER(ctypes.c_uint8), ctypes.c_size_t)
@@ -215,24 +275,24 @@ _SIGNED = {order + letter for order in ("", "@", "=", "<") for letter in "ql"}
 
 
 class _Call:
-    """A function of the library, looked up when it is first called: help and words do without the library."""
+    """A function of the library, found when it is first called: help and words do without the
+    library."""
 
-    def __init__(self, name, reply, *arguments):
+    def __init__(self, name: str, reply: type[ctypes.Structure], *arguments: Any):
         self.name, self.reply, self.arguments = name, reply, arguments
-        self.function = None
+        self.function: Optional[Callable[..., Any]] = None
 
-    def __call__(self, *arguments):
+    def __call__(self, *arguments: Any) -> Any:
         if self.function is None:
-            function = getattr(_library(), self.name)
+            try:
+                function = getattr(loaded_library(), self.name)
+            except AttributeError as error:
+                raise LibraryError(
+                    f"the library has no {self.name}: it is of another version"
+                ) from error
             function.restype, function.argtypes = self.reply, self.arguments
             self.function = function
         return self.function(*arguments)
-
-
-@lru_cache(maxsize=None)
-def _library():
-    """The shared library, loaded once."""
-    return ctypes.CDLL(str(find_library()))
 
 
 _CHECK = _Call("xaropinto_check", _Verdict, *_BOOK)
@@ -246,7 +306,9 @@ _REPORT_ROOM = _Call("xaropinto_report_room", _ReportReply, *_BOOK, ctypes.c_siz
 _CONVERT = _Call("xaropinto_convert", _Verdict, *_BOOK, *_BYTES)
 _READ = _Call("xaropinto_read", _ReadReply, *_BOOK, *_NUMBERS * 4)
 _WRITE = _Call("xaropinto_write", _WriteReply, _Values, *_NUMBERS * 4, *_BYTES)
-_FUNDS = _Call("xaropinto_funds", _FundsReply, *_BOOK * 3, ctypes.POINTER(ctypes.c_int64), ctypes.c_size_t)
+_FUNDS = _Call(
+    "xaropinto_funds", _FundsReply, *_BOOK * 3, ctypes.POINTER(ctypes.c_int64), ctypes.c_size_t
+)
 _IN_FORCE = _Call("xaropinto_in_force", _InForceReply, *_BOOK, *[ctypes.c_size_t] * 4, *_NUMBERS)
 _SPREAD = _Call("xaropinto_spread", _SpreadReply, _Summary, ctypes.c_double, ctypes.c_double)
 _DEVIATION = _Call("xaropinto_deviation", _DeviationReply, *_BOOK, _RiskModel)
@@ -255,162 +317,199 @@ _PRACTICE = _Call("xaropinto_practice", _WriteReply, ctypes.c_uint64, *_BYTES)
 
 def check(book: Bytes) -> Verdict:
     """Is this a book?"""
-    reply = _CHECK(*_lent_book(book))
+    reply = _CHECK(*_passed_book(book))
     return Verdict(reply.refusal, reply.place, reply.n)
 
 
 def group(book: Bytes, setting: int, product_group: int, table: Any) -> GroupReply:
     """The liability of a product group in a setting.
 
-    The table is one row of unsigned 64-bit numbers that can be written, such as an `array.array("Q")` or a
-    `(ctypes.c_uint64 * 200)()`, or rows of such, fifty of four; it starts at a multiple of 8 bytes. Where accepted,
-    its first 200 become the fifty years; all others stay as they were.
+    The table is one row of unsigned 64-bit numbers that can be written, such as an
+    `array.array("Q")` or a `(ctypes.c_uint64 * 200)()`, or rows of such, fifty of four; it starts
+    at a multiple of 8 bytes. Where accepted, its first 200 become the fifty years; all others stay
+    as they were.
     """
-    numbers = _lent_table(table)
-    reply = _GROUP(*_lent_book(book), _word(setting), _word(product_group), numbers, len(numbers))
+    numbers = _passed_table(table)
+    reply = _GROUP(*_passed_book(book), _word(setting), _word(product_group), numbers, len(numbers))
     return GroupReply(reply.refusal, reply.place, reply.liability, reply.n)
 
 
 def totals(book: Bytes) -> TotalsReply:
     """The eight totals and the four differences."""
-    reply = _TOTALS(*_lent_book(book))
-    return TotalsReply(reply.refusal, reply.place, reply.n, tuple(reply.totals), tuple(reply.differences))
+    reply = _TOTALS(*_passed_book(book))
+    return TotalsReply(
+        reply.refusal, reply.place, reply.n, tuple(reply.totals), tuple(reply.differences)
+    )
 
 
 def listing(book: Bytes, out: Any) -> ReportReply:
-    """Write the listing of a book to the start of a lent buffer of bytes; its length.
+    """Write the listing of a book to the start of a passed buffer of bytes; its length.
 
-    No listing is longer than 512 bytes. Where refused, and past the listing, the buffer stays as it was; 20 where it
-    is shorter than the listing.
+    No listing is longer than 512 bytes. Where refused, and past the listing, the buffer stays as it
+    was; 20 where it is shorter than the listing.
     """
-    buffer = _lent_buffer(out)
-    reply = _LISTING(*_lent_book(book), buffer, len(buffer))
+    buffer = _passed_buffer(out)
+    reply = _LISTING(*_passed_book(book), buffer, len(buffer))
     return ReportReply(reply.refusal, reply.place, reply.length)
 
 
 def record(book: Bytes, number: int) -> RecordReply:
     """Where the record of this number, counted from 1, stands in the book."""
-    reply = _RECORD(*_lent_book(book), _word(number))
+    reply = _RECORD(*_passed_book(book), _word(number))
     return RecordReply(reply.refusal, reply.place, reply.start, reply.length)
 
 
 def cost_rates(expenses: Row, stock: Rows, claims: Rows, premium: Rows) -> CostRates:
     """The cost rates of the five product groups out of three years of accounts.
 
-    Expenses are three numbers; stock, claims and premium are three rows of five, a row for each year. Stock is in
-    contracts, all else in whole francs.
+    Expenses are three numbers; stock, claims and premium are three rows of five, a row for each
+    year. Stock is in contracts, all else in whole francs.
     """
-    reply = _COST_RATES(_Accounts(_numbers(expenses, _YEARS), _rows(stock), _rows(claims), _rows(premium)))
+    reply = _COST_RATES(
+        _Accounts(_numbers(expenses, _YEARS), _rows(stock), _rows(claims), _rows(premium))
+    )
     return CostRates(reply.refusal, reply.place, tuple(reply.rates))
 
 
-def _numbers(row, count):
+def _numbers(row: Row, count: int) -> Numbers:
     """So many numbers of 64 bits."""
-    row = tuple(row)
-    if len(row) != count:
-        raise ValueError(f"{len(row)} numbers where {count} are due")
-    return tuple(_word(number) for number in row)
+    numbers = tuple(row)
+    if len(numbers) != count:
+        raise ValueError(f"{len(numbers)} numbers where {count} are due")
+    return tuple(map(_word, numbers))
 
 
-def _rows(rows):
+def _rows(rows: Rows) -> Numbers:
     """Three rows of five numbers, end to end."""
-    rows = tuple(rows)
-    if len(rows) != _YEARS:
-        raise ValueError(f"{len(rows)} rows where {_YEARS} are due")
-    return sum((_numbers(row, _PRODUCT_GROUPS) for row in rows), ())
+    held = tuple(rows)
+    if len(held) != _YEARS:
+        raise ValueError(f"{len(held)} rows where {_YEARS} are due")
+    return tuple(number for row in held for number in _numbers(row, _PRODUCT_GROUPS))
 
 
 def report(book: Bytes, setting: int, out: Any) -> ReportReply:
-    """Write the year report of a setting to the start of a lent buffer.
+    """Write the year report of a setting to the start of a passed buffer.
 
-    The buffer is one row of bytes that can be written, such as a `bytearray`, at least as long as `report_room` tells.
-    Where refused, and past the report, it stays as it was.
+    The buffer is one row of bytes that can be written, such as a `bytearray`, at least as long as
+    `report_room` tells. Where refused, and past the report, it stays as it was.
     """
-    buffer = _lent_buffer(out)
-    reply = _REPORT(*_lent_book(book), _word(setting), buffer, len(buffer))
+    buffer = _passed_buffer(out)
+    reply = _REPORT(*_passed_book(book), _word(setting), buffer, len(buffer))
     return ReportReply(reply.refusal, reply.place, reply.length)
 
 
 def report_room(book: Bytes, setting: int) -> ReportReply:
-    """How long a buffer `report` wants for this book and setting: the report's length, to the byte."""
-    reply = _REPORT_ROOM(*_lent_book(book), _word(setting))
+    """How long a buffer `report` wants for this book and setting: the report's length, to the
+    byte."""
+    reply = _REPORT_ROOM(*_passed_book(book), _word(setting))
     return ReportReply(reply.refusal, reply.place, reply.length)
 
 
 def convert(book: Bytes, out: Any) -> Verdict:
     """The book of age basis 2 turned into basis 1.
 
-    `out` is one row of bytes that can be written, such as a `bytearray`. Where accepted, its first bytes, as many as
-    the book has, become the converted book; all others stay as they were.
+    `out` is one row of bytes that can be written, such as a `bytearray`. Where accepted, its first
+    bytes, as many as the book has, become the converted book; all others stay as they were.
     """
-    room = _lent_buffer(out)
-    reply = _CONVERT(*_lent_book(book), room, len(room))
+    buffer = _passed_buffer(out)
+    reply = _CONVERT(*_passed_book(book), buffer, len(buffer))
     return Verdict(reply.refusal, reply.place, reply.n)
 
 
-def write(values: Values, counts: Any, lapses: Any, premiums: Any, claims: Any, out: Any) -> WriteReply:
+def write(
+    values: Values, counts: Any, lapses: Any, premiums: Any, claims: Any, out: Any
+) -> WriteReply:
     """The book of the values and lists, written into a buffer of bytes; its length.
 
-    The lists of one kind stand end to end, in head order, in one row of unsigned 64-bit numbers that can be
-    written, such as an `array.array("Q")`; each list has 121 less its chain's first class. Bytes of the buffer
-    past the book stay as they were.
+    The lists of one kind stand end to end, in head order, in one row of unsigned 64-bit numbers
+    that can be written, such as an `array.array("Q")`; each list has 121 less its chain's first
+    class. Bytes of the buffer past the book stay as they were.
     """
-    lists = [_lent_table(numbers) for numbers in (counts, lapses, premiums, claims)]
-    room = _lent_buffer(out)
+    lists = [_passed_table(numbers) for numbers in (counts, lapses, premiums, claims)]
+    buffer = _passed_buffer(out)
     for numbers in lists:
-        _need_apart(numbers, room)
-    reply = _WRITE(_lent_values(values), *_with_lengths(lists), room, len(room))
+        _need_apart(numbers, buffer)
+    reply = _WRITE(_passed_values(values), *_with_lengths(lists), buffer, len(buffer))
     return WriteReply(reply.refusal, reply.place, reply.length)
 
 
 def read(book: Bytes, counts: Any, lapses: Any, premiums: Any, claims: Any) -> ReadReply:
     """The values of a book; its lists fill the four rows, whose later numbers stay as they were."""
-    lists = [_lent_table(numbers) for numbers in (counts, lapses, premiums, claims)]
+    lists = [_passed_table(numbers) for numbers in (counts, lapses, premiums, claims)]
     for at, numbers in enumerate(lists):
         for others in lists[:at]:
             _need_apart(numbers, others)
-    reply = _READ(*_lent_book(book), *_with_lengths(lists))
+    reply = _READ(*_passed_book(book), *_with_lengths(lists))
     held = reply.values
-    values = Values(held.edition, tuple(held.percentages), held.year, tuple(held.cost_rates), tuple(held.curve),
-                    tuple(held.mortality), tuple(held.first_classes))
+    values = Values(
+        held.edition,
+        tuple(held.percentages),
+        held.year,
+        tuple(held.cost_rates),
+        tuple(held.curve),
+        tuple(held.mortality),
+        tuple(held.first_classes),
+    )
     return ReadReply(reply.refusal, reply.place, values)
 
 
 def funds(table: Bytes, first: Bytes, second: Bytes, numbers: Any) -> tuple[Verdict, ...]:
     """Two funds on the same tables: the verdict of each.
 
-    The table file and the fund files are taken as books are. `numbers` is one row of signed 64-bit numbers that can
-    be written, such as an `array.array("q")`, and starts at a multiple of 8 bytes. Where accepted, the first fund's
-    totals come in numbers 0 to 7, the second's in 8 to 15; all others stay as they were.
+    The table file and the fund files are taken as books are. `numbers` is one row of signed 64-bit
+    numbers that can be written, such as an `array.array("q")`, and starts at a multiple of 8 bytes.
+    Where accepted, the first fund's totals come in numbers 0 to 7, the second's in 8 to 15; all
+    others stay as they were.
     """
-    lent = _lent_signed(numbers)
-    reply = _FUNDS(*_lent_book(table), *_lent_book(first), *_lent_book(second), lent, len(lent))
+    passed = _passed_signed(numbers)
+    reply = _FUNDS(
+        *_passed_book(table), *_passed_book(first), *_passed_book(second), passed, len(passed)
+    )
     return tuple(Verdict(each.refusal, each.place, each.n) for each in (reply.first, reply.second))
 
 
-def in_force(book: Bytes, setting: int, code: int, sex: int, age_class: int, numbers: Any) -> InForceReply:
+def in_force(
+    book: Bytes, setting: int, code: int, sex: int, age_class: int, numbers: Any
+) -> InForceReply:
     """What is in force of one cell, year by year, in billionths of a contract.
 
-    The numbers are lent as a table is in `group`. Where accepted, the first 50 become those of the linked record of
-    this subgroup code, sex and class; all others stay as they were.
+    The numbers are passed as a table is in `group`. Where accepted, the first 50 become those of
+    the linked record of this subgroup code, sex and class; all others stay as they were.
     """
-    lent = _lent_table(numbers)
-    reply = _IN_FORCE(*_lent_book(book), _word(setting), _word(code), _word(sex), _word(age_class), lent, len(lent))
+    passed = _passed_table(numbers)
+    reply = _IN_FORCE(
+        *_passed_book(book),
+        _word(setting),
+        _word(code),
+        _word(sex),
+        _word(age_class),
+        passed,
+        len(passed),
+    )
     return InForceReply(reply.refusal, reply.place)
 
 
-def spread(lowest: int, first_quartile: int, median: int, third_quartile: int, highest: int, xi: float,
-           eta: float) -> Spread:
-    """Mean and coefficient of yearly claims, given by five whole numbers of centimes and two sample factors.
+def spread(
+    lowest: int,
+    first_quartile: int,
+    median: int,
+    third_quartile: int,
+    highest: int,
+    xi: float,
+    eta: float,
+) -> Spread:
+    """Mean and coefficient of yearly claims, given by five whole numbers of centimes and two sample
+    factors.
 
-    A factor is a float, or a whole number that a double holds; one that would have to be rounded is turned away.
+    A factor is a float, or a whole number that a double holds; one that would have to be rounded is
+    turned away.
     """
     five = (lowest, first_quartile, median, third_quartile, highest)
     reply = _SPREAD(_Summary(*map(_word, five)), _double(xi), _double(eta))
     return Spread(reply.refusal, reply.place, reply.level != 0, reply.mean, reply.coefficient)
 
 
-def _double(number):
+def _double(number: float) -> float:
     """The number as a double, which must be the number itself."""
     if isinstance(number, float):
         return number
@@ -424,19 +523,20 @@ def _double(number):
 def deviation(book: Bytes, coefficients: Row, correlation: Rows) -> DeviationReply:
     """One standard deviation of the four factors of a book: mortality, lapse, costs and claims.
 
-    Coefficients are four numbers in millionths, the correlation is four rows of four in thousandths.
+    Coefficients are four numbers in millionths, the correlation is four rows of four in
+    thousandths.
     """
     model = _RiskModel(_numbers(coefficients, _FACTORS), _square(correlation))
-    reply = _DEVIATION(*_lent_book(book), model)
+    reply = _DEVIATION(*_passed_book(book), model)
     return DeviationReply(reply.refusal, reply.place, reply.deviation)
 
 
-def _square(rows):
+def _square(rows: Rows) -> Numbers:
     """Four rows of four signed numbers, end to end."""
-    rows = tuple(tuple(row) for row in rows)
-    if [len(row) for row in rows] != [_FACTORS] * _FACTORS:
+    held = tuple(tuple(row) for row in rows)
+    if [len(row) for row in held] != [_FACTORS] * _FACTORS:
         raise ValueError(f"{_FACTORS} rows of {_FACTORS} numbers are due")
-    return tuple(_signed_word(number) for row in rows for number in row)
+    return tuple(_signed_word(number) for row in held for number in row)
 
 
 def practice(start: int, out: Any) -> WriteReply:
@@ -444,63 +544,66 @@ def practice(start: int, out: Any) -> WriteReply:
 
     The start number is any of 64 bits but 0. Bytes of the buffer past the book stay as they were.
     """
-    room = _lent_buffer(out)
-    reply = _PRACTICE(_word(start), room, len(room))
+    buffer = _passed_buffer(out)
+    reply = _PRACTICE(_word(start), buffer, len(buffer))
     return WriteReply(reply.refusal, reply.place, reply.length)
 
 
-def _lent_values(values):
+def _passed_values(values: Values) -> _Values:
     """The values in C's form; each table has the length that it must have, and each number fits."""
-    lent = _Values(edition=_word(values.edition), year=_word(values.year))
-    for name, kind in _Values._fields_:
-        if name in ("edition", "year"):
-            continue
-        table = tuple(getattr(values, name))
-        if len(table) != kind._length_:
-            raise ValueError(f"{name} must have {kind._length_} numbers")
-        fits = _signed_word if name == "curve" else _word
-        setattr(lent, name, kind(*map(fits, table)))
-    return lent
+    passed = _Values(edition=_word(values.edition), year=_word(values.year))
+    for name in ("percentages", "cost_rates", "curve", "mortality", "first_classes"):
+        table, place = tuple(getattr(values, name)), getattr(passed, name)
+        if len(table) != len(place):
+            raise ValueError(f"{name} must have {len(place)} numbers")
+        place[:] = tuple(map(_signed_word if name == "curve" else _word, table))
+    return passed
 
 
-def _with_lengths(lists):
+def _with_lengths(lists: Sequence[_Words]) -> list[Any]:
     """Each list and then its length."""
     return [word for numbers in lists for word in (numbers, len(numbers))]
 
 
-def _need_apart(one, other):
-    """Two lent buffers, one of which the call writes, must not overlap."""
+def _need_apart(one: _Words, other: _Words) -> None:
+    """Two passed buffers, one of which the call writes, must not overlap."""
     start, other_start = ctypes.addressof(one), ctypes.addressof(other)
     if start < other_start + ctypes.sizeof(other) and other_start < start + ctypes.sizeof(one):
-        raise ValueError("buffers that are lent together must not overlap")
+        raise ValueError("buffers that are passed together must not overlap")
 
 
-def _lent_book(book):
+def _passed_book(book: Bytes) -> tuple[bytes, int]:
     """Bytes that stay as they are during a call, and how many they are."""
     if not isinstance(book, bytes):
         book = bytes(memoryview(book))
     return book, len(book)
 
 
-def _lent_table(table):
-    """The table's own numbers; rows of a table, such as fifty of four, stand one after the other."""
+def _passed_table(table: Any) -> _Words:
+    """The table's own numbers; rows of a table, such as fifty of four, stand one after the
+    other."""
     view = memoryview(table)
-    if view.ndim not in (1, 2) or not view.c_contiguous or view.itemsize != 8 or view.format not in _UNSIGNED:
+    if (
+        view.ndim not in (1, 2)
+        or not view.c_contiguous
+        or view.itemsize != 8
+        or view.format not in _UNSIGNED
+    ):
         raise TypeError("the table must be rows of unsigned 64-bit numbers, one after the other")
     if view.ndim == 2 and view.nbytes:
         view = view.cast("B").cast("Q")
-    return _lent_words(view, ctypes.c_uint64)
+    return _passed_words(view, ctypes.c_uint64)
 
 
-def _lent_signed(numbers):
+def _passed_signed(numbers: Any) -> _Words:
     """The same of signed numbers."""
     view = memoryview(numbers)
     if view.ndim != 1 or view.itemsize != 8 or view.format not in _SIGNED:
         raise TypeError("the numbers must be one row of signed 64-bit numbers")
-    return _lent_words(view, ctypes.c_int64)
+    return _passed_words(view, ctypes.c_int64)
 
 
-def _lent_words(view, kind):
+def _passed_words(view: memoryview, kind: type[_Word]) -> _Words:
     """A row's own words of 64 bits."""
     if view.nbytes == 0:
         # An empty buffer may stand anywhere.
@@ -511,7 +614,7 @@ def _lent_words(view, kind):
     return numbers
 
 
-def _lent_buffer(out):
+def _passed_buffer(out: Any) -> _Words:
     """The buffer's own bytes."""
     view = memoryview(out)
     if view.ndim != 1 or view.itemsize != 1:
@@ -522,14 +625,14 @@ def _lent_buffer(out):
     return (ctypes.c_uint8 * len(view)).from_buffer(view)
 
 
-def _word(number):
+def _word(number: int) -> int:
     """A number that fits; ctypes would cut it silently."""
     if not 0 <= number < WORD_LIMIT:
         raise ValueError(f"{number} does not fit in 64 bits")
     return number
 
 
-def _signed_word(number):
+def _signed_word(number: int) -> int:
     """The same of a signed number."""
     if not -(WORD_LIMIT // 2) <= number < WORD_LIMIT // 2:
         raise ValueError(f"{number} does not fit in 64 bits")

@@ -1,6 +1,7 @@
-"""Where the fields of a book stand, so that a refusal's place can be put into words. Nothing is reckoned by it."""
+"""Where the fields of a book stand, so that a refusal's place can be put into words. No figure
+comes from it."""
 
-from typing import Iterator, NamedTuple, Optional
+from typing import Iterator, NamedTuple
 
 HEADER_BYTES, RECORD_BYTES, MOST_RECORDS = 1_220, 24, 1_694
 LONGEST_BOOK = HEADER_BYTES + RECORD_BYTES * MOST_RECORDS
@@ -13,7 +14,16 @@ SUBGROUPS = ("PG1a", "PG1b", "PG1c", "PG2", "PG3", "PG4", "PG5")
 GROUPS = ("PG1", "PG2", "PG3", "PG4", "PG5")
 SEXES = ("men", "women")
 CHAINS = tuple(f"{subgroup} {people}" for subgroup in SUBGROUPS for people in SEXES)
-SETTINGS = ("base", "mortality up", "mortality down", "lapse up", "lapse down", "costs up", "costs down", "claims up")
+SETTINGS = (
+    "base",
+    "mortality up",
+    "mortality down",
+    "lapse up",
+    "lapse down",
+    "costs up",
+    "costs down",
+    "claims up",
+)
 MILLIONTHS, CENTIMES = "millionths", "centimes"
 
 
@@ -41,10 +51,12 @@ class Record(NamedTuple):
 
     def fields(self) -> tuple[Field, ...]:
         """Its amounts."""
-        return (Field("count", self.start + 8, 4, 0, 100_000, "contracts"),
-                Field("lapse", self.start + 12, 4, 0, 1_000_000, MILLIONTHS),
-                Field("premium", self.start + 16, 4, 0, 10_000_000, CENTIMES),
-                Field("claims", self.start + 20, 4, 0, 10_000_000, CENTIMES))
+        return (
+            Field("count", self.start + 8, 4, 0, 100_000, "contracts"),
+            Field("lapse", self.start + 12, 4, 0, 1_000_000, MILLIONTHS),
+            Field("premium", self.start + 16, 4, 0, 10_000_000, CENTIMES),
+            Field("claims", self.start + 20, 4, 0, 10_000_000, CENTIMES),
+        )
 
 
 def header_fields() -> Iterator[Field]:
@@ -56,23 +68,37 @@ def header_fields() -> Iterator[Field]:
     for code, group in enumerate(GROUPS):
         yield Field(f"cost rate of {group}", 36 + 4 * code, 4, 0, 1_000_000, MILLIONTHS)
     for k in range(1, CURVE_RATES + 1):
-        yield Field(f"curve rate of year {k}", TABLES_AT + 4 * (k - 1), 4, -10_000, 200_000, MILLIONTHS, True)
+        yield Field(
+            f"curve rate of year {k}",
+            TABLES_AT + 4 * (k - 1),
+            4,
+            -10_000,
+            200_000,
+            MILLIONTHS,
+            True,
+        )
     for sex, people in enumerate(SEXES):
         for age_class in range(LAST_CLASS + 1):
             at = 252 + 484 * sex + 4 * age_class
-            yield Field(f"mortality of {people}, class {age_class}", at, 4, 0, 1_000_000, MILLIONTHS)
+            yield Field(
+                f"mortality of {people}, class {age_class}", at, 4, 0, 1_000_000, MILLIONTHS
+            )
 
 
 def percentages() -> tuple[Field, ...]:
     """What bytes 6 and 7 are in edition 2."""
-    return tuple(Field(f"mortality percentage of {people}", 6 + sex, 1, 1, 100, "percent")
-                 for sex, people in enumerate(SEXES))
+    return tuple(
+        Field(f"mortality percentage of {people}", 6 + sex, 1, 1, 100, "percent")
+        for sex, people in enumerate(SEXES)
+    )
 
 
 def heads() -> tuple[Field, ...]:
     """The heads of the 14 chains; a book's N is the most that one may be."""
-    return tuple(Field(f"head of {chain}", 8 + 2 * number, 2, 0, MOST_RECORDS)
-                 for number, chain in enumerate(CHAINS))
+    return tuple(
+        Field(f"head of {chain}", 8 + 2 * number, 2, 0, MOST_RECORDS)
+        for number, chain in enumerate(CHAINS)
+    )
 
 
 def record_at(place: int) -> Record:
@@ -81,14 +107,6 @@ def record_at(place: int) -> Record:
     return Record(number, HEADER_BYTES + RECORD_BYTES * (number - 1))
 
 
-def chain_of(book: bytes, wanted: int) -> Optional[int]:
-    """Which chain links a record, by its number; None where none does that is whole up to there."""
-    count = int.from_bytes(book[4:6], "little")
-    for number, head in enumerate(heads()):
-        at, steps = head.read(book), 0
-        while 0 < at <= count and steps <= count:
-            if at == wanted:
-                return number
-            start = HEADER_BYTES + RECORD_BYTES * (at - 1)
-            at, steps = int.from_bytes(book[start + 4:start + 6], "little"), steps + 1
-    return None
+def record_count(book: bytes) -> int:
+    """N, as the header says it."""
+    return int.from_bytes(book[4:6], "little")

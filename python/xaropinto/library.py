@@ -1,16 +1,18 @@
-"""Where the shared library with the proved calls is found."""
+"""Where the shared library with the proved calls is found, and how it is loaded."""
 
+import ctypes
 import os
+from functools import lru_cache
 from pathlib import Path
 
 NAME = "libxaropinto.so"
-# Whoever sets this means it: it is looked at first, and nowhere else then.
+# A path set here is the only one that is tried.
 VARIABLE = "XAROPINTO_LIBRARY"
 HERE = Path(__file__).resolve().parent
 
 
-class LibraryMissing(ImportError):
-    """No shared library is where one may stand."""
+class LibraryError(ImportError):
+    """The shared library is not there, cannot be loaded, or lacks a call."""
 
 
 def places() -> list[Path]:
@@ -20,10 +22,22 @@ def places() -> list[Path]:
 
 def find_library() -> Path:
     """The shared library's path."""
-    told = os.environ.get(VARIABLE)
-    candidates = [Path(told)] if told else places()
+    named = os.environ.get(VARIABLE)
+    candidates = [Path(named)] if named else places()
     for path in candidates:
         if path.is_file():
             return path
-    looked_at = ", ".join(map(str, candidates))
-    raise LibraryMissing(f"no {NAME} at {looked_at}: run `make lib` in the repository, or set {VARIABLE} to its path")
+    tried = ", ".join(map(str, candidates))
+    raise LibraryError(
+        f"no {NAME} at {tried}: run `make lib` in the repository, or set {VARIABLE} to its path"
+    )
+
+
+@lru_cache(maxsize=None)
+def loaded_library() -> ctypes.CDLL:
+    """The shared library, loaded once."""
+    path = find_library()
+    try:
+        return ctypes.CDLL(str(path))
+    except OSError as error:
+        raise LibraryError(f"{path} cannot be loaded: {error}") from error

@@ -1,172 +1,207 @@
-"""A book as the comma-separated files that a spreadsheet saves: five files in a folder, read and written."""
+"""A book as five tables of a spreadsheet: files of a folder, or sheets of a workbook."""
 
-import csv
-import io
 from pathlib import Path
-from typing import Callable, NamedTuple, NoReturn
+from typing import Callable, NamedTuple, Union
 
 from xaropinto.book_values import BookValues, Chain
-from xaropinto.layout import (CURVE_RATES, GROUPS, LAST_CLASS, NO_CLASS, SEXES, SUBGROUPS, Field, Record,
-                              header_fields, percentages)
+from xaropinto.layout import (
+    CURVE_RATES,
+    GROUPS,
+    LAST_CLASS,
+    NO_CLASS,
+    SEXES,
+    SUBGROUPS,
+    Record,
+    header_fields,
+    percentages,
+)
+from xaropinto.tables import BadLine, Kind, Row, Table, in_order, rows_of, saved_table
 
-HEADER = ("header.csv", ("field", "value"))
-COST_RATES = ("cost_rates.csv", ("group", "cost_rate_millionths"))
-CURVE = ("curve.csv", ("year", "rate_millionths"))
-MORTALITY = ("mortality.csv", ("class", "men_millionths", "women_millionths"))
-PORTFOLIO = ("portfolio.csv", ("subgroup", "sex", "class", "count", "lapse_millionths", "premium_centimes",
-                               "claims_centimes"))
-# The rows of header.csv.
-EDITION, SST_YEAR = "edition", "sst_year"
+__all__ = ["BadLine", "KINDS", "csv_files", "folder_tables", "read_sheets", "written_tables"]
+
+HEADER = Kind("header", ("field", "value"))
+COST_RATES = Kind("cost_rates", ("group", "cost_rate_millionths"))
+CURVE = Kind("curve", ("year", "rate_millionths"))
+MORTALITY = Kind("mortality", ("class", "men_millionths", "women_millionths"))
+PORTFOLIO = Kind(
+    "portfolio",
+    (
+        "subgroup",
+        "sex",
+        "class",
+        "count",
+        "lapse_millionths",
+        "premium_centimes",
+        "claims_centimes",
+    ),
+)
+KINDS = (HEADER, COST_RATES, CURVE, MORTALITY, PORTFOLIO)
+# The rows of the header; the age basis may be left out, and is 1 then.
+EDITION, AGE_BASIS, SST_YEAR = "edition", "age_basis", "sst_year"
 PERCENTAGES = tuple(f"mortality_percentage_{people}" for people in SEXES)
 RANGES = {field.name: field for field in header_fields()}
 # What stands in a book of edition 1 for the percentages.
 NO_PERCENTAGE = 0
+BASIS_RULE = {
+    1: "on age basis 1 a class is SST year - birth year - 1, from 0 to 120; where yours are "
+    "SST year - birth year, the header's age_basis is 2",
+    2: "on age basis 2 a class is SST year - birth year, from 1 to 121",
+}
+# Where a table is found by its kind; and what is written into one.
+Tables = Callable[[Kind], Table]
+Lines = list[tuple[Union[str, int], ...]]
 
 
-class BadLine(Exception):
-    """What is wrong in a sheet: file, line, column, value and rule."""
+class Header(NamedTuple):
+    """What the header says."""
 
-    def __init__(self, file: str, line: int, column: str, value: str, rule: str):
-        super().__init__(f"{file}, line {line}, column {column}: {value!r}; {rule}")
-
-
-class Row(NamedTuple):
-    """A line of a sheet: where it stands, and its cells by column."""
-
-    file: str
-    line: int
-    cells: dict[str, str]
-
-    def bad(self, column: str, rule: str) -> NoReturn:
-        """Stop at a cell."""
-        raise BadLine(self.file, self.line, column, self.cells[column], rule)
-
-    def number(self, column: str, low: int, high: int) -> int:
-        """A cell's whole number, within a range."""
-        word, rule = self.cells[column], f"a whole number from {low:,} to {high:,} is due, with no separators"
-        digits = word[1:] if word.startswith("-") else word
-        if not (digits.isascii() and digits.isdigit()) or not low <= int(word) <= high:
-            self.bad(column, rule)
-        return int(word)
-
-    def ranged(self, column: str, field: Field) -> int:
-        """A cell's number, within the range of a book's field."""
-        return self.number(column, field.low, field.high)
-
-    def choice(self, column: str, words: tuple[str, ...]) -> int:
-        """Which of these words a cell has."""
-        if self.cells[column] not in words:
-            self.bad(column, f"one of {', '.join(words)} is due")
-        return words.index(self.cells[column])
+    edition: int
+    age_basis: int
+    year: int
+    percentages: tuple[int, int]
 
 
-def rows_of(folder: Path, sheet: tuple[str, tuple[str, ...]]) -> list[Row]:
-    """The lines of a sheet below its heading; lines with nothing in them are passed over."""
-    file, columns = sheet
-    raw = (folder / file).read_bytes()
-    try:
-        text = raw.decode("utf-8-sig")
-    except UnicodeDecodeError as trouble:
-        line = raw[:trouble.start].count(b"\n") + 1
-        raise BadLine(file, line, "any", repr(raw[trouble.start:trouble.start + 1]), "UTF-8 is due") from trouble
-    heading = text.split("\n", 1)[0]
-    reader = csv.reader(io.StringIO(text, newline=""), delimiter=";" if heading.count(";") else ",", strict=True)
-    rows = []
-    try:
-        for cells in reader:
-            cells = [cell.strip() for cell in cells]
-            if not any(cells):
-                continue
-            if len(cells) != len(columns):
-                raise BadLine(file, reader.line_num, "any", ",".join(cells), f"{len(columns)} columns are due")
-            rows.append(Row(file, reader.line_num, dict(zip(columns, cells))))
-    except csv.Error as trouble:
-        raise BadLine(file, reader.line_num, "any", "", f"this is no comma-separated line: {trouble}") from trouble
-    if not rows or tuple(rows[0].cells.values()) != columns:
-        told = ",".join(rows[0].cells.values()) if rows else ""
-        raise BadLine(file, 1, "any", told, f"the heading is {','.join(columns)}")
-    return rows[1:]
+def folder_tables(folder: Path) -> Tables:
+    """The tables of a folder of separated values."""
+    return lambda kind: saved_table(folder / csv_file(kind))
 
 
-def in_order(rows: list[Row], sheet: tuple[str, tuple[str, ...]], firsts: list[str]) -> list[Row]:
-    """The rows, if their first column holds just these words, each once and in this order."""
-    file, columns = sheet
-    for row, due in zip(rows, firsts):
-        if row.cells[columns[0]] != due:
-            row.bad(columns[0], f"{due} is due here")
-    if len(rows) > len(firsts):
-        rows[len(firsts)].bad(columns[0], f"there are {len(firsts)} lines")
-    if len(rows) < len(firsts):
-        last = rows[-1].line if rows else 1
-        raise BadLine(file, last + 1, columns[0], "", f"{firsts[len(rows)]} is due here")
-    return rows
+def csv_file(kind: Kind) -> str:
+    """The name of a table's file."""
+    return f"{kind.name}.csv"
 
 
-def read_sheets(folder: Path) -> BookValues:
-    """The values of the book that a folder of sheets tells; `BadLine` for the first fault."""
-    edition, year, men, women = read_header(folder)
-    cost_rates = [row.ranged("cost_rate_millionths", RANGES[f"cost rate of {group}"]) for group, row in
-                  zip(GROUPS, in_order(rows_of(folder, COST_RATES), COST_RATES, list(GROUPS)))]
+def read_sheets(tables: Tables) -> BookValues:
+    """The values of five tables, on age basis 1; `BadLine` for the first fault."""
+    header = read_header(tables(HEADER))
+    cost_rates = [
+        row.ranged("cost_rate_millionths", RANGES[f"cost rate of {group}"])
+        for group, row in zip(GROUPS, ordered(tables(COST_RATES), COST_RATES, list(GROUPS)))
+    ]
     years = [str(k) for k in range(1, CURVE_RATES + 1)]
-    curve = [row.ranged("rate_millionths", RANGES[f"curve rate of year {k}"]) for k, row in
-             zip(years, in_order(rows_of(folder, CURVE), CURVE, years))]
+    curve = [
+        row.ranged("rate_millionths", RANGES[f"curve rate of year {k}"])
+        for k, row in zip(years, ordered(tables(CURVE), CURVE, years))
+    ]
     classes = [str(age_class) for age_class in range(LAST_CLASS + 1)]
-    mortality_rows = in_order(rows_of(folder, MORTALITY), MORTALITY, classes)
-    mortality = [row.ranged(f"{people}_millionths", RANGES[f"mortality of {people}, class {age_class}"])
-                 for people in SEXES for age_class, row in zip(classes, mortality_rows)]
-    return BookValues(edition, (men, women), year, tuple(cost_rates), tuple(curve), tuple(mortality),
-                      read_portfolio(folder))
+    mortality_rows = ordered(tables(MORTALITY), MORTALITY, classes)
+    mortality = [
+        row.ranged(f"{people}_millionths", RANGES[f"mortality of {people}, class {age_class}"])
+        for people in SEXES
+        for age_class, row in zip(classes, mortality_rows)
+    ]
+    return BookValues(
+        header.edition,
+        header.percentages,
+        header.year,
+        tuple(cost_rates),
+        tuple(curve),
+        tuple(mortality),
+        read_portfolio(tables(PORTFOLIO), header.age_basis),
+    )
 
 
-def read_header(folder: Path) -> tuple[int, int, int, int]:
-    """Edition, SST year and the two percentages."""
-    rows = in_order(rows_of(folder, HEADER), HEADER, [EDITION, SST_YEAR, *PERCENTAGES])
-    edition = rows[0].ranged("value", RANGES["edition"])
-    year = rows[1].ranged("value", RANGES["SST year"])
-    low, high = (percentages()[0].low, percentages()[0].high) if edition == 2 else (NO_PERCENTAGE, NO_PERCENTAGE)
-    men, women = (row.number("value", low, high) for row in rows[2:])
-    return edition, year, men, women
+def ordered(table: Table, kind: Kind, firsts: list[str]) -> list[Row]:
+    """The rows of a table whose first column holds these words."""
+    return in_order(rows_of(table, kind), table, firsts)
 
 
-def read_portfolio(folder: Path) -> tuple[Chain, ...]:
-    """The 14 chains; the lines may stand in any order, each class of a chain once and none left out up to 120."""
+def read_header(table: Table) -> Header:
+    """Edition, age basis, SST year and the two percentages."""
+    rows = rows_of(table, HEADER)
+    has_basis = any(row.word("field").casefold() == AGE_BASIS for row in rows)
+    names = [EDITION, *([AGE_BASIS] if has_basis else []), SST_YEAR, *PERCENTAGES]
+    held = dict(zip(names, in_order(rows, table, names)))
+    edition = held[EDITION].ranged("value", RANGES["edition"])
+    age_basis = held[AGE_BASIS].number("value", 1, 2) if has_basis else 1
+    year = held[SST_YEAR].ranged("value", RANGES["SST year"])
+    low, high = (
+        (percentages()[0].low, percentages()[0].high)
+        if edition == 2
+        else (NO_PERCENTAGE, NO_PERCENTAGE)
+    )
+    men, women = (held[name].number("value", low, high) for name in PERCENTAGES)
+    return Header(edition, age_basis, year, (men, women))
+
+
+def read_portfolio(table: Table, age_basis: int) -> tuple[Chain, ...]:
+    """The 14 chains on age basis 1; lines in any order, each class once and none left out."""
     held: list[dict[int, Row]] = [{} for _ in range(2 * len(SUBGROUPS))]
-    for row in rows_of(folder, PORTFOLIO):
+    for row in rows_of(table, PORTFOLIO):
         chain = held[2 * row.choice("subgroup", SUBGROUPS) + row.choice("sex", SEXES)]
-        age_class = row.number("class", 0, LAST_CLASS)
+        age_class = class_on_basis_1(row, age_basis)
         if age_class in chain:
-            row.bad("class", f"this class of the chain stands in line {chain[age_class].line} already")
+            row.bad(
+                "class", f"this class of the chain stands in line {chain[age_class].line} already"
+            )
         chain[age_class] = row
-    return tuple(map(chain_of_rows, held))
+    return tuple(chain_of_rows(rows, age_basis) for rows in held)
 
 
-def chain_of_rows(rows: dict[int, Row]) -> Chain:
-    """A chain of its lines by class."""
+def class_on_basis_1(row: Row, age_basis: int) -> int:
+    """A row's class; on age basis 2 it is one less than what the row says."""
+    shift = age_basis - 1
+    try:
+        return row.number("class", shift, LAST_CLASS + shift) - shift
+    except BadLine as wrong:
+        raise BadLine(wrong.place, wrong.value, f"{wrong.rule}: {BASIS_RULE[age_basis]}") from wrong
+
+
+def chain_of_rows(rows: dict[int, Row], age_basis: int) -> Chain:
+    """A chain of its rows by class on basis 1."""
     if not rows:
         return Chain(NO_CLASS, (), (), (), ())
-    first = min(rows)
+    first, shift = min(rows), age_basis - 1
     for age_class in range(first, LAST_CLASS + 1):
         if age_class not in rows:
-            rows[age_class - 1].bad("class", f"class {age_class} of this chain is missing; a chain goes up to 120")
-    ordered = [rows[age_class] for age_class in range(first, LAST_CLASS + 1)]
-    columns = PORTFOLIO[1][3:]
-    lists = (tuple(row.ranged(column, field) for row in ordered)
-             for column, field in zip(columns, Record(1, 0).fields()))
+            rows[age_class - 1].bad(
+                "class",
+                f"class {age_class + shift} of this chain is missing; "
+                f"a chain goes up to {LAST_CLASS + shift}",
+            )
+    in_chain = [rows[age_class] for age_class in range(first, LAST_CLASS + 1)]
+    lists = (
+        tuple(row.ranged(column, field) for row in in_chain)
+        for column, field in zip(PORTFOLIO.columns[3:], Record(1, 0).fields())
+    )
     return Chain(first, *lists)
 
 
-def written_sheets(values: BookValues) -> dict[str, str]:
-    """The sheets of a book, by the names of their files."""
-    by_class = [(age_class, *(values.mortality[sex * NO_CLASS + age_class] for sex in range(2)))
-                for age_class in range(NO_CLASS)]
-    portfolio = [(SUBGROUPS[number // 2], SEXES[number % 2], chain.first_class + offset,
-                  *(each[offset] for each in chain[1:]))
-                 for number, chain in enumerate(values.chains) for offset in range(len(chain.counts))]
-    lines: list[tuple[tuple[str, tuple[str, ...]], list]] = [
-        (HEADER, [(EDITION, values.edition), (SST_YEAR, values.year), *zip(PERCENTAGES, values.percentages)]),
-        (COST_RATES, list(zip(GROUPS, values.cost_rates))),
-        (CURVE, list(enumerate(values.curve, start=1))),
-        (MORTALITY, by_class),
-        (PORTFOLIO, portfolio)]
-    return {file: "".join(",".join(map(str, line)) + "\n" for line in [columns, *rows])
-            for (file, columns), rows in lines}
+def written_tables(values: BookValues) -> dict[Kind, Lines]:
+    """The five tables of a book, below their headings."""
+    by_class: Lines = [
+        (age_class, *(values.mortality[sex * NO_CLASS + age_class] for sex in range(2)))
+        for age_class in range(NO_CLASS)
+    ]
+    portfolio: Lines = [
+        (
+            SUBGROUPS[number // 2],
+            SEXES[number % 2],
+            chain.first_class + offset,
+            *(each[offset] for each in chain.lists()),
+        )
+        for number, chain in enumerate(values.chains)
+        for offset in range(len(chain.counts))
+    ]
+    return {
+        HEADER: [
+            (EDITION, values.edition),
+            (AGE_BASIS, 1),
+            (SST_YEAR, values.year),
+            *zip(PERCENTAGES, values.percentages),
+        ],
+        COST_RATES: list(zip(GROUPS, values.cost_rates)),
+        CURVE: list(enumerate(values.curve, start=1)),
+        MORTALITY: by_class,
+        PORTFOLIO: portfolio,
+    }
+
+
+def csv_files(values: BookValues) -> dict[str, bytes]:
+    """The files of a folder, by their names."""
+    return {
+        csv_file(kind): "".join(
+            ",".join(map(str, line)) + "\n" for line in [kind.columns, *lines]
+        ).encode()
+        for kind, lines in written_tables(values).items()
+    }

@@ -27,11 +27,17 @@ def surroundings(**more):
 
 def xaropinto(*words, sent=b"", output=subprocess.PIPE, env=None):
     """Run the command with these words, and bytes on its standard input."""
-    ended = subprocess.run([sys.executable, "-m", "xaropinto", *map(str, words)], input=sent, stdout=output,
-                           stderr=subprocess.PIPE, timeout=MOST_SECONDS, check=False, env=env or surroundings())
+    line = [sys.executable, "-m", "xaropinto", *map(str, words)]
+    ended = subprocess.run(line, input=sent, stdout=output, stderr=subprocess.PIPE,
+                           timeout=MOST_SECONDS, check=False, env=env or surroundings())
     return Run(ended.returncode, ended.stdout or b"", ended.stderr.decode("utf-8", "replace"))
 
 
 def sample(name):
     """The path of a sample book."""
     return SAMPLES / f"{name}.book"
+
+
+def without_warnings(told):
+    """The lines on standard error that are no warnings."""
+    return [line for line in told.splitlines() if "warning: " not in line]

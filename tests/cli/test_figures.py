@@ -19,7 +19,7 @@ from reference.year_report import report_text
 from reference.in_force import screen_reply
 from reference.claims_variation import spread
 from tests.cli.inputs import ACCOUNTS, FACTORS, put_accounts, put_factors
-from tests.cli.run import DONE, REFUSED, SAMPLES, TROUBLE, sample, xaropinto
+from tests.cli.run import DONE, REFUSED, SAMPLES, TROUBLE, sample, without_warnings, xaropinto
 from tests.support.report import run_unit_tests
 
 ACCEPTED = ("one_record", "worked_example", "edition_2", "small_insurer", "full")
@@ -53,13 +53,13 @@ class OfABook(unittest.TestCase):
     def answer(self, *words, sent=b""):
         """The text that a verb answers with."""
         run = xaropinto(*words, sent=sent)
-        self.assertEqual((run.code, run.told), (DONE, ""))
+        self.assertEqual((run.code, without_warnings(run.told)), (DONE, []))
         return run.out.decode()
 
     def test_check(self):
         for name in ACCEPTED:
             n = totals(bytes_of(name))[2]
-            self.assertEqual(self.answer("check", sample(name)), f"{sample(name)}: accepted {n}\n")
+            self.assertEqual(self.answer("check", sample(name)).splitlines()[0], f"{sample(name)}: accepted {n}")
 
     def test_list(self):
         for name in ACCEPTED:
@@ -144,8 +144,8 @@ class OfABook(unittest.TestCase):
         self.assertEqual(re.findall(r"(?:src|href|url)\s*[=(]", text), [])
 
 
-class Desks(unittest.TestCase):
-    """The verbs that write."""
+class Books(unittest.TestCase):
+    """The verbs that write and read books."""
 
     def setUp(self):
         held = tempfile.TemporaryDirectory()
@@ -160,11 +160,11 @@ class Desks(unittest.TestCase):
     def test_read_and_write(self):
         for name in ACCEPTED:
             sheets, book, again = self.folder / "sheets", self.folder / "book", self.folder / "again"
-            self.done("read", sample(name), "-o", sheets)
+            self.done("read", sample(name), "-o", sheets, "--replace")
             self.done("write", sheets, "-o", book)
             self.assertEqual(totals(book.read_bytes()), totals(bytes_of(name)))
             # What was written is in order: from here on the bytes stay.
-            self.done("read", book, "-o", sheets)
+            self.done("read", book, "-o", sheets, "--replace")
             self.done("write", sheets, "-o", again)
             self.assertEqual(book.read_bytes(), again.read_bytes())
 
@@ -186,12 +186,12 @@ class Desks(unittest.TestCase):
                 ("portfolio.csv", "PG2,men,119,", "PG9,men,119,", "line 3, column subgroup: 'PG9'"),
                 ("curve.csv", "\n2,-5000", "\n2,-10001", "line 3, column rate_millionths: '-10001'"),
                 ("cost_rates.csv", "PG3,", "PG4,", "line 4, column group: 'PG4'"),
-                ("header.csv", "sst_year,2021", "sst_year,2016", "line 3, column value: '2016'"),
+                ("header.csv", "sst_year,2021", "sst_year,2016", "line 4, column value: '2016'"),
                 ("mortality.csv", "class,men", "class,man", "line 1"),
                 ("mortality.csv", "\n120,", "\n121,", "line 122, column class: '121'")):
             with self.subTest(told=told):
                 sheets = self.folder / "sheets"
-                self.done("read", sample("worked_example"), "-o", sheets)
+                self.done("read", sample("worked_example"), "-o", sheets, "--replace")
                 text = (sheets / file).read_text(encoding="utf-8")
                 self.assertIn(old, text)
                 (sheets / file).write_text(text.replace(old, new, 1), encoding="utf-8")

@@ -1,4 +1,5 @@
-"""Exit codes and outputs of every verb: what is done, refused, not there, a folder, closed, full; and wrong words."""
+"""Exit codes and outputs of every verb: what is done, refused, not there, a folder, closed, full;
+and wrong words."""
 
 import subprocess
 import sys
@@ -10,15 +11,20 @@ from typing import NamedTuple, Optional
 from reference.funds import FRONT_BYTES, TABLE_BYTES
 from tests import ROOT
 from tests.cli.inputs import put_accounts, put_factors
-from tests.cli.run import DONE, REFUSED, TROUBLE, sample, surroundings, xaropinto
+from tests.cli.run import DONE, REFUSED, TROUBLE, sample, surroundings, without_warnings, xaropinto
 from tests.support.report import run_unit_tests
 
 ACCEPTED, BROKEN = sample("worked_example"), sample("lapse_too_large")
 INPUT, OUT = "INPUT", "OUT"
+# The verbs that report warnings; and what those write first that answer on a refused book too.
+WARNING = ("check", "list", "page")
+REFUSED_OUTPUT = {"check": f"{BROKEN}: refused 12 1232\n".encode(),
+                  "record": b"not checked: the book is refused 12 1232\n"}
 
 
 class Verb(NamedTuple):
-    """The words behind a verb, with places for what it reads and writes; an input that it takes, and one refused."""
+    """The words behind a verb, with places for what it reads and writes; an input that it takes,
+    and one refused."""
 
     words: tuple
     good: Optional[object]
@@ -55,7 +61,7 @@ def all_verbs(folder):
         "check": (INPUT,), "list": (INPUT,), "years": (INPUT, "--setting", 0), "classes": (INPUT,), "beside": (INPUT,),
         "group": (INPUT, "--setting", 0, "--group", 2), "record": (INPUT, 1), "read": (INPUT, "-o", OUT),
         "cell": (INPUT, "--setting", 0, "--subgroup", "PG2", "--sex", "men", "--class", 118),
-        "deviation": (INPUT, folder / "factors.csv"), "page": (INPUT, "-o", OUT),
+        "deviation": (INPUT, folder / "factors.csv"), "page": (INPUT, "-o", OUT), "split": (INPUT, "-o", OUT),
     }
     verbs = {name: Verb(words, ACCEPTED, BROKEN) for name, words in on_a_book.items()}
     verbs["convert"] = Verb((INPUT, "-o", OUT), sample("newer_basis"), ACCEPTED)
@@ -85,7 +91,8 @@ class Habits(unittest.TestCase):
         for name, verb in self.each():
             with self.subTest(verb=name):
                 run = xaropinto(*verb.line(name, verb.good, self.folder / name))
-                self.assertEqual((run.code, run.told), (DONE, ""))
+                self.assertEqual((run.code, without_warnings(run.told)), (DONE, []))
+                self.assertTrue(name in WARNING or not run.told)
                 self.assertEqual(verb.writes, run.out == b"")
                 self.assertEqual(verb.writes, (self.folder / name).exists())
 
@@ -93,8 +100,10 @@ class Habits(unittest.TestCase):
         for name, verb in self.each():
             with self.subTest(verb=name):
                 run = xaropinto(*verb.line(name, verb.bad, self.out))
-                self.assertEqual((run.code, run.out), (REFUSED, b""))
-                self.assertIn("refused", run.told)
+                self.assertEqual(run.code, REFUSED)
+                self.assertTrue(run.out.startswith(REFUSED_OUTPUT.get(name, b"")))
+                self.assertEqual(name in REFUSED_OUTPUT, run.out != b"")
+                self.assertIn("rule: " if name == "check" else "refused", run.told)
                 self.assertFalse(self.out.exists())
 
     def test_not_there_or_a_folder(self):
@@ -140,7 +149,7 @@ class Habits(unittest.TestCase):
                 self.assertEqual(one.code, DONE)
                 self.assertIn(f"Example: xaropinto {name}".encode(), b" ".join(one.out.split()))
                 self.assertRegex(whole.out.decode(), rf"\n    {name}\s")
-                self.assertIn(f'\n.BI "{name} "', manual)
+                self.assertIn(f'\n.BI "{name} "'.replace("-", "\\-"), manual)
 
 
 class Words(unittest.TestCase):
@@ -148,14 +157,14 @@ class Words(unittest.TestCase):
 
     def test_a_refusal(self):
         run = xaropinto("check", BROKEN)
-        self.assertIn(f"{BROKEN}: refused 12 1232\n", run.told)
+        self.assertEqual(run.out.decode(), f"{BROKEN}: refused 12 1232\n")
         self.assertIn("PG2 men, record 1, class 120: lapse at byte 1,232 is 1,000,001; it must be 0 to 1,000,000",
                       run.told)
-        self.assertIn("mended by: the portfolio desk", run.told)
+        self.assertIn("owner: the portfolio department", run.told)
 
     def test_the_worst_of_many(self):
         run = xaropinto("check", ACCEPTED, BROKEN)
-        self.assertEqual((run.code, run.out.decode()), (REFUSED, f"{ACCEPTED}: accepted 3\n"))
+        self.assertEqual((run.code, run.out.decode().splitlines()[0]), (REFUSED, f"{ACCEPTED}: accepted 3"))
         self.assertEqual(xaropinto("check", BROKEN, "/nowhere", ACCEPTED).code, TROUBLE)
 
     def test_standard_input(self):
@@ -174,7 +183,7 @@ class Words(unittest.TestCase):
     def test_wrong_length_and_byte(self):
         book = ACCEPTED.read_bytes()
         run = xaropinto("check", "-", sent=book + bytes(100_000))
-        self.assertIn(f"refused 5 {len(book) + 100_000}", run.told)
+        self.assertIn(f"refused 5 {len(book) + 100_000}", run.out.decode())
         self.assertIn("ask for 1,292; no book is as long", run.told)
         for at, words in ((0, "subgroup code at byte 1,220 is 9; it must be 4"),
                           (1, "sex at byte 1,221 is 9; it must be 0"),
@@ -182,14 +191,14 @@ class Words(unittest.TestCase):
             damaged = bytearray(book)
             damaged[1_220 + at] = 9
             run = xaropinto("check", "-", sent=bytes(damaged))
-            self.assertIn("refused 10 1220", run.told)
+            self.assertIn("refused 10 1220", run.out.decode())
             self.assertIn(words, run.told)
 
     def test_names_with_quotes_and_dollars(self):
         with tempfile.TemporaryDirectory() as folder:
             path = Path(folder) / "it's $HOME \"mine\";.book"
             path.write_bytes(ACCEPTED.read_bytes())
-            self.assertEqual(xaropinto("check", path).out.decode(), f"{path}: accepted 3\n")
+            self.assertTrue(xaropinto("check", path).out.decode().startswith(f"{path}: accepted 3\n"))
 
     def test_wrong_words(self):
         for wrong in ((), ("chek", ACCEPTED), ("list",), ("list", ACCEPTED, "more"), ("years", ACCEPTED),

@@ -11,7 +11,7 @@ import unittest
 from pathlib import Path
 
 from tests import ROOT
-from tests.cli.run import sample, xaropinto
+from tests.cli.run import sample, without_warnings
 from tests.support.debian import install
 from tests.support.report import run_unit_tests
 
@@ -60,7 +60,8 @@ class Installed(unittest.TestCase):
             with open(sample("small_insurer"), "rb") as book:
                 ended = subprocess.run([root / "bin" / program, *words], stdin=book,
                                        capture_output=True, check=False, cwd=self.folder)
-            self.assertEqual((ended.returncode, ended.stdout, ended.stderr), (0, LISTING, b""))
+            self.assertEqual((ended.returncode, ended.stdout), (0, LISTING), ended.stderr)
+            self.assertEqual(without_warnings(ended.stderr.decode()), [])
         flags = run("pkg-config", "--cflags", "--libs", "xaropinto",
                     env={**os.environ, "PKG_CONFIG_PATH": str(root / "lib" / "pkgconfig")})
         self.assertEqual(flags.returncode, 0, flags.stderr)
@@ -97,7 +98,11 @@ class Installed(unittest.TestCase):
         [info] = (self.folder / "there").glob("xaropinto-*.dist-info")
         self.assertIn("Tag: py3-none-linux_x86_64", (info / "WHEEL").read_text(encoding="utf-8"))
         self.assertIn("Provides-Extra: xlsx", (info / "METADATA").read_text(encoding="utf-8"))
-        self.assertTrue((self.folder / "there" / "bin" / "xaropinto").is_file())
+        ended = run(self.folder / "there" / "bin" / "xaropinto", "list", sample("small_insurer"),
+                    folder=self.folder, env={"PYTHONPATH": str(self.folder / "there")})
+        self.assertEqual((ended.returncode, ended.stdout), (0, LISTING), ended.stderr)
+        self.assertEqual(without_warnings(ended.stderr.decode()), [])
+        self.assertTrue((self.folder / "there" / "xaropinto" / "schema.json").is_file())
         ended = run(sys.executable, "-c",
                     "import xaropinto, sys; print(xaropinto.__version__, xaropinto.check("
                     "open(sys.argv[1], 'rb').read()))", sample("small_insurer"), folder=self.folder,

@@ -1,97 +1,176 @@
-"""How the command ends, and what it reads and writes on the way. A failed read or write is never silent."""
+"""What a verb answers, in words or as JSON, and how a refusal or an error is reported. The JSON is
+that of schema.json."""
 
-import os
-import sys
-import tempfile
-from pathlib import Path
+import csv
+import io
+import json
+from typing import Callable, Iterable, Mapping, NamedTuple, Optional, Sequence, Union
 
-DONE, REFUSED, TROUBLE = 0, 1, 2
-STANDARD = "-"
-# No book is a thousandth as long; a file beyond it is not read at all.
-MOST_BYTES = 64 * 1024 * 1024
+from xaropinto.answers import RefusedError
+from xaropinto.cli.errors import DONE, REFUSED, TROUBLE, CommandError
+from xaropinto.cli.files import take_written, write_file
+from xaropinto.cli.streams import put_bytes, to_stderr
+from xaropinto.library import LibraryError
+from xaropinto.plausibility import Note
+from xaropinto.tables import BadLine
+from xaropinto.version import VERSION
+
+Json = Union[None, bool, int, float, str, Sequence["Json"], Mapping[str, "Json"]]
+Cell = Union[int, str]
 
 
-class Trouble(Exception):
-    """Wrong use, or a file that cannot be read or written: what is wrong, in words."""
+class Table(NamedTuple):
+    """Rows below a heading."""
+
+    headings: Sequence[str]
+    rows: Sequence[Sequence[Cell]]
+
+    def text(self, separator: str) -> str:
+        """As a spreadsheet reads it."""
+        held = io.StringIO()
+        csv.writer(held, delimiter=separator, lineterminator="\n").writerows(
+            [self.headings, *self.rows]
+        )
+        return held.getvalue()
+
+    def data(self) -> Json:
+        """A row with its headings."""
+        return [dict(zip(self.headings, row)) for row in self.rows]
 
 
-def read_file(path: str) -> bytes:
-    """The bytes of a file; `-` is standard input."""
+class Fields(NamedTuple):
+    """A text, and what it says as data."""
+
+    words: str
+    held: Optional[Mapping[str, Json]] = None
+
+    def text(self, _: str) -> str:
+        """As it is."""
+        return self.words
+
+    def data(self) -> Json:
+        """By name."""
+        return self.held
+
+
+Answer = Union[Table, Fields]
+
+
+class _Run:
+    """One run: the form of its output, and what was gathered of it for JSON."""
+
+    def __init__(self) -> None:
+        self.as_json, self.separator = False, ","
+        self.results: list[dict[str, Json]] = []
+
+    def keep(self, **found: Json) -> None:
+        """Add to what is said of the present input."""
+        if self.results:
+            self.results[-1].update(found)
+
+
+_run = _Run()
+
+
+def begin_run(as_json: bool, separator: str) -> None:
+    """Choose the form of all output until `end_run`."""
+    _run.as_json, _run.separator = as_json, separator
+    _run.results.clear()
+
+
+def end_run(verb: str, code: int) -> None:
+    """Write the JSON document, where that is asked for."""
+    if _run.as_json:
+        document = {"xaropinto": VERSION, "verb": verb, "exit": code, "results": _run.results}
+        put_bytes((json.dumps(document, indent=1) + "\n").encode())
+
+
+def attempt(name: str, act: Callable[[], Optional[int]], prefix: str = "") -> int:
+    """Do what is asked of one input; the exit code. What stops it is reported here, lines of words
+    with the prefix."""
+    _run.results.append({"input": name, "status": "done"})
     try:
-        if path == STANDARD:
-            held = sys.stdin.buffer.read(MOST_BYTES + 1)
-        else:
-            with open(path, "rb") as file:
-                held = file.read(MOST_BYTES + 1)
-    except OSError as trouble:
-        raise Trouble(f"{path}: {trouble.strerror or trouble}") from trouble
-    except ValueError as trouble:
-        # A name with a zero byte, or a standard input that is closed.
-        raise Trouble(f"{path!r}: {trouble}") from trouble
-    if len(held) > MOST_BYTES:
-        raise Trouble(f"{path}: longer than {MOST_BYTES:,} bytes; no book is")
-    return held
+        code = act() or DONE
+    except RefusedError as refused:
+        report_refusal(refused, prefix)
+        code = REFUSED
+    except BadLine as bad:
+        _run.keep(
+            status="refused",
+            refusal={"number": None, "place": None, "owner": None, "words": str(bad)},
+        )
+        _say(f"{prefix}refused: {bad}")
+        code = REFUSED
+    except (CommandError, LibraryError) as error:
+        code = report_error(error)
+    if written := take_written():
+        _run.keep(written=written)
+    return code
 
 
-def write_file(path: str, held: bytes) -> None:
-    """Write a new file beside and rename it, so that no half of a file is ever seen under the name."""
-    if path == STANDARD:
-        put_answer(held)
-        return
-    target = Path(path)
-    if target.exists() and not target.is_file():
-        put_into(path, held)
-        return
-    beside = None
-    try:
-        handle, beside = tempfile.mkstemp(prefix=f".{target.name[:100]}.", dir=target.parent)
-        with os.fdopen(handle, "wb") as file:
-            file.write(held)
-            file.flush()
-            os.fsync(file.fileno())
-        os.chmod(beside, 0o666 & ~current_mask())
-        os.replace(beside, target)
-    except (OSError, ValueError) as trouble:
-        if beside is not None:
-            Path(beside).unlink(missing_ok=True)
-        raise Trouble(f"{path}: {getattr(trouble, 'strerror', None) or trouble}") from trouble
+def begin_input(name: str) -> None:
+    """What follows is about this input; nothing is left of one about which nothing was said."""
+    if _run.results and set(_run.results[-1]) == {"input", "status"}:
+        _run.results.pop()
+    _run.results.append({"input": name, "status": "done"})
 
 
-def put_into(path: str, held: bytes) -> None:
-    """Write to what is there and no plain file, such as a device: it cannot be renamed over."""
-    try:
-        with open(path, "wb") as file:
-            file.write(held)
-    except OSError as trouble:
-        raise Trouble(f"{path}: {trouble.strerror or trouble}") from trouble
+def report_error(error: Exception) -> int:
+    """What is wrong with the use, or with a file, in one line; the exit code."""
+    if not _run.results:
+        _run.results.append({"input": ""})
+    _run.keep(status="error", message=str(error))
+    to_stderr(f"xaropinto: {error}")
+    return TROUBLE
 
 
-def current_mask() -> int:
-    """What the user lets others do with new files."""
-    mask = os.umask(0)
-    os.umask(mask)
-    return mask
+def keep_refusal(refused: RefusedError) -> None:
+    """A refusal for the JSON document."""
+    _run.keep(
+        status="refused",
+        refusal={
+            "number": refused.number,
+            "place": refused.place,
+            "owner": refused.owner,
+            "words": refused.words,
+        },
+    )
 
 
-def put_answer(held: bytes) -> None:
-    """The answer, whole, on standard output; an output that is closed or full is trouble."""
-    if sys.stdout is None:
-        raise Trouble("standard output is closed")
-    try:
-        sys.stdout.buffer.write(held)
-        sys.stdout.buffer.flush()
-    except (OSError, ValueError) as trouble:
-        silence_output()
-        raise Trouble(f"standard output: {getattr(trouble, 'strerror', None) or trouble}") from trouble
+def report_refusal(refused: RefusedError, prefix: str = "", verdict: bool = True) -> None:
+    """A refusal on standard error: the verdict, where it is wanted there, and its words."""
+    keep_refusal(refused)
+    if verdict:
+        _say(f"{prefix}refused {refused.number} {refused.place}")
+    _say(f"{prefix}{refused.words}")
 
 
-def silence_output() -> None:
-    """What could not be written stays unwritten: the interpreter shall not try it again at its end."""
-    nowhere = os.open(os.devnull, os.O_WRONLY)
-    os.dup2(nowhere, sys.stdout.fileno())
-    os.close(nowhere)
+def put(answer: Answer) -> None:
+    """The answer on standard output."""
+    if _run.as_json:
+        if answer.data() is not None:
+            _run.keep(answer=answer.data())
+    else:
+        put_bytes(answer.text(_run.separator).encode("utf-8", "surrogateescape"))
 
 
-def tell(line: str) -> None:
-    """What is not the answer, on standard error."""
-    print(line, file=sys.stderr)
+def put_to(path: Optional[str], answer: Answer) -> None:
+    """The answer into a file, or on standard output where none is named."""
+    if path is None:
+        put(answer)
+    else:
+        write_file(path, answer.text(_run.separator).encode("utf-8", "surrogateescape"))
+
+
+def put_notes(notes: Iterable[Note], prefix: str = "") -> None:
+    """Each warning as a line on standard error."""
+    kept = list(notes)
+    _run.keep(warnings=[{"name": note.name, "text": note.text} for note in kept])
+    for note in kept:
+        _say(f"{prefix}warning: {note.text}")
+
+
+def _say(line: str) -> None:
+    """A line of words, which the JSON document has in its own place."""
+    if not _run.as_json:
+        to_stderr(line)

@@ -18,7 +18,7 @@ fn a_refusal_reads_as_the_program_writes_it() {
     let refusal = xaropinto::check(&[0; 1_220]).expect_err("zeros are no book");
     assert_eq!(
         refusal.to_string(),
-        "refused 2 0: the edition is 1 or 2; mended by: the desk that writes the file"
+        "refused 2 0: the edition is 1 or 2; owner: the department that writes the file"
     );
 }
 

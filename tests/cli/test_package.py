@@ -1,0 +1,158 @@
+"""The archive of `make dist`, the Rust crate in it, and the types of the package."""
+
+import ast
+import os
+import subprocess
+import sys
+import tempfile
+import unittest
+from pathlib import Path
+
+from tests import ROOT
+from tests.cli.run import sample
+from tests.support.report import run_unit_tests
+
+LISTING = (ROOT / "samples" / "small_insurer.listing").read_bytes()
+PACKAGE = ROOT / "python" / "xaropinto"
+# What a person's shell has: the gate itself may be run by make, which tells a make below it so.
+SHELL = {
+    name: word
+    for name, word in os.environ.items()
+    if name not in ("MAKEFLAGS", "MAKELEVEL", "MFLAGS")
+}
+MOST_SECONDS = 300
+RUST_MAIN = """fn main() {
+    let book = std::fs::read(std::env::args().nth(1).unwrap()).unwrap();
+    println!("{}", xaropinto::totals(&book).unwrap().n);
+}
+"""
+
+
+def run(*words, folder=ROOT, **more):
+    """Run a command to its end."""
+    return subprocess.run(
+        [str(word) for word in words],
+        cwd=folder,
+        stdin=subprocess.DEVNULL,
+        capture_output=True,
+        timeout=MOST_SECONDS,
+        check=False,
+        env={**SHELL, **more},
+    )
+
+
+class Archive(unittest.TestCase):
+    """What a machine without the toolchain gets."""
+
+    @classmethod
+    def setUpClass(cls):
+        held = tempfile.TemporaryDirectory()
+        cls.addClassCleanup(held.cleanup)
+        cls.folder = Path(held.name)
+        ended = run("make", "dist")
+        archive = ROOT / ended.stdout.decode().split()[-1]
+        run("tar", "-xzf", archive, "-C", cls.folder)
+        cls.top = cls.folder / archive.name.removesuffix(".tar.gz")
+
+    def test_contents(self):
+        for name in (
+            "README.md",
+            "INSTALL.md",
+            "samples/small_insurer.book",
+            "bindings/c/examples/example.c",
+            "bindings/rust/Cargo.toml",
+            "bindings/rust/src/lib.rs",
+            "include/xaropinto.h",
+            "share/xaropinto/python/xaropinto/schema.json",
+        ):
+            self.assertTrue((self.top / name).is_file(), name)
+        formats = [
+            path
+            for path in (self.top / "docs").glob("*.md")
+            if "## A record" in path.read_text("utf-8")
+        ]
+        self.assertEqual(len(formats), 1)
+
+    def test_rust_crate(self):
+        program = self.folder / "program"
+        (program / "src").mkdir(parents=True)
+        (program / "src" / "main.rs").write_text(RUST_MAIN)
+        crate = self.top / "bindings" / "rust"
+        (program / "Cargo.toml").write_text(
+            '[package]\nname = "program"\nversion = "1.0.0"\nedition = "2021"\n'
+            f'[dependencies]\nxaropinto = {{ path = "{crate}" }}\n'
+        )
+        target = self.folder / "target"
+        for named in ({}, {"XAROPINTO_LIB_DIR": str(self.top / "lib")}):
+            ended = run(
+                "cargo",
+                "run",
+                "--quiet",
+                "--offline",
+                "--",
+                sample("small_insurer"),
+                folder=program,
+                CARGO_TARGET_DIR=str(target),
+                **named,
+            )
+            self.assertEqual((ended.returncode, ended.stdout), (0, b"315\n"), ended.stderr)
+        ended = run(
+            "cargo",
+            "build",
+            "--offline",
+            folder=program,
+            CARGO_TARGET_DIR=str(target),
+            XAROPINTO_LIB_DIR="/nowhere",
+        )
+        self.assertNotEqual(ended.returncode, 0)
+        self.assertIn(b"no libxaropinto.a in /nowhere", ended.stderr)
+
+    def test_linking_as_described(self):
+        text = (self.top / "INSTALL.md").read_text(encoding="utf-8")
+        self.assertIn("LD_LIBRARY_PATH", text)
+        commands = [
+            line.strip()
+            for line in text.partition("## C\n")[2].partition("## Rust")[0].splitlines()
+            if line.startswith("    ")
+        ]
+        ended = run("sh", "-euc", "\n".join(commands), folder=self.top)
+        self.assertEqual((ended.returncode, ended.stdout), (0, 2 * LISTING), ended.stderr)
+        ended = run("./example", "samples/small_insurer.book", folder=self.top)
+        self.assertIn(b"libxaropinto.so.2: cannot open shared object file", ended.stderr)
+
+
+class Types(unittest.TestCase):
+    """What a caller's type checker sees."""
+
+    def test_mypy(self):
+        ended = run("mypy", "--strict", "--cache-dir", os.devnull, PACKAGE)
+        self.assertEqual(ended.returncode, 0, ended.stdout.decode())
+
+    def test_funds(self):
+        with tempfile.TemporaryDirectory() as folder:
+            caller = Path(folder) / "caller.py"
+            caller.write_text(
+                "import xaropinto\none, _ = xaropinto.funds(b'', b'', b'')\n"
+                "if not isinstance(one, xaropinto.RefusedError):\n"
+                "    print(one.n + one.totals[0])\n"
+            )
+            ended = run(
+                "mypy", "--strict", "--cache-dir", os.devnull, caller, MYPYPATH=str(ROOT / "python")
+            )
+            self.assertEqual(ended.returncode, 0, ended.stdout.decode())
+
+    def test_exceptions_end_in_error(self):
+        bases = {"Exception", "BaseException", "ImportError", "ValueError", "TypeError", "OSError"}
+        names = [
+            each.name
+            for path in PACKAGE.rglob("*.py")
+            for each in ast.walk(ast.parse(path.read_text(encoding="utf-8")))
+            if isinstance(each, ast.ClassDef)
+            and bases & {base.id for base in each.bases if isinstance(base, ast.Name)}
+        ]
+        self.assertGreaterEqual(len(names), 4)
+        self.assertEqual([name for name in names if not name.endswith("Error")], [])
+
+
+if __name__ == "__main__":
+    sys.exit(run_unit_tests(sys.modules[__name__]))

@@ -1,0 +1,1 @@
+"""What needs more than the gate's set-up: other systems, and programs that users have."""
