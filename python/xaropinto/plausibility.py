@@ -14,6 +14,7 @@ from xaropinto.layout import (GROUPS, HEADER_BYTES, LAST_CLASS, RECORD_BYTES, SE
 from xaropinto.number_format import counted, francs, percent, swiss
 from xaropinto.portfolio import GROUP_OF, contracts_by_class
 
+# The most that a record holds.
 MOST_CONTRACTS = 100_000
 LEAST_PREMIUM, MOST_PREMIUM = 5_000, 5_000_000
 CLAIMS_FACTOR = 5
@@ -51,7 +52,7 @@ class Unlinked:
 
 @dataclass(frozen=True)
 class Facts:
-    """What the rules look at."""
+    """What the rules read."""
 
     book: bytes
     values: BookValues
