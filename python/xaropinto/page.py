@@ -1,137 +1,136 @@
-"""One page about a book that stands alone: verdict, totals with their distance, differences, charts, identity."""
+"""One page about a book that stands alone: verdict, warnings, totals, product groups, charts."""
 
 import hashlib
-from html import escape
+from dataclasses import dataclass
+from datetime import date
 from typing import Sequence
 
 from xaropinto import answers
 from xaropinto.book_values import BookValues
-from xaropinto.charts import Series, bar_chart, line_chart
+from xaropinto.charts import Series, bar_chart, line_chart, unit_of
 from xaropinto.distances import total_distance
+from xaropinto.html_parts import (captioned, charts, document, element, facts, items, note,
+                                  section, table)
 from xaropinto.layout import GROUPS, SETTINGS, SEXES
+from xaropinto.number_format import counted, francs, million_francs, percent, swiss
+from xaropinto.plausibility import Note, group_means, notes_of
 from xaropinto.portfolio import contracts_by_class
 from xaropinto.version import VERSION
 
 DIFFERENCES = ((1, 2), (3, 4), (5, 6), (7, 0))
-# What a chart's amounts are divided by, and how that is called; the first that leaves no more than four digits.
-UNITS = ((100, "francs"), (100_000, "thousand francs"), (100_000_000, "million francs"))
-MOST_ON_AN_AXIS = 10_000
-
-STYLE = """
-:root { color-scheme: light; }
-body { font: 16px/1.45 system-ui, sans-serif; color: #1c2430; background: #fff; max-width: 48rem; margin: 0 auto;
-  padding: 1.5rem 1rem; }
-h1 { font-size: 1.5rem; margin: 0 0 .25rem; overflow-wrap: anywhere; }
-h2 { font-size: 1.1rem; margin: 2rem 0 .5rem; border-bottom: 1px solid #c9d0d8; }
-h3 { font-size: 1rem; margin: 1rem 0 0; }
-.verdict { font-size: 1.1rem; color: #14532d; font-weight: 600; }
-table { border-collapse: collapse; width: 100%; font-variant-numeric: tabular-nums; }
-th, td { padding: .25rem .5rem; border-bottom: 1px solid #e3e7ec; text-align: left; vertical-align: top; }
-td.number, th.number { text-align: right; white-space: nowrap; }
-td.hash { overflow-wrap: anywhere; font-family: ui-monospace, monospace; font-size: .85rem; }
-.wide { overflow-x: auto; }
-.note { color: #4a5563; font-size: .9rem; }
-svg { width: 100%; height: auto; display: block; }
-svg text { font: 12px system-ui, sans-serif; fill: #1c2430; }
-svg .unit { fill: #4a5563; }
-.grid { stroke: #dde2e8; stroke-width: 1; }
-.line0, .line1 { fill: none; stroke-width: 2; }
-.line0 { stroke: #0b5cad; } .line1 { stroke: #c2410c; stroke-dasharray: 6 3; }
-.fill0 { fill: #0b5cad; } .fill1 { fill: #c2410c; }
-section { break-inside: avoid; }
-@media (max-width: 36rem) { body { font-size: 15px; padding: 1rem .75rem; } th, td { padding: .25rem; } }
-@media print { @page { size: A4; margin: 16mm; } body { max-width: none; padding: 0; font-size: 10.5pt; } h2 {
-  break-after: avoid; } }
-"""
+AMOUNTS = ("centimes", "million francs")
+PROVED = ("Verdict, n, totals, differences, liabilities and years come from proved calls. The "
+          "counts, means, warnings, charts and the formula of the distance are the program's own: "
+          "tested, not proved.")
 
 
-def page_of(name: str, book: bytes) -> str:
-    """The page of an accepted book; `Refused` where it is refused."""
+@dataclass(frozen=True)
+class Imprint:
+    """What a page says of its making: the day, and whose book it is."""
+
+    today: date
+    insurer: str = ""
+
+
+def page_of(name: str, book: bytes, imprint: Imprint) -> str:
+    """The page of an accepted book; `RefusedError` where it is refused."""
     totals, values = answers.totals(book), answers.read(book)
-    sections = [heading(name, totals.n), totals_section(totals, values), differences_section(totals),
-                years_section(book), classes_section(values), identity_section(name, book, values)]
-    return "\n".join(['<?xml version="1.0" encoding="utf-8"?>', "<!DOCTYPE html>",
-                      '<html xmlns="http://www.w3.org/1999/xhtml" lang="en">', "<head>", '<meta charset="utf-8"/>',
-                      '<meta name="viewport" content="width=device-width, initial-scale=1"/>',
-                      f"<title>{escape(name)}</title>", f"<style>{STYLE}</style>", "</head>", "<body>", *sections,
-                      "</body>", "</html>", ""])
+    return document(name, [heading(name, totals.n), identity(name, book, values, imprint),
+                           warnings_section(notes_of(book, imprint.today)),
+                           totals_section(totals, values), differences_section(totals),
+                           groups_section(values), charts_section(book, values), note(PROVED)])
 
 
 def heading(name: str, n: int) -> str:
     """What it is, and the verdict."""
-    return (f"<h1>{escape(name)}</h1>\n"
-            f'<p class="verdict">accepted {n:,}</p>\n'
-            f"<p>{n:,} linked records hold contracts.</p>")
+    holding = counted(n, "linked record holds", "linked records hold")
+    return "\n".join([element("h1", name),
+                      element("p", f"accepted {n}", class_="verdict good"),
+                      element("p", f"{holding} contracts.")])
 
 
-def table(headings: Sequence[str], rows: Sequence[Sequence[str]]) -> str:
-    """A table whose first two columns are words and all others numbers."""
-    kinds = ["", "", *['class="number"'] * (len(headings) - 2)]
-    top = "".join(f"<th {kind}>{escape(cell)}</th>" for kind, cell in zip(kinds, headings))
-    body = ["<tr>" + "".join(f"<td {kind}>{escape(cell)}</td>" for kind, cell in zip(kinds, row)) + "</tr>"
-            for row in rows]
-    return "\n".join(['<div class="wide"><table>', f"<tr>{top}</tr>", *body, "</table></div>"])
+def identity(name: str, book: bytes, values: BookValues, imprint: Imprint) -> str:
+    """Which book this is about, and which run."""
+    edition = str(values.edition)
+    if values.edition == 2:
+        edition += f", mortality percentages {values.percentages[0]} and {values.percentages[1]}"
+    rows = [("Insurer", imprint.insurer)] if imprint.insurer else []
+    rows += [("File", name), ("SST year", str(values.year)), ("Age basis", "1"),
+             ("Edition", edition), ("Length", counted(len(book), "byte", "bytes")),
+             ("SHA-256", hashlib.sha256(book).hexdigest()),
+             ("Date of the run", imprint.today.isoformat()), ("Program", f"xaropinto {VERSION}")]
+    return facts("The book", rows)
+
+
+def warnings_section(notes: Sequence[Note]) -> str:
+    """What is unusual about the book."""
+    if not notes:
+        return section("Warnings", element("p", "None."))
+    return section("Warnings", items([f"{each.text} ({each.name})" for each in notes]),
+                   note("A warning is no refusal: the figures are those of the book as it is."))
 
 
 def totals_section(totals: answers.Totals, values: BookValues) -> str:
-    """The eight totals, and how far each can be from its exact value."""
-    distance = total_distance(totals.n, min(values.curve) >= 0)
-    rows = [(str(setting), SETTINGS[setting], f"{total:,}", f"± {distance:,}")
+    """The eight totals with their distance."""
+    distance = swiss(total_distance(totals.n, min(values.curve) >= 0))
+    rows = [(f"{setting} {SETTINGS[setting]}", swiss(total), million_francs(total))
             for setting, total in enumerate(totals.totals)]
-    return ("<section><h2>Totals, in centimes</h2>\n" + table(("setting", "", "total", "distance"), rows)
-            + '\n<p class="note">A total below zero is a credit. No total is further from its exact value, which the '
-              "same reckoning gives in unrounded fractions, than the distance: this is proved.</p></section>")
+    return section(
+        "Totals", table(f"Total by setting, each within ± {distance} centimes of its exact value",
+                        ("setting", *AMOUNTS), rows),
+        note("A total below zero is a credit. The exact value follows the same steps in unrounded "
+             "fractions; that no total is further from it is proved."))
 
 
 def differences_section(totals: answers.Totals) -> str:
     """The four differences."""
-    rows = [(f"{one} less {other}", f"{SETTINGS[one]} less {SETTINGS[other]}", f"{difference:,}")
-            for (one, other), difference in zip(DIFFERENCES, totals.differences)]
-    return "<section><h2>Differences, in centimes</h2>\n" + table(("settings", "", "difference"), rows) + "</section>"
+    rows = [(f"{SETTINGS[one]} less {SETTINGS[other]}", swiss(each), million_francs(each))
+            for (one, other), each in zip(DIFFERENCES, totals.differences)]
+    return section("Differences", table("Between two settings", ("settings", *AMOUNTS), rows))
 
 
-def unit_of(highest: int) -> tuple[int, str]:
-    """What a chart's amounts are divided by."""
-    for divisor, name in UNITS:
-        if highest <= divisor * MOST_ON_AN_AXIS:
-            return divisor, name
-    return UNITS[-1]
+def groups_section(values: BookValues) -> str:
+    """What a contract of each group pays and costs: a wrong unit is seen here."""
+    rows = []
+    for each, rate in zip(group_means(values), values.cost_rates):
+        means = ("", "", "")
+        if each.premium is not None and each.claims is not None and each.lapse is not None:
+            means = (francs(each.premium), francs(each.claims), percent(each.lapse))
+        rows.append((each.group, swiss(each.contracts), *means, percent(rate)))
+    headings = ("group", "contracts", "premium, francs", "claims, francs", "lapse, percent",
+                "cost rate, percent")
+    return section("Product groups",
+                   table("Means over the contracts, for a contract and a year", headings, rows,
+                         "stack"))
 
 
-def years_section(book: bytes) -> str:
-    """Premium after the cap and outgo of each product group, by year, in the base."""
-    parts = ["<h2>Years of the product groups, in the base</h2>"]
-    for number, name in enumerate(GROUPS, start=1):
-        reply = answers.group(book, 0, number)
-        premium, outgo = ([year[at] for year in reply.years] for at in range(2))
-        if not any(premium) and not any(outgo):
-            parts.append(f"<h3>{name}</h3>\n<p>No premium and no outgo in any year.</p>")
-            continue
-        divisor, unit = unit_of(max(*premium, *outgo))
-        series = [Series(words, [amount / divisor for amount in amounts])
-                  for words, amounts in (("premium after cap", premium), ("outgo", outgo))]
-        chart = line_chart(f"{name}: premium after the cap and outgo by year", unit, "year", series)
-        title = f"{name}: liability {reply.liability:,} centimes, n {reply.n:,}"
-        parts.append(f"<section><h3>{title}</h3>\n{chart}</section>")
-    return "\n".join(parts)
+def charts_section(book: bytes, values: BookValues) -> str:
+    """The years of each product group in the base, and the contracts by class."""
+    parts = [year_chart(name, answers.group(book, 0, number))
+             for number, name in enumerate(GROUPS, start=1)]
+    return "\n".join(["<h2>Years of the product groups in the base, and age classes</h2>",
+                      charts([*parts, class_chart(values)])])
 
 
-def classes_section(values: BookValues) -> str:
+def year_chart(name: str, group: answers.Group) -> str:
+    """Premium after the cap and outgo of a product group, by year."""
+    premium, outgo = ([year[at] for year in group.years] for at in range(2))
+    if not any(premium) and not any(outgo):
+        return captioned(name, element("p", "No premium and no outgo in any year."))
+    divisor, unit = unit_of(max(*premium, *outgo))
+    series = [Series(words, [amount / divisor for amount in amounts])
+              for words, amounts in (("premium after cap", premium), ("outgo", outgo))]
+    return captioned(f"{name}: liability {million_francs(group.liability)} million francs",
+                     line_chart(f"{name}: premium after the cap and outgo by year", unit, "year",
+                                series))
+
+
+def class_chart(values: BookValues) -> str:
     """Contracts by class and sex."""
-    series = [Series(people, contracts_by_class(values, sex=people)) for people in SEXES]
-    if not any(any(each.values) for each in series):
-        return "<section><h2>Contracts by age class</h2>\n<p>No contracts.</p></section>"
-    chart = bar_chart("Contracts by age class and sex", "contracts", "age class", series)
-    counted = ", ".join(f"{sum(each.values):,} {each.name}" for each in series)
-    return f"<section><h2>Contracts by age class</h2>\n<p>{counted}.</p>\n{chart}</section>"
-
-
-def identity_section(name: str, book: bytes, values: BookValues) -> str:
-    """Which book this is about."""
-    percentages = f", mortality percentages {values.percentages[0]} and {values.percentages[1]}"
-    rows = [("name", escape(name), ""), ("length", f"{len(book):,} bytes", ""),
-            ("SHA-256", hashlib.sha256(book).hexdigest(), ' class="hash"'), ("SST year", str(values.year), ""),
-            ("edition", f"{values.edition}{percentages if values.edition == 2 else ''}", "")]
-    body = [f"<tr><th>{what}</th><td{kind}>{held}</td></tr>" for what, held, kind in rows]
-    return "\n".join(["<section><h2>The book</h2>", "<table>", *body, "</table>",
-                      f'<p class="note">Written by xaropinto {VERSION}.</p></section>'])
+    by_sex = {people: contracts_by_class(values, sex=people) for people in SEXES}
+    if not any(any(counts) for counts in by_sex.values()):
+        return captioned("Contracts by age class", element("p", "No contracts."))
+    words = ", ".join(f"{swiss(sum(counts))} {people}" for people, counts in by_sex.items())
+    return captioned(f"Contracts by age class: {words}",
+                     bar_chart("Contracts by age class and sex", "contracts", "age class",
+                               [Series(people, counts) for people, counts in by_sex.items()]))

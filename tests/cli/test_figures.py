@@ -1,15 +1,12 @@
 """What each verb answers, held against the second reading, on the samples and on books of the test's own."""
 
-import hashlib
-import re
 import sys
 import tempfile
 import unittest
-import xml.dom.minidom
 from pathlib import Path
 
 from reference.cost_rates import cost_rates
-from reference.book import Portfolio, make_book, read_values
+from reference.book import read_values
 from reference.standard_deviation import deviation
 from reference.funds import FRONT_BYTES, TABLE_BYTES
 from reference.layout import CHAINS, GROUPS, LONGEST_BOOK, SEXES, changed, record
@@ -19,7 +16,7 @@ from reference.year_report import report_text
 from reference.in_force import screen_reply
 from reference.claims_variation import spread
 from tests.cli.inputs import ACCOUNTS, FACTORS, put_accounts, put_factors
-from tests.cli.run import DONE, REFUSED, SAMPLES, TROUBLE, sample, without_warnings, xaropinto
+from tests.cli.run import DONE, REFUSED, TROUBLE, sample, without_warnings, xaropinto
 from tests.support.report import run_unit_tests
 
 ACCEPTED = ("one_record", "worked_example", "edition_2", "small_insurer", "full")
@@ -28,23 +25,6 @@ ACCEPTED = ("one_record", "worked_example", "edition_2", "small_insurer", "full"
 def bytes_of(name):
     """A sample's bytes."""
     return sample(name).read_bytes()
-
-
-def moved(book, by):
-    """The book of the portfolio whose counts are one class on; those at an end stay, or a chain starts sooner."""
-    values = read_values(book)
-    for chain, portfolio in values.portfolios.items():
-        first, cells = portfolio
-        counts = [cell.count for cell in cells]
-        if by < 0 and first > 0:
-            first, cells, counts = first - 1, (cells[0], *cells), [*counts, 0]
-        elif by < 0:
-            counts = [counts[0] + counts[1], *counts[2:], 0]
-        elif len(counts) > 1:
-            counts = [0, *counts[:-2], counts[-2] + counts[-1]]
-        values.portfolios[chain] = Portfolio(first, tuple(cell._replace(count=count)
-                                                          for cell, count in zip(cells, counts, strict=True)))
-    return make_book(values)
 
 
 class OfABook(unittest.TestCase):
@@ -105,15 +85,6 @@ class OfABook(unittest.TestCase):
             due = "class,contracts\n" + "".join(f"{at},{count}\n" for at, count in enumerate(counted))
             self.assertEqual(self.answer("classes", sample("small_insurer"), *words), due)
 
-    def test_beside(self):
-        for name in ("worked_example", "small_insurer"):
-            book = bytes_of(name)
-            own, lower, higher = (totals(each)[3] for each in (book, moved(book, -1), moved(book, 1)))
-            rows = [line.split(",") for line in self.answer("beside", sample(name)).splitlines()[1:]]
-            self.assertEqual([[int(cell) for cell in (row[0], *row[2:])] for row in rows],
-                             [[at, own[at], lower[at], higher[at], lower[at] - own[at], higher[at] - own[at]]
-                              for at in range(8)])
-
     def test_deviation(self):
         with tempfile.TemporaryDirectory() as folder:
             sheet = Path(folder) / "factors.csv"
@@ -121,27 +92,6 @@ class OfABook(unittest.TestCase):
             due = deviation(bytes_of("small_insurer"), [row[0] for row in FACTORS], [row[1] for row in FACTORS])[2]
             self.assertEqual(self.answer("deviation", sample("small_insurer"), sheet),
                              f"deviation {due} thousand francs\n")
-
-    def test_page(self):
-        with tempfile.TemporaryDirectory() as folder:
-            path = Path(folder) / "page.html"
-            for name in ACCEPTED:
-                with self.subTest(name=name):
-                    self.answer("page", sample(name), "-o", path)
-                    self.hold_page(name, path.read_text(encoding="utf-8"))
-
-    def hold_page(self, name, text):
-        """Well-formed, alone, and with every figure."""
-        xml.dom.minidom.parseString(text)
-        book = bytes_of(name)
-        _, _, n, by_setting, differences = totals(book)
-        for figure in (*by_setting, *differences):
-            self.assertIn(f">{figure:,}<", text)
-        below_zero = min(read_values(book).curve) < 0
-        self.assertEqual(text.count(f"± {500 * n + 14_250 if below_zero else 250 * n + 7_125:,}<"), 8)
-        self.assertIn(hashlib.sha256(book).hexdigest(), text)
-        self.assertNotIn("<script", text)
-        self.assertEqual(re.findall(r"(?:src|href|url)\s*[=(]", text), [])
 
 
 class Books(unittest.TestCase):
@@ -256,16 +206,6 @@ class Books(unittest.TestCase):
 def as_text(held):
     """Text, whichever way the second reading hands it out."""
     return held.decode() if isinstance(held, bytes) else held
-
-
-class Samples(unittest.TestCase):
-    """What is kept under samples/ is what the command writes today."""
-
-    def test_page_of_the_small_insurer(self):
-        with tempfile.TemporaryDirectory() as folder:
-            path = Path(folder) / "page.html"
-            self.assertEqual(xaropinto("page", sample("small_insurer"), "-o", path).code, DONE)
-            self.assertEqual(path.read_bytes(), (SAMPLES / "small_insurer.html").read_bytes())
 
 
 if __name__ == "__main__":

@@ -1,4 +1,4 @@
-"""The verbs beside the book: rates, spread, deviation, practice, page."""
+"""The verbs beside the book: rates, spread, deviation, practice."""
 
 import argparse
 from pathlib import Path
@@ -8,17 +8,13 @@ from xaropinto import answers
 from xaropinto.accounts_sheet import read_accounts, read_factors
 from xaropinto.cells_at_fault import in_accounts, in_factors
 from xaropinto.cli.books import add_output
-from xaropinto.cli.batch import add_files, run_files
 from xaropinto.cli.errors import CommandError, reason_of
-from xaropinto.cli.files import STANDARD, read_file, write_file
-from xaropinto.cli.notes import add_notes, report_notes
+from xaropinto.cli.files import read_file, write_file
 from xaropinto.cli.outcome import Fields, Table, put
-from xaropinto.cli.words import Verbs, add_parser, add_verb, number
+from xaropinto.cli.words import Verbs, add_verb, number
 from xaropinto.layout import GROUPS
-from xaropinto.page import page_of
 
 Held = TypeVar("Held")
-PAGE = ".html"
 FIVE = ("lowest", "first_quartile", "median", "third_quartile", "highest")
 
 
@@ -51,15 +47,6 @@ def add_verbs(verbs: Verbs) -> None:
     practice.add_argument("start", type=number, metavar="START")
     add_output(practice, "the book")
     practice.set_defaults(run=write_practice)
-    page = add_parser(
-        verbs,
-        "page",
-        write_page,
-        "a page to print and to keep: verdict, totals, charts",
-        "xaropinto page mine.book -o mine.html",
-    )
-    add_files(page, PAGE)
-    add_notes(page)
 
 
 def add_spread(verbs: Verbs) -> None:
@@ -129,18 +116,3 @@ def show_deviation(chosen: argparse.Namespace) -> None:
 def write_practice(chosen: argparse.Namespace) -> None:
     """A practice book."""
     write_file(chosen.out, answers.practice(chosen.start))
-
-
-def write_page(chosen: argparse.Namespace) -> int:
-    """The page of a book; a refused one has none."""
-    if chosen.out is None and chosen.into is None:
-        raise CommandError("page wants -o PATH or --folder OUT")
-    return run_files(
-        chosen, PAGE, page_answer, lambda book, prefix: report_notes(book, chosen, prefix)
-    )
-
-
-def page_answer(path: str, book: bytes) -> Fields:
-    """The page by the name of its file."""
-    name = "standard input" if path == STANDARD else Path(path).name
-    return Fields(page_of(name, book).encode("utf-8", "backslashreplace").decode())
