@@ -1,8 +1,8 @@
 """Do this year's age classes follow last year's?
 
 A contract of class c last year is of class c + d this year, d being the difference of the SST
-years; of c + d + 1 where this year's classes were counted one too high. Two signals tell the
-shifts -1, 0 and +1 apart:
+years; of c + d + 1 where this year's classes were counted one too high. Two signals distinguish
+the shifts -1, 0 and +1:
 
 - counts: contracts are people, so the ups and downs of the counts from class to class grow older
   with them. Last year's are those that the proved call leaves in force after d years.
@@ -21,7 +21,7 @@ from typing import Iterable, Optional, Sequence
 
 from xaropinto import answers
 from xaropinto.book_values import BookValues, Chain
-from xaropinto.layout import CHAINS, YEARS
+from xaropinto.layout import CHAINS, LAST_CLASS, YEARS
 
 SHIFTS = (-1, 0, 1)
 # Neighbours on each side that a value is compared with.
@@ -142,6 +142,16 @@ def expected_count(last: bytes, number: int, chain: Chain, at: int, years: int) 
     return cell.in_force[years] / BILLIONTHS
 
 
+def expected_by_class(last: bytes, years: int) -> list[float]:
+    """What is left of last year's contracts after so many years, by the class they then have."""
+    by_class = [0.0] * (LAST_CLASS + 1)
+    for number, chain in enumerate(answers.read(last).chains):
+        for at in range(len(chain.counts)):
+            expected = expected_count(last, number, chain, at, years)
+            by_class[min(LAST_CLASS, chain.first_class + at + years)] += expected
+    return by_class
+
+
 def curve_pieces(before: Chain, now: Chain, overall: Signal, years: int) -> list[Piece]:
     """The evidence of a chain's lapse, premium and claims."""
     pieces: list[Piece] = []
@@ -150,7 +160,7 @@ def curve_pieces(before: Chain, now: Chain, overall: Signal, years: int) -> list
                            ("claims", before.claims, now.claims)):
         evidence = evidence_of(curve_deviations(old, before.first_class),
                                curve_deviations(new, now.first_class), 0, CURVE_FLOOR)
-        # A premium by age at entry grows older with its people and tells nothing of the classes.
+        # A premium by age at entry grows older with its people and says nothing of the classes.
         moved = judge([(kind, evidence)]).shift
         by_entry = overall.errors < DOUBT or moved == overall.shift + years
         if kind != "premiums" or not by_entry:

@@ -17,7 +17,7 @@ from tests.support.report import run_unit_tests
 ACCEPTED, BROKEN = sample("worked_example"), sample("lapse_too_large")
 INPUT, OUT = "INPUT", "OUT"
 # The verbs that report warnings; and what those write first that answer on a refused book too.
-WARNING = ("check", "list", "page")
+WARNING = ("check", "list", "page", "compare")
 REFUSED_OUTPUT = {"check": f"{BROKEN}: refused 12 1232\n".encode(),
                   "record": b"not checked: the book is refused 12 1232\n"}
 
@@ -58,7 +58,8 @@ def all_verbs(folder):
         xaropinto("read", ACCEPTED, "-o", folder / name)
     (folder / "bad_sheets" / "curve.csv").write_text("year,rate_millionths\n")
     on_a_book = {
-        "check": (INPUT,), "list": (INPUT,), "years": (INPUT, "--setting", 0), "classes": (INPUT,), "beside": (INPUT,),
+        "check": (INPUT,), "list": (INPUT,), "years": (INPUT, "--setting", 0), "classes": (INPUT,),
+        "age-shift": (INPUT,), "compare": (INPUT, INPUT),
         "group": (INPUT, "--setting", 0, "--group", 2), "record": (INPUT, 1), "read": (INPUT, "-o", OUT),
         "cell": (INPUT, "--setting", 0, "--subgroup", "PG2", "--sex", "men", "--class", 118),
         "deviation": (INPUT, folder / "factors.csv"), "page": (INPUT, "-o", OUT), "split": (INPUT, "-o", OUT),

@@ -7,7 +7,7 @@ import traceback
 from types import FrameType
 from typing import Any, NoReturn, Optional, Sequence
 
-from xaropinto.cli import books, figures, portfolio, tools
+from xaropinto.cli import books, compare, figures, pages, portfolio, tools
 from xaropinto.cli.errors import DONE, INTERRUPTED, TERMINATED, TROUBLE, CommandError, StoppedError
 from xaropinto.cli.files import ENDING, STANDARD, note_inputs
 from xaropinto.cli.outcome import attempt, begin_run, end_run, report_error
@@ -28,10 +28,10 @@ PURPOSE = (
 )
 # The arguments that name what is read, where there is one, and what is written; all others that
 # name a file or folder are inputs.
-INPUTS = ("file", "folder", "sheets", "accounts", "table")
+INPUTS = ("file", "folder", "sheets", "accounts", "table", "this")
 OUTPUTS = ("out", "into")
 # The verbs whose answer is, or can be, comma-separated.
-SEPARATED = ("check", "years", "cell", "classes", "age-shift", "beside", "funds", "rates")
+SEPARATED = ("check", "years", "cell", "classes", "funds", "rates")
 
 
 class Parser(argparse.ArgumentParser):
@@ -51,7 +51,7 @@ def all_verbs() -> argparse.ArgumentParser:
     parser = Parser(prog="xaropinto", epilog=ENDS, description=PURPOSE)
     parser.add_argument("--version", action="version", version=f"xaropinto {VERSION}")
     verbs = parser.add_subparsers(metavar="VERB", dest="verb", required=True)
-    for module in (figures, portfolio, books, tools):
+    for module in (figures, portfolio, compare, pages, books, tools):
         module.add_verbs(verbs)
     for name, verb in verbs.choices.items():
         verb.add_argument(
