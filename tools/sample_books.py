@@ -12,10 +12,11 @@ from tests import ROOT
 from tests.cli.inputs import accounts_text, factors_text
 from tests.fixtures.insurers import MANY_PRODUCTS, dense_full_book, flat_values, insurer_book
 from tests.fixtures.age_basis_2 import on_basis_2
+from tests.fixtures.people import two_years
 
 FOLDER = ROOT / "samples"
-# A page of the command, which tests/cli holds.
-PAGE = "small_insurer.html"
+# Pages of the command, which tests/cli holds.
+PAGES = ["small_insurer.html", "compare_as_expected.html", "compare_one_too_high.html"]
 # The report program is run with a word: claims up, which moves a figure of the first sample.
 REPORTED_SETTING = 7
 
@@ -55,6 +56,9 @@ SAMPLES = [
     ("full", dense_full_book(2021), "accepted 1694"),
     ("lapse_too_large", refused_book(), "refused 12 1232"),
     ("newer_basis", on_basis_2(worked_book()), "refused 3 1"),
+    ("last_year", make_book(two_years()[0]), "accepted 490"),
+    ("this_year", make_book(two_years()[1]), "accepted 488"),
+    ("this_year_slipped", make_book(two_years(age_basis=2)[1]), "accepted 488"),
 ]
 
 
