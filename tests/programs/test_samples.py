@@ -6,7 +6,7 @@ from tests import ROOT
 from tests.support.case import Case
 from tests.support.program import verdict_lines
 from tests.support.report import run_unit_tests
-from tools.sample_books import FOLDER, PAGE, SAMPLES, all_files, files
+from tools.sample_books import FOLDER, PAGES, SAMPLES, all_files, files
 
 
 class Samples(Case):
@@ -19,7 +19,7 @@ class Samples(Case):
 
     def test_nothing_else_lies_beside_them(self):
         held = sorted(path.name for path in FOLDER.iterdir())
-        self.assertEqual(held, sorted([*files(), PAGE]))
+        self.assertEqual(held, sorted([*files(), *PAGES]))
 
     def test_verdicts(self):
         lines, code = verdict_lines([book for _, book, _ in SAMPLES])
