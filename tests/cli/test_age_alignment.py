@@ -72,7 +72,8 @@ def test_whole_records(report, pairs, seed):
                 sound.alarms() == (0, 0) and sound.verdicts[Verdict.AS_EXPECTED] > 0.9 * pairs)
     for by, seen in slips.items():
         found = seen.verdicts[OF_SLIP[by]]
-        report.test(f"slips by {by:+} are found: {seen.summary()}", 100 * found >= LEAST_FOUND * pairs)
+        report.test(f"slips by {by:+} are found: {seen.summary()}",
+                    100 * found >= LEAST_FOUND * pairs)
         report.test(f"no slip by {by:+} is called sound or the opposite",
                     found + seen.verdicts[Verdict.CANNOT_TELL] == pairs, seen.summary())
 
