@@ -99,7 +99,7 @@ CALLS = [
     script("warnings about a book", "tests.cli.test_plausibility", 19),
     script("a slip of the age class", "tests.cli.test_age_shift", 6),
     script("pages of books", "tests.cli.test_page", 10),
-    script("two years' books compared", "tests.cli.test_compare", 16),
+    script("two years' books compared", "tests.cli.test_compare", 18),
     script("age classes of two years, on seeded pairs", "tests.cli.test_age_alignment", 14),
     script("what is installed", "tests.cli.test_installed", 14),
     script("formatters and linters", "tests.repository.test_style", 9),

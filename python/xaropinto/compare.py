@@ -8,6 +8,7 @@ from xaropinto import answers
 from xaropinto.age_alignment import Alignment, Verdict, align
 from xaropinto.book_changes import BookChanges, changes_between
 from xaropinto.change_analysis import ChangeAnalysis, analyse_change
+from xaropinto.layout import YEARS
 from xaropinto.plausibility import Note, notes_of
 
 LINES = {
@@ -18,8 +19,8 @@ LINES = {
 }
 
 
-class YearsReversedError(ValueError):
-    """The second book is of an earlier SST year than the first."""
+class YearsError(ValueError):
+    """The second book is of an earlier SST year than the first, or of one that is too late."""
 
 
 @dataclass(frozen=True)
@@ -52,7 +53,10 @@ def compare(last: bytes, this: bytes, today: Optional[date] = None) -> Compariso
     """The comparison of two accepted books; `RefusedError` where one is not."""
     years = [answers.read(book).year for book in (last, this)]
     if years[1] < years[0]:
-        raise YearsReversedError(f"the first book is of SST year {years[0]}, the second of "
-                                 f"{years[1]}: last year's book comes first")
+        raise YearsError(f"the first book is of SST year {years[0]}, the second of {years[1]}: "
+                         "last year's book comes first")
+    if years[1] - years[0] >= YEARS:
+        raise YearsError(f"the books are of SST years {years[0]} and {years[1]}: no contract of "
+                         f"the first is projected over more than {YEARS - 1} years")
     return Comparison(years[0], years[1], align(last, this), analyse_change(last, this),
                       changes_between(last, this), notes_of(this, today))

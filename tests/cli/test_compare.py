@@ -8,9 +8,12 @@ import unittest
 import unittest.mock
 import xml.dom.minidom
 from dataclasses import replace
+from datetime import date
 from pathlib import Path
 
-from reference.book import Cell, Portfolio, make_book, random_values, read_values
+from reference.book import (Cell, Portfolio, Values, make_book, random_book, random_values,
+                            read_values)
+from reference.practice_book import practice_book
 from reference.valuation import totals
 from tests import ROOT
 from tests.cli.run import DONE, REFUSED, TROUBLE, sample, xaropinto
@@ -25,6 +28,9 @@ sys.path.insert(0, str(ROOT / "python"))
 from xaropinto import answers, calls  # noqa: E402
 from xaropinto.book_changes import changes_between  # noqa: E402
 from xaropinto.change_analysis import analyse_change  # noqa: E402
+from xaropinto.compare import compare  # noqa: E402
+from xaropinto.compare_page import Book, compare_page  # noqa: E402
+from xaropinto.page import Imprint  # noqa: E402
 
 STEPS = ["curve", "mortality", "cost rates", "lapse", "premiums and claims", "contracts"]
 PAIRS = 200
@@ -268,6 +274,29 @@ class Ends(unittest.TestCase):
         run = xaropinto("compare", sample("this_year"), sample("last_year"))
         self.assertEqual((run.code, run.out), (TROUBLE, b""))
         self.assertIn("last year's book comes first", run.told)
+
+    def test_books_too_far_apart(self):
+        last, this = two_years()
+        with tempfile.TemporaryDirectory() as folder:
+            path, page = Path(folder) / "later.book", Path(folder) / "page.html"
+            for year, code in ((2075, DONE), (2076, TROUBLE)):
+                path.write_bytes(make_book(replace(this, sst_year=year)))
+                run = xaropinto("compare", sample("last_year"), path, "-o", page)
+                self.assertEqual((last.sst_year, run.code), (2026, code))
+            self.assertIn("projected over more than 49 years", run.told)
+
+    def test_any_two_books(self):
+        chooser = random.Random(5)
+        books = [random_book(chooser, chooser.choice((0, 60, 110)), 6) for _ in range(12)]
+        books += [practice_book(3), make_book(Values())]
+        day = date.fromisoformat(DAY)
+        for last, this in zip(books, [*books[1:], books[0]]):
+            # Both of one SST year.
+            this = this[:2] + last[2:4] + this[4:]
+            page = compare_page(Book("last", last), Book("this", this), compare(last, this, day),
+                                Imprint(day))
+            pictures = xml.dom.minidom.parseString(page).getElementsByTagName("svg")
+            self.assertEqual([cut_off(svg) for svg in pictures], [[]] * len(pictures))
 
     def test_no_contracts(self):
         with tempfile.TemporaryDirectory() as folder:

@@ -10,7 +10,7 @@ from xaropinto.cli.notes import add_notes
 from xaropinto.cli.outcome import Fields, put, put_notes, report_refusal
 from xaropinto.cli.pages import add_insurer, imprint_of, name_of
 from xaropinto.cli.words import Verbs, add_parser
-from xaropinto.compare import Comparison, YearsReversedError, compare
+from xaropinto.compare import Comparison, YearsError, compare
 from xaropinto.compare_page import Book, compare_page
 from xaropinto.json_data import json_fields
 from xaropinto.layout import SETTINGS
@@ -41,7 +41,7 @@ def show_comparison(chosen: argparse.Namespace) -> int:
             return REFUSED
     try:
         comparison = compare(last.held, this.held, chosen.today)
-    except YearsReversedError as error:
+    except YearsError as error:
         raise CommandError(str(error)) from error
     if chosen.out:
         page = compare_page(last, this, comparison, imprint_of(chosen))
