@@ -188,11 +188,15 @@ class Commands(unittest.TestCase):
             cells = read_values(bytes(book)).portfolios[chain].cells
             lost += [cell.count for cell in cells if cell.count]
             book[8 + 2 * chain:10 + 2 * chain] = bytes(2)
-        run = xaropinto("check", "-", "--today", "2021-01-01", sent=bytes(book))
-        self.assertIn(f"accepted {315 - len(lost)}\n".encode(), run.out)
-        contracts = f"{sum(lost):,}".replace(",", "'")
-        self.assertIn(f"warning: {len(lost)} records with {contracts} contracts are in no chain\n",
-                      run.told)
+        words = (f"{len(lost)} records with {sum(lost):,} contracts are in no chain"
+                 .replace(",", "'"))
+        for verb, more in (("check", ()), ("list", ()), ("page", ("-o", "-"))):
+            run = xaropinto(verb, "-", "--today", "2021-01-01", *more, sent=bytes(book))
+            self.assertIn(f"warning: {words}\n", run.told)
+            if verb == "check":
+                self.assertIn(f"accepted {315 - len(lost)}\n".encode(), run.out)
+            if verb == "page":
+                self.assertIn(f"<li>{words} (unlinked-contracts)</li>".encode(), run.out)
 
     def test_nothing_unusual_is_strictly_done(self):
         with tempfile.TemporaryDirectory() as folder:
