@@ -90,10 +90,10 @@ class Alignment:
     overall: Finding
     chains: tuple[ChainFinding, ...]
 
-    def slipped(self) -> tuple[ChainFinding, ...]:
-        """Chains with a slip that the verdict over all does not say."""
-        return tuple(each for each in self.chains if each.finding.verdict in SLIPS
-                     and each.finding.verdict is not self.overall.verdict)
+    def differing(self) -> tuple[ChainFinding, ...]:
+        """Chains of which something else is said than over all."""
+        return tuple(each for each in self.chains if each.finding.verdict
+                     not in (Verdict.CANNOT_TELL, self.overall.verdict))
 
 
 def align(last: bytes, this: bytes) -> Alignment:

@@ -39,14 +39,14 @@ class Comparison:
         return f"Age classes: {LINES[self.alignment.overall.verdict]}"
 
     def exceptions(self) -> list[str]:
-        """A line for each chain with a slip that the verdict over all does not say."""
+        """A line for each chain of which something else is said than over all."""
         return [f"Age classes of {each.chain}: {each.finding.verdict.value}"
-                for each in self.alignment.slipped()]
+                for each in self.alignment.differing()]
 
     def is_clean(self) -> bool:
         """Whether the classes follow, no chain slipped and nothing is warned of."""
         return (self.alignment.overall.verdict is Verdict.AS_EXPECTED
-                and not self.alignment.slipped() and not self.notes)
+                and not self.alignment.differing() and not self.notes)
 
 
 def compare(last: bytes, this: bytes, today: Optional[date] = None) -> Comparison:

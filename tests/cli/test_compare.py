@@ -125,17 +125,19 @@ class Story(unittest.TestCase):
                 self.assertEqual([cut_off(svg) for svg in pictures], [[]] * 3)
                 self.assertIn(">billion francs<", text)
 
-    def test_one_chain_that_slipped_is_named(self):
-        last, this = two_years()
+    def test_a_chain_that_differs_is_named(self):
+        _, this = two_years()
+        others = set(this.portfolios) - {PG2_MEN}
         with tempfile.TemporaryDirectory() as folder:
-            paths = [Path(folder) / name for name in ("last", "this")]
-            for path, values in zip(paths, (last, slipped(this, 1, {PG2_MEN}))):
-                path.write_bytes(make_book(values))
-            run = xaropinto("compare", *paths, "--today", DAY, "--strict")
-            lines = run.out.decode().splitlines()
-            self.assertEqual(lines[:3], ["Age classes: as expected",
-                                         "Age classes of PG2 men: one too high", ""])
-            self.assertEqual(run.code, REFUSED)
+            path = Path(folder) / "this.book"
+            for chains, by, lines in (
+                    ({PG2_MEN}, 1, ["as expected", "of PG2 men: one too high"]),
+                    (others, -1, ["every class looks one too low", "of PG2 men: as expected"])):
+                path.write_bytes(make_book(slipped(this, by, chains)))
+                run = xaropinto("compare", sample("last_year"), path, "--today", DAY, "--strict")
+                self.assertEqual(run.out.decode().splitlines()[:3],
+                                 [f"Age classes: {lines[0]}", f"Age classes {lines[1]}", ""])
+                self.assertEqual(run.code, REFUSED)
 
     def test_json(self):
         run = xaropinto("compare", sample("last_year"), sample("this_year_slipped"), "--json",
