@@ -15,7 +15,7 @@ HEADER = ROOT / "include" / "xaropinto.h"
 NOTES = sorted(LANDINGS.glob("W-*.md"))
 # The greatest length of each document, in lines; None for those that grow with the product.
 MOST_LINES = {
-    README: 110, DOCS / "USER_GUIDE.md": 250, DOCS / "FILE_FORMAT.md": 250,
+    README: 110, DOCS / "USER_GUIDE.md": 250, DOCS / "SHEETS.md": 100, DOCS / "FILE_FORMAT.md": 250,
     DOCS / "METHOD.md": 250, DOCS / "WORKED_EXAMPLES.md": 350, ERROR_BOUND: 150, API: 250,
     VERIFICATION: 300, TRACEABILITY: None, DOCS / "ARCHITECTURE.md": 150, CONTRIBUTING: 200,
     DECISIONS: None, CHANGELOG: None, LANDINGS / "README.md": 50, **dict.fromkeys(NOTES, 30),

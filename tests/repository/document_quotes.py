@@ -14,6 +14,7 @@ from pathlib import Path
 
 from tests import ROOT
 from tests.repository.pages import PAGES, cells, found, lines, matches, text_of, texts
+from tests.support.openpyxl_path import openpyxl_folder
 
 sys.path.insert(0, str(ROOT / "python"))
 
@@ -21,8 +22,9 @@ from xaropinto.refusals import refusals  # noqa: E402
 
 MOST_SECONDS = 60
 # The commands of the documents, as scripts: the package's own, and make's recipe of `list`.
+PACKAGES = f"{ROOT}/python:{openpyxl_folder()}"
 STAND_INS = {
-    "xaropinto": f'PYTHONPATH={ROOT}/python exec {sys.executable} -m xaropinto "$@"',
+    "xaropinto": f'PYTHONPATH={PACKAGES} exec {sys.executable} -m xaropinto "$@"',
     "make": f'[ "$*" = list ] && exec {ROOT}/target/bin/listing_main < samples/one_record.book',
 }
 PROMPT = "    $ "

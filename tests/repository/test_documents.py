@@ -41,7 +41,7 @@ BREAKS = [
     (form.widths, API, "| n: linked records", f"| {LONG}"),
     (form.words, README, "**For whom.** Insurers", "**For whom.** The desks"),
     (form.words, METHOD, "how the other figures are defined", "how they are reckoned"),
-    (form.words, GUIDE, "compare the portfolio with your own counts", "look at your sheets"),
+    (form.words, GUIDE, "compare with your own counts, or with last year", "look at your sheets"),
     (form.words, VERIFICATION, "its buffers, and terminates", "what was lent, and ends"),
     (form.words, form.HEADER, "The caller owns every buffer.", "The caller owns what it lends."),
     (form.one_file, CHANGELOG, "Totals and Funds take less stack.", "Totals takes 64 KiB."),
