@@ -34,7 +34,8 @@
 #define XAROPINTO_SETTINGS 8
 #define XAROPINTO_PRODUCT_GROUPS 5
 /* The longest book. Read a file up to one byte more, to notice that it is too long. */
-#define XAROPINTO_LONGEST_BOOK (XAROPINTO_HEADER_BYTES + XAROPINTO_RECORD_BYTES * XAROPINTO_MOST_RECORDS)
+#define XAROPINTO_LONGEST_BOOK \
+    (XAROPINTO_HEADER_BYTES + XAROPINTO_RECORD_BYTES * XAROPINTO_MOST_RECORDS)
 
 /* Positions of fields in the header and in a record; sizes and ranges: docs/FILE_FORMAT.md. */
 #define XAROPINTO_EDITION_AT 0
@@ -229,8 +230,8 @@ xaropinto_verdict xaropinto_check(const uint8_t *book, size_t length);
  * after the cap, outgo, discounted premium, discounted outgo. Later numbers are unchanged.
  *
  * The distance of the liability from its exact, unrounded value is bounded: docs/ERROR_BOUND.md. */
-xaropinto_group_reply xaropinto_group(const uint8_t *book, size_t length, size_t setting, size_t group,
-                                      uint64_t *table, size_t numbers);
+xaropinto_group_reply xaropinto_group(const uint8_t *book, size_t length, size_t setting,
+                                      size_t group, uint64_t *table, size_t numbers);
 
 /* Totals: the liabilities of the five product groups added, in each of the eight settings.
  * Refusals: the book's. The distance of each total from its exact value is bounded:
@@ -241,7 +242,8 @@ xaropinto_totals_reply xaropinto_totals(const uint8_t *book, size_t length);
  * the book's, then 20 if `bytes`, the length of `out`, is less than the text's.
  *
  * XAROPINTO_MOST_LISTING_BYTES are always enough. Bytes after the text are unchanged. */
-xaropinto_report_reply xaropinto_listing(const uint8_t *book, size_t length, uint8_t *out, size_t bytes);
+xaropinto_report_reply xaropinto_listing(const uint8_t *book, size_t length, uint8_t *out,
+                                         size_t bytes);
 
 /* Record: the position of record `number`, counted from 1, linked or not. Refusals: the book's;
  * then 9 with place 0 if the number is 0 or above the number of records. */
@@ -257,7 +259,8 @@ xaropinto_cost_rates_reply xaropinto_cost_rates(xaropinto_accounts accounts);
  * The text is the line "group,year,premium,outgo" and 250 lines of these four numbers with commas
  * between: groups 1 to 5, in each the years 0 to 49, the premium after the cap. Byte 10 ends every
  * line. Bytes after the text are unchanged. */
-xaropinto_report_reply xaropinto_report(const uint8_t *book, size_t length, size_t setting, uint8_t *out, size_t bytes);
+xaropinto_report_reply xaropinto_report(const uint8_t *book, size_t length, size_t setting,
+                                        uint8_t *out, size_t bytes);
 
 /* Report length: that of the report of this book and setting, to the byte, at most
  * XAROPINTO_MOST_REPORT_BYTES. Nothing is written. Refusals 14, then the book's. */
@@ -279,18 +282,20 @@ xaropinto_verdict xaropinto_convert(const uint8_t *book, size_t length, uint8_t 
  * Each list holds the chains one after the other, in the order of the heads, by rising class: 121
  * less its first class numbers for a chain. 22 if a list is shorter or longer, or if `out` is
  * shorter than the book: 1,220 bytes and 24 for each record. Lists may be the same memory. */
-xaropinto_write_reply xaropinto_write(xaropinto_values values, const uint64_t *counts, size_t counts_length,
-                                      const uint64_t *lapses, size_t lapses_length, const uint64_t *premiums,
-                                      size_t premiums_length, const uint64_t *claims, size_t claims_length,
-                                      uint8_t *out, size_t room);
+xaropinto_write_reply xaropinto_write(xaropinto_values values, const uint64_t *counts,
+                                      size_t counts_length, const uint64_t *lapses,
+                                      size_t lapses_length, const uint64_t *premiums,
+                                      size_t premiums_length, const uint64_t *claims,
+                                      size_t claims_length, uint8_t *out, size_t room);
 
 /* Read: the values of a book, and its lists as Write takes them, without unlinked records.
  * Refusals: the book's; then 22 if a list has fewer numbers than the book has linked records.
  * XAROPINTO_MOST_RECORDS are always enough. Write makes the same bytes from what Read returns of a
  * book in order. Later numbers of a list are unchanged. */
-xaropinto_read_reply xaropinto_read(const uint8_t *book, size_t length, uint64_t *counts, size_t counts_length,
-                                    uint64_t *lapses, size_t lapses_length, uint64_t *premiums,
-                                    size_t premiums_length, uint64_t *claims, size_t claims_length);
+xaropinto_read_reply xaropinto_read(const uint8_t *book, size_t length, uint64_t *counts,
+                                    size_t counts_length, uint64_t *lapses, size_t lapses_length,
+                                    uint64_t *premiums, size_t premiums_length, uint64_t *claims,
+                                    size_t claims_length);
 
 /* Funds: two funds on the same tables. `table` is bytes 56 to 1,219 of a book; `first` and `second`
  * are each bytes 0 to 55 and the records. A fund's joined book is the first 56 bytes of its file,
@@ -302,9 +307,10 @@ xaropinto_read_reply xaropinto_read(const uint8_t *book, size_t length, uint64_t
  * book by setting if it is accepted, 8 to 15 those of the second. All others are unchanged, a
  * refused fund's among them. Neither file affects the other fund. The error bound is that of Totals
  * with the fund's n. The files may be the same memory. */
-xaropinto_funds_reply xaropinto_funds(const uint8_t *table, size_t table_length, const uint8_t *first,
-                                      size_t first_length, const uint8_t *second, size_t second_length,
-                                      int64_t *numbers, size_t count);
+xaropinto_funds_reply xaropinto_funds(const uint8_t *table, size_t table_length,
+                                      const uint8_t *first, size_t first_length,
+                                      const uint8_t *second, size_t second_length, int64_t *numbers,
+                                      size_t count);
 
 /* In force: the contracts of one cell in force, year by year. Refusals 14; 25 (code, sex, or less
  * than XAROPINTO_IN_FORCE_NUMBERS numbers); the book's; 26 (the chain has no such class).
@@ -312,8 +318,9 @@ xaropinto_funds_reply xaropinto_funds(const uint8_t *table, size_t table_length,
  * The cell is the linked record of a subgroup code (1 to 7), a sex (0 men, 1 women) and a class;
  * `numbers` is the length of `out`. The first 50 numbers become what is in force at k = 0 to 49 in
  * the setting, in billionths of a contract. Later numbers are unchanged. */
-xaropinto_in_force_reply xaropinto_in_force(const uint8_t *book, size_t length, size_t setting, size_t code, size_t sex,
-                                            size_t age_class, uint64_t *out, size_t numbers);
+xaropinto_in_force_reply xaropinto_in_force(const uint8_t *book, size_t length, size_t setting,
+                                            size_t code, size_t sex, size_t age_class,
+                                            uint64_t *out, size_t numbers);
 
 /* Spread: mean and coefficient of variation of yearly claims, from their summary and the sample
  * factors xi and eta. Refusals 27, 28, with place 0, both before level.
@@ -333,7 +340,8 @@ xaropinto_spread_reply xaropinto_spread(xaropinto_summary claims, double xi, dou
  * span (400, 600, 400, 50); both divisions round towards zero. The factors' quadratic form with the
  * correlation is divided by 1,000, rounded down; the deviation is the largest whole number whose
  * square is at most that. */
-xaropinto_deviation_reply xaropinto_deviation(const uint8_t *book, size_t length, xaropinto_risk_model model);
+xaropinto_deviation_reply xaropinto_deviation(const uint8_t *book, size_t length,
+                                              xaropinto_risk_model model);
 
 /* Practice: a book without any insurer's data, from a start number, into the first bytes of `out`,
  * which has `room` bytes. Refusals 16 if that is less than XAROPINTO_LONGEST_BOOK, then 32 for

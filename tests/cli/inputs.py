@@ -47,9 +47,9 @@ def accounts_text(accounts=ACCOUNTS):
     lines = ["year,group,expenses_francs,stock_contracts,claims_francs,premium_francs"]
     for year in range(3):
         for at, name in enumerate(GROUPS):
-            told = expenses[year] if at == 0 else ""
+            expense = expenses[year] if at == 0 else ""
             lines.append(
-                f"{year + 1},{name},{told},{stock[year][at]},{claims[year][at]},{premium[year][at]}"
+                f"{year + 1},{name},{expense},{stock[year][at]},{claims[year][at]},{premium[year][at]}"
             )
     return "\n".join(lines) + "\n"
 

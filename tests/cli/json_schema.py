@@ -1,4 +1,4 @@
-"""A document held against a JSON schema: the part of the language that ours is written in."""
+"""A document checked by a JSON schema: the part of the language that ours is written in."""
 
 import re
 

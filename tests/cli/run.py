@@ -1,4 +1,4 @@
-"""The command, run by its words: what it wrote, what it told, and its exit code."""
+"""The command, run by its words: what it wrote, its errors, and its exit code."""
 
 import os
 import subprocess
@@ -17,7 +17,7 @@ class Run(NamedTuple):
 
     code: int
     out: bytes
-    told: str
+    errors: str
 
 
 def surroundings(**more):
@@ -38,6 +38,6 @@ def sample(name):
     return SAMPLES / f"{name}.book"
 
 
-def without_warnings(told):
+def without_warnings(errors):
     """The lines on standard error that are no warnings."""
-    return [line for line in told.splitlines() if "warning: " not in line]
+    return [line for line in errors.splitlines() if "warning: " not in line]

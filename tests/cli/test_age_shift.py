@@ -57,7 +57,7 @@ class AgeShift(unittest.TestCase):
     def answer(self, path):
         """The text, and its two blocks."""
         run = xaropinto("age-shift", path)
-        self.assertEqual((run.code, run.told), (DONE, ""))
+        self.assertEqual((run.code, run.errors), (DONE, ""))
         return run.out.decode(), rows_of(run.out.decode())
 
     def test_both_blocks(self):

@@ -67,8 +67,8 @@ class Verdicts(unittest.TestCase):
             ],
         )
         self.assertEqual(run.code, TROUBLE)
-        self.assertEqual(run.told.count("lapse at byte 1,232 is 1,000,001"), 2)
-        self.assertIn("xaropinto: /nowhere: No such file", run.told)
+        self.assertEqual(run.errors.count("lapse at byte 1,232 is 1,000,001"), 2)
+        self.assertIn("xaropinto: /nowhere: No such file", run.errors)
 
     def test_unlinked_records_with_contracts(self):
         lost = [chain for chain in range(len(CHAINS)) if CHAINS[chain].head.read(INSURER)][:2]
@@ -81,13 +81,13 @@ class Verdicts(unittest.TestCase):
         n, by_setting = totals(book)[2:4]
         run = xaropinto("check", "-", sent=book)
         self.assertEqual((run.code, run.out.decode().splitlines()[0]), (DONE, f"-: accepted {n}"))
-        self.assertIn(f"-: warning: {words}\n", run.told)
+        self.assertIn(f"-: warning: {words}\n", run.errors)
         run = xaropinto("list", "-", sent=book)
         self.assertEqual(
             (run.code, run.out.decode().splitlines()[0]), (DONE, f"0 {by_setting[0]} {n}")
         )
-        self.assertIn(words, run.told)
-        self.assertNotIn("in no chain", xaropinto("list", sample("worked_example")).told)
+        self.assertIn(words, run.errors)
+        self.assertNotIn("in no chain", xaropinto("list", sample("worked_example")).errors)
         self.assertEqual(xaropinto("list", "-", "--strict", sent=book).code, REFUSED)
 
     def test_product_groups(self):
@@ -198,7 +198,7 @@ class AllFaults(unittest.TestCase):
             lines[2].startswith("-: 6 36: cost rate of PG1 at byte 36 is 1,000,001"), lines[2]
         )
         self.assertEqual((run.code, lines[3]), (REFUSED, f"{ACCEPTED}: accepted 3"))
-        self.assertIn("-: 2 faults; each after the first is one of a copy", run.told)
+        self.assertIn("-: 2 faults; each after the first is one of a copy", run.errors)
         self.assertEqual(xaropinto("check", "--csv", ACCEPTED).code, TROUBLE)
 
     def test_random_damage(self):
@@ -235,7 +235,7 @@ class Records(unittest.TestCase):
         book = BROKEN.read_bytes()
         self.assertEqual(lines[1], f"bytes {book[held.code.offset:held.code.offset + 24].hex(' ')}")
         self.assertIn("lapse 1000001", lines)
-        self.assertIn("refused 12 1232", run.told)
+        self.assertIn("refused 12 1232", run.errors)
 
     def test_not_in_the_file(self):
         for number in (0, 2, 2**63):
@@ -264,7 +264,7 @@ class OneSpelling(unittest.TestCase):
     def test_years_and_ranges(self):
         for year in (2016, 2101, 9_999):
             run = xaropinto("check", "-", sent=changed(INSURER, (SST_YEAR, year)))
-            self.assertIn(f"SST year at byte 2 is {year}; it must be 2017 to 2100;", run.told)
+            self.assertIn(f"SST year at byte 2 is {year}; it must be 2017 to 2100;", run.errors)
         with tempfile.TemporaryDirectory() as folder:
             sheets = Path(folder) / "sheets"
             self.assertEqual(xaropinto("read", ACCEPTED, "-o", sheets).code, DONE)
@@ -278,9 +278,9 @@ class OneSpelling(unittest.TestCase):
                 header.write_text(text.replace(old, new), encoding="utf-8")
                 run = xaropinto("write", sheets, "-o", Path(folder) / "book")
                 self.assertEqual(run.code, REFUSED)
-                self.assertIn(rule, run.told)
-                self.assertNotIn("0 to 0", run.told)
-                self.assertNotIn("2,0", run.told)
+                self.assertIn(rule, run.errors)
+                self.assertNotIn("0 to 0", run.errors)
+                self.assertNotIn("2,0", run.errors)
 
 
 class Help(unittest.TestCase):

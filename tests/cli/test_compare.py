@@ -85,14 +85,14 @@ class Story(unittest.TestCase):
 
     def test_the_slipped_book_is_accepted_and_compare_says_so(self):
         check = xaropinto("check", sample("this_year_slipped"), "--today", DAY, "--strict")
-        self.assertEqual((check.code, check.told), (DONE, ""))
+        self.assertEqual((check.code, check.errors), (DONE, ""))
         self.assertIn(b": accepted 488\n", check.out)
         for name, verdict, code in (
                 ("this_year_slipped",
                  "Age classes: every class looks one too high (is this book on age basis 2?)",
                  REFUSED), ("this_year", "Age classes: as expected", DONE)):
             run = xaropinto("compare", sample("last_year"), sample(name), "--today", DAY)
-            self.assertEqual((run.code, run.told), (DONE, ""))
+            self.assertEqual((run.code, run.errors), (DONE, ""))
             self.assertEqual(run.out.decode().splitlines()[:2], [verdict, ""])
             strict = xaropinto("compare", sample("last_year"), sample(name), "--today", DAY,
                                "--strict")
@@ -270,12 +270,12 @@ class Ends(unittest.TestCase):
         for pair in ((broken, sample("this_year")), (sample("last_year"), broken)):
             run = xaropinto("compare", *pair)
             self.assertEqual((run.code, run.out), (REFUSED, b""))
-            self.assertIn(f"{broken}: refused 12 1232\n", run.told)
+            self.assertIn(f"{broken}: refused 12 1232\n", run.errors)
 
     def test_books_in_the_wrong_order(self):
         run = xaropinto("compare", sample("this_year"), sample("last_year"))
         self.assertEqual((run.code, run.out), (TROUBLE, b""))
-        self.assertIn("last year's book comes first", run.told)
+        self.assertIn("last year's book comes first", run.errors)
 
     def test_books_too_far_apart(self):
         last, this = two_years()
@@ -285,7 +285,7 @@ class Ends(unittest.TestCase):
                 path.write_bytes(make_book(replace(this, sst_year=year)))
                 run = xaropinto("compare", sample("last_year"), path, "-o", page)
                 self.assertEqual((last.sst_year, run.code), (2026, code))
-            self.assertIn("projected over more than 49 years", run.told)
+            self.assertIn("projected over more than 49 years", run.errors)
 
     def test_any_two_books(self):
         chooser = random.Random(5)
@@ -306,7 +306,7 @@ class Ends(unittest.TestCase):
             empty.write_bytes(make_book(replace(two_years()[1], portfolios={})))
             for pair in ((empty, empty), (sample("last_year"), empty)):
                 run = xaropinto("compare", *pair, "-o", page, "--today", DAY)
-                self.assertEqual((run.code, run.told), (DONE, ""))
+                self.assertEqual((run.code, run.errors), (DONE, ""))
                 self.assertTrue(run.out.startswith(b"Age classes: cannot tell\n"))
                 xml.dom.minidom.parseString(page.read_text(encoding="utf-8"))
 

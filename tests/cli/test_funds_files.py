@@ -67,11 +67,11 @@ class Refused(Files):
             (self.folder / name).write_bytes(held)
         run = xaropinto("funds", *(self.folder / name for name in ("table", "first", "second")))
         self.assertEqual(run.code, REFUSED)
-        return run.told.replace(f"{self.folder}/", "")
+        return run.errors.replace(f"{self.folder}/", "")
 
     def test_a_record(self):
         bad = changed(BOOK, (record(1).amounts[1], 1_000_001))
-        told = self.told(TABLE, bad[:FRONT_BYTES] + bad[FRONT_BYTES + TABLE_BYTES:])
+        told = self.errors(TABLE, bad[:FRONT_BYTES] + bad[FRONT_BYTES + TABLE_BYTES:])
         self.assertIn("first: refused 12 68\n", told)
         self.assertIn("lapse at byte 68 of the fund file is 1,000,001", told)
         self.assertNotIn("1,232", told)
@@ -79,10 +79,10 @@ class Refused(Files):
     def test_header_and_chain(self):
         self.assertIn(
             "first: refused 4 2\nfirst: SST year at byte 2 of the fund file is 2016",
-            self.told(TABLE, FUND[:2] + (2016).to_bytes(2, "little") + FUND[4:]),
+            self.errors(TABLE, FUND[:2] + (2016).to_bytes(2, "little") + FUND[4:]),
         )
         # The head of PG1a men leads to PG2's record.
-        told = self.told(TABLE, FUND[:8] + b"\1\0" + FUND[10:])
+        told = self.errors(TABLE, FUND[:8] + b"\1\0" + FUND[10:])
         self.assertIn("first: refused 10 56\n", told)
         self.assertIn(
             "head of PG1a men at byte 8 of the fund file leads here; subgroup code at byte 56 of "
@@ -91,33 +91,33 @@ class Refused(Files):
         )
 
     def test_the_table_file(self):
-        told = self.told(TABLE[:196] + (1_000_001).to_bytes(4, "little") + TABLE[200:], FUND)
+        told = self.errors(TABLE[:196] + (1_000_001).to_bytes(4, "little") + TABLE[200:], FUND)
         self.assertEqual(told.count("refused 8 196"), 1)
         self.assertIn(
             "table: refused 8 196\ntable: mortality of men, class 0 at byte 196 of the table file",
             told,
         )
         for held, length in ((TABLE[:-1], "1,163"), (BOOK, f"{len(BOOK):,}"), (b"", "0")):
-            told = self.told(held, FUND)
+            told = self.errors(held, FUND)
             self.assertEqual(told.count("table: refused 24 0\n"), 1)
             self.assertIn(f"table: the table file has {length} bytes", told)
 
     def test_lengths(self):
-        told = self.told(TABLE, FUND + b"\0")
+        told = self.errors(TABLE, FUND + b"\0")
         self.assertIn(
             f"first: refused 5 {len(FUND) + 1}\nfirst: the fund file has {len(FUND) + 1} bytes, "
             f"and its 3 records ask for {len(FUND)};",
             told,
         )
         self.assertIn("rule: the length of a fund file is 56 bytes and 24 for each record", told)
-        told = self.told(TABLE, FUND, FUND[:55])
+        told = self.errors(TABLE, FUND, FUND[:55])
         self.assertIn(
             "second: refused 1 55\nsecond: the fund file has 55 bytes; rule: a fund file has at "
             "least 56 bytes",
             told,
         )
         self.assertIn(
-            "no fund file at all: it looks like a PDF", self.told(TABLE, b"%PDF" + FUND[4:40])
+            "no fund file at all: it looks like a PDF", self.errors(TABLE, b"%PDF" + FUND[4:40])
         )
 
 

@@ -11,7 +11,7 @@ import unittest
 from pathlib import Path
 
 from tests import ROOT
-from tests.cli.run import sample, without_warnings
+from tests.cli.run import sample, without_warnings, xaropinto
 from tests.support.debian import install
 from tests.support.report import run_unit_tests
 

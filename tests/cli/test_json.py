@@ -30,7 +30,7 @@ class Documents(unittest.TestCase):
     def document(self, *words, code=DONE, sent=b""):
         """What the command prints, once it is as the schema says."""
         run = xaropinto(*words, "--json", sent=sent)
-        self.assertEqual(run.code, code, run.told)
+        self.assertEqual(run.code, code, run.errors)
         found = json.loads(run.out)
         self.assertEqual(faults_of(found, SCHEMA), [])
         self.assertEqual((found["verb"], found["exit"]), (words[0], code))

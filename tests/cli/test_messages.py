@@ -30,10 +30,10 @@ class OfABook(unittest.TestCase):
         more = ("-o", "/dev/null") if verb == "convert" else ()
         run = xaropinto(verb, "-", *more, sent=book)
         self.assertEqual(run.code, REFUSED)
-        self.assertIn(f"refused {refusal}\n", run.out.decode() if verb == "check" else run.told)
+        self.assertIn(f"refused {refusal}\n", run.out.decode() if verb == "check" else run.errors)
         for words in told:
-            self.assertIn(words, run.told)
-        return run.told
+            self.assertIn(words, run.errors)
+        return run.errors
 
     def test_head_into_another_chain(self):
         for head, name, byte, words in (
@@ -187,10 +187,10 @@ class OfABook(unittest.TestCase):
 
     def test_record(self):
         run = xaropinto("record", sample("worked_example"), 4)
-        self.assertIn("refused 9 0\n", run.told)
+        self.assertIn("refused 9 0\n", run.errors)
         self.assertIn(
             "rule: the number of a record is 1 to the book's number of records; owner: the caller",
-            run.told,
+            run.errors,
         )
 
 
@@ -212,10 +212,10 @@ class OfASheet(unittest.TestCase):
         )
         run = xaropinto(*line)
         self.assertEqual((run.code, run.out), (REFUSED, b""))
-        self.assertIn(f"refused {number} 0\n", run.told)
+        self.assertIn(f"refused {number} 0\n", run.errors)
         for each in words:
-            self.assertIn(each, run.told)
-        return run.told
+            self.assertIn(each, run.errors)
+        return run.errors
 
     def accounts(self, **put):
         """The accounts with some figures changed: kind_year_group."""
@@ -317,7 +317,7 @@ class OfASheet(unittest.TestCase):
             ("factors.csv", ("deviation", sample("small_insurer"), SAMPLES / "factors.csv")),
         ):
             run = xaropinto(*line)
-            self.assertEqual((name, run.code, run.told), (name, 0, ""))
+            self.assertEqual((name, run.code, run.errors), (name, 0, ""))
 
 
 if __name__ == "__main__":

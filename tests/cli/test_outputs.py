@@ -91,7 +91,7 @@ class Inputs(InAFolder):
                 with self.subTest(verb=name, out=out):
                     run = xaropinto(name, book, *words, "-o", out)
                     self.assertEqual((run.code, run.out), (TROUBLE, b""))
-                    self.assertIn("this is an input", run.told)
+                    self.assertIn("this is an input", run.errors)
                     self.assertEqual(book.read_bytes(), good.read_bytes())
                     self.assertTrue(symbolic.is_symlink() and hard.samefile(book))
 
@@ -115,7 +115,7 @@ class Folders(InAFolder):
         held = {name: (sheets / name).read_bytes() for name in self.names(sheets)}
         run = xaropinto("read", sample("small_insurer"), "-o", sheets)
         self.assertEqual((run.code, run.out), (TROUBLE, b""))
-        self.assertIn("--replace", run.told)
+        self.assertIn("--replace", run.errors)
         (sheets / "mine.txt").write_text("mine")
         self.assertEqual(
             xaropinto("read", sample("small_insurer"), "-o", sheets, "--replace").code, TROUBLE
@@ -151,7 +151,7 @@ class Many(InAFolder):
             with self.subTest(words=words):
                 run = xaropinto(*words, ACCEPTED, BROKEN, sample("small_insurer"), "--folder", out)
                 self.assertEqual((run.code, run.out), (REFUSED, b""))
-                self.assertIn(f"{BROKEN}: refused 12 1232\n", run.told)
+                self.assertIn(f"{BROKEN}: refused 12 1232\n", run.errors)
                 for name in ("worked_example", "small_insurer"):
                     one = self.folder / "one"
                     self.assertEqual(xaropinto(*words, sample(name), "-o", one).code, DONE)
@@ -181,7 +181,7 @@ class Many(InAFolder):
         old.write_text("old")
         run = xaropinto("list", BROKEN, "--folder", self.folder)
         self.assertEqual((run.code, old.read_text()), (REFUSED, "old"))
-        self.assertIn(f"{old}: of an earlier run", run.told)
+        self.assertIn(f"{old}: of an earlier run", run.errors)
 
 
 class Ending(InAFolder):

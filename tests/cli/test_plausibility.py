@@ -177,7 +177,7 @@ class Commands(unittest.TestCase):
                 for strict, code in (((), DONE), (("--strict",), REFUSED)):
                     run = xaropinto(verb, path, "--today", "2026-11-17", *more, *strict)
                     prefix = f"{path}: " if verb == "check" else ""
-                    self.assertEqual((run.code, run.told.splitlines()),
+                    self.assertEqual((run.code, run.errors.splitlines()),
                                      (code, [prefix + line for line in due]))
             text = page.read_text(encoding="utf-8")
             self.assertIn("<li>SST year 2021; today is 2026-11-17 (sst-year)</li>", text)
@@ -192,7 +192,7 @@ class Commands(unittest.TestCase):
                  .replace(",", "'"))
         for verb, more in (("check", ()), ("list", ()), ("page", ("-o", "-"))):
             run = xaropinto(verb, "-", "--today", "2021-01-01", *more, sent=bytes(book))
-            self.assertIn(f"warning: {words}\n", run.told)
+            self.assertIn(f"warning: {words}\n", run.errors)
             if verb == "check":
                 self.assertIn(f"accepted {315 - len(lost)}\n".encode(), run.out)
             if verb == "page":
@@ -203,7 +203,7 @@ class Commands(unittest.TestCase):
             path = Path(folder) / "plain.book"
             path.write_bytes(make_book(plain_values()))
             run = xaropinto("list", path, "--strict", "--today", "2026-11-17")
-            self.assertEqual((run.code, run.told), (DONE, ""))
+            self.assertEqual((run.code, run.errors), (DONE, ""))
             run = xaropinto("list", path, "--strict", "--today", "2030-01-01")
             self.assertEqual(run.code, REFUSED)
 

@@ -103,7 +103,7 @@ class Sheets(unittest.TestCase):
     def accept(self, sheets, due=BOOK):
         """The sheets are those of a book."""
         run = self.write(sheets)
-        self.assertEqual((run.code, run.told), (DONE, ""))
+        self.assertEqual((run.code, run.errors), (DONE, ""))
         self.assertEqual(self.out.read_bytes(), due)
 
     def refuse(self, file, old, new, *told):
@@ -112,7 +112,7 @@ class Sheets(unittest.TestCase):
         run = self.write({**PLAIN, file: PLAIN[file].replace(old, new, 1)})
         self.assertEqual((run.code, run.out), (REFUSED, b""))
         for words in told:
-            self.assertIn(words, run.told)
+            self.assertIn(words, run.errors)
         self.assertFalse(self.out.exists())
 
 
@@ -152,14 +152,14 @@ class Saved(Sheets):
             **PLAIN,
             "curve.csv": "sep=,\n" + PLAIN["curve.csv"].replace("\n2,-5000", "\n2,x"),
         }
-        self.assertIn("curve.csv, line 4, column rate_millionths: 'x'", self.write(sheets).told)
+        self.assertIn("curve.csv, line 4, column rate_millionths: 'x'", self.write(sheets).errors)
 
     def test_not_text(self):
         for held in ("edition".encode("utf-16-le"), b"field,value\nedition,\x81\n", b"\xff\xfea"):
             run = self.write({**PLAIN, "header.csv": held})
             self.assertEqual(run.code, REFUSED)
-            self.assertIn("refused: header.csv, line ", run.told)
-        self.assertIn("separator", self.write({**PLAIN, "header.csv": "sep=|\nfield|value\n"}).told)
+            self.assertIn("refused: header.csv, line ", run.errors)
+        self.assertIn("separator", self.write({**PLAIN, "header.csv": "sep=|\nfield|value\n"}).errors)
 
 
 class Numbers(Sheets):
@@ -183,7 +183,7 @@ class Numbers(Sheets):
             self.assertEqual(run.code, REFUSED)
             self.assertIn(
                 f"{sheet}, line 2, column {column}: '{new}'; this is no whole number of {base}",
-                run.told,
+                run.errors,
             )
 
     def test_range_in_the_unit(self):
@@ -192,7 +192,7 @@ class Numbers(Sheets):
             {**sheets, "portfolio.csv": sheets["portfolio.csv"].replace("7.0001", "100.0001")}
         )
         self.assertIn(
-            "column lapse_percent: '100.0001'; a number from 0 to 100 percent is due", run.told
+            "column lapse_percent: '100.0001'; a number from 0 to 100 percent is due", run.errors
         )
 
     def test_two_readings(self):
@@ -210,8 +210,8 @@ class Numbers(Sheets):
                 {**sheets, "portfolio.csv": sheets["portfolio.csv"].replace("7.0001", word)}
             )
             self.assertEqual(run.code, REFUSED)
-            self.assertIn("portfolio.csv, line 2, column lapse_percent: ", run.told)
-            self.assertIn("read in two ways", run.told)
+            self.assertIn("portfolio.csv, line 2, column lapse_percent: ", run.errors)
+            self.assertIn("read in two ways", run.errors)
 
     def test_no_number(self):
         for word in (
@@ -284,12 +284,12 @@ class AgeBasis(Sheets):
         self.assertIn(
             "column class: '0'; a whole number from 1 to 121 is due: on age basis 2 a class is "
             "SST year - birth year",
-            run.told,
+            run.errors,
         )
         self.refuse("portfolio.csv", "men,120", "men,121", "column class: '121'", "age_basis is 2")
         sheets["portfolio.csv"] = sheets["portfolio.csv"].replace("men,121", "women,121")
         self.assertIn(
-            "class 121 of this chain is missing; a chain goes up to 121", self.write(sheets).told
+            "class 121 of this chain is missing; a chain goes up to 121", self.write(sheets).errors
         )
 
     def test_no_other_basis(self):
@@ -299,7 +299,7 @@ class AgeBasis(Sheets):
 
     def test_refused_book_names_the_converter(self):
         run = xaropinto("check", sample("newer_basis"))
-        self.assertIn("age basis at byte 1 is 2; it must be 1; `xaropinto convert` turns", run.told)
+        self.assertIn("age basis at byte 1 is 2; it must be 1; `xaropinto convert` turns", run.errors)
 
 
 class Folders(Sheets):
@@ -322,7 +322,7 @@ class Folders(Sheets):
         before = self.held()
         run = self.read()
         self.assertEqual((run.code, self.held()), (TROUBLE, before))
-        self.assertIn("--replace", run.told)
+        self.assertIn("--replace", run.errors)
         self.assertEqual(self.read("--replace").code, DONE)
         self.assertEqual(
             {name: text.decode() for name, text in self.held().items()},
@@ -339,7 +339,7 @@ class Folders(Sheets):
         (self.target / "mine.txt").write_bytes(b"mine")
         run = self.read("--replace")
         self.assertEqual((run.code, self.held()), (TROUBLE, {"mine.txt": b"mine"}))
-        self.assertIn("mine.txt", run.told)
+        self.assertIn("mine.txt", run.errors)
 
     def test_none_where_one_fails(self):
         for before in (False, True):

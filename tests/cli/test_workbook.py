@@ -58,9 +58,9 @@ class Workbooks(unittest.TestCase):
     def refused(self, change, *told):
         """A changed workbook is refused in these words."""
         run = self.changed(change)
-        self.assertEqual((run.code, run.out), (REFUSED, b""), run.told)
+        self.assertEqual((run.code, run.out), (REFUSED, b""), run.errors)
         for words in told:
-            self.assertIn(words, run.told)
+            self.assertIn(words, run.errors)
         self.assertFalse(self.book.exists())
 
 
@@ -99,7 +99,7 @@ class ThereAndBack(Workbooks):
             book.move_sheet("portfolio", -4)
 
         run = self.changed(change)
-        self.assertEqual((run.code, run.told), (DONE, ""))
+        self.assertEqual((run.code, run.errors), (DONE, ""))
         self.assertEqual(self.book.read_bytes(), sample("worked_example").read_bytes())
 
 
@@ -150,11 +150,11 @@ class Refused(Workbooks):
         ):
             self.workbook.write_bytes(held)
             run = self.run_verb("write", self.workbook, "-o", self.book)
-            self.assertEqual((run.code, run.out, run.told.count("\n")), (TROUBLE, b"", 1), run.told)
-            self.assertIn("book.xlsx: no workbook", run.told)
+            self.assertEqual((run.code, run.out, run.errors.count("\n")), (TROUBLE, b"", 1), run.errors)
+            self.assertIn("book.xlsx: no workbook", run.errors)
         run = self.run_verb("write", sample("worked_example"), "-o", self.book)
         self.assertEqual(run.code, TROUBLE)
-        self.assertIn("neither a folder nor a workbook", run.told)
+        self.assertIn("neither a folder nor a workbook", run.errors)
 
     def test_too_long_when_unpacked(self):
         held = io.BytesIO()
@@ -163,7 +163,7 @@ class Refused(Workbooks):
         self.workbook.write_bytes(held.getvalue())
         run = self.run_verb("write", self.workbook, "-o", self.book)
         self.assertEqual(run.code, TROUBLE)
-        self.assertIn("when it is unpacked", run.told)
+        self.assertIn("when it is unpacked", run.errors)
 
 
 class WithoutOpenpyxl(Workbooks):
@@ -180,9 +180,9 @@ class WithoutOpenpyxl(Workbooks):
             ("write", self.workbook, "-o", self.book),
         ):
             run = xaropinto(*words, env=env)
-            self.assertEqual((run.code, run.out, run.told.count("\n")), (TROUBLE, b"", 1))
-            self.assertIn("pip install 'xaropinto[xlsx]'", run.told)
-            self.assertIn("python3-openpyxl", run.told)
+            self.assertEqual((run.code, run.out, run.errors.count("\n")), (TROUBLE, b"", 1))
+            self.assertIn("pip install 'xaropinto[xlsx]'", run.errors)
+            self.assertIn("python3-openpyxl", run.errors)
             self.assertFalse(Path(words[-1]).exists())
 
 

@@ -1,4 +1,4 @@
-"""Tests of the built convert program: what it writes where, and what docs/FILE_FORMAT shows of it."""
+"""Tests of the built convert program: what it writes, and what docs/FILE_FORMAT shows of it."""
 
 import random
 import sys

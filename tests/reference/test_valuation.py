@@ -229,7 +229,8 @@ class Steps(unittest.TestCase):
             self.assertEqual(year(book, k), (0, contracts // 100) * 2)
 
     def test_years_in_force_of_the_worked_example(self):
-        # The table of docs/WORKED_EXAMPLES.md: the first year with nothing in force, for settings 0 to 4.
+        # The table of docs/WORKED_EXAMPLES.md: the first year with nothing in force, for each of
+        # the settings 0 to 4.
         values = read_values((ROOT / "samples" / "worked_example.book").read_bytes())
         worked = ((10, 9, 8), (3, 2, 1), (11, 10, 10), (9, 8, 7), (11, 10, 9))
         for setting, ends in enumerate(worked):

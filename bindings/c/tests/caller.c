@@ -1247,8 +1247,8 @@ static int spread_refused(xaropinto_summary claims, double xi, double eta, uint6
     return memcmp(&reply, &due, sizeof due) == 0;
 }
 
-/* The example of docs/WORKED_EXAMPLES.md; 1,600 / 8, and half of 400 / 2 and 200 / 4, which is 125; half
- * of 1 x 1,024 over 1 / 8. */
+/* The example of docs/WORKED_EXAMPLES.md; 1,600 / 8, and half of 400 / 2 and 200 / 4, which is 125;
+ * half of 1 x 1,024 over 1 / 8. */
 static void test_spread(void)
 {
     xaropinto_summary worked = {152340, 158910, 163275, 169480, 181205},
