@@ -21,7 +21,7 @@ sys.path.insert(0, str(ROOT / "python"))
 from xaropinto.plausibility import RULES, Note, notes_of  # noqa: E402
 
 TODAY = date(2026, 11, 17)
-GUIDE = ROOT / "docs" / "USER_GUIDE-compare.part.md"
+GUIDES = sorted((ROOT / "docs").glob("USER_GUIDE*.md"))
 PG2_MEN, PG2_WOMEN = 6, 7
 PLAIN = Cell(10, 50_000, 200_000, 150_000)
 
@@ -154,7 +154,7 @@ class Thresholds(unittest.TestCase):
         self.assertEqual(names_of(replace(plain_values(), portfolios={})), [])
 
     def test_every_rule_is_tried_here_and_in_the_guide(self):
-        guide = GUIDE.read_text(encoding="utf-8")
+        guide = "".join(path.read_text(encoding="utf-8") for path in GUIDES)
         for rule in RULES:
             self.assertTrue(hasattr(self, f"test_{rule.name.replace('-', '_')}"), rule.name)
             self.assertIn(f"| `{rule.name}` | {rule.threshold} | {rule.reason} |", guide)
