@@ -49,7 +49,8 @@ def accounts_text(accounts=ACCOUNTS):
         for at, name in enumerate(GROUPS):
             expense = expenses[year] if at == 0 else ""
             lines.append(
-                f"{year + 1},{name},{expense},{stock[year][at]},{claims[year][at]},{premium[year][at]}"
+                f"{year + 1},{name},{expense},{stock[year][at]},{claims[year][at]},"
+                f"{premium[year][at]}"
             )
     return "\n".join(lines) + "\n"
 

@@ -87,8 +87,8 @@ class OfABook(unittest.TestCase):
             counted = [0] * 121
             for chain, (first, cells) in read_values(bytes_of("small_insurer")).portfolios.items():
                 people = SEXES[CHAINS[chain].sex]
-                if (wanted is None or CHAINS[chain].code in wanted) and ("--sex" not in words or
-                                                                         people == words[-1]):
+                sex_wanted = "--sex" not in words or people == words[-1]
+                if sex_wanted and (wanted is None or CHAINS[chain].code in wanted):
                     for offset, cell in enumerate(cells):
                         counted[first + offset] += cell.count
             due = "class,contracts\n" + "".join(f"{at},{count}\n"
@@ -143,7 +143,7 @@ class Books(unittest.TestCase):
         self.assertEqual((self.folder / "one").read_bytes(), (self.folder / "other").read_bytes())
 
     def test_bad_lines(self):
-        for file, old, new, told in (("portfolio.csv", "PG2,men,118,", "PG2,men,118x,",
+        for file, old, new, words in (("portfolio.csv", "PG2,men,118,", "PG2,men,118x,",
                                       "line 2, column class: '118x'"),
                                      ("portfolio.csv", "PG2,men,119,", "PG2,men,118,",
                                       "line 3, column class: '118'"),
@@ -158,7 +158,7 @@ class Books(unittest.TestCase):
                                      ("mortality.csv", "class,men", "class,man",
                                       "line 1"), ("mortality.csv", "\n120,", "\n121,",
                                                   "line 122, column class: '121'")):
-            with self.subTest(told=told):
+            with self.subTest(words=words):
                 sheets = self.folder / "sheets"
                 self.done("read", sample("worked_example"), "-o", sheets, "--replace")
                 text = (sheets / file).read_text(encoding="utf-8")
@@ -166,7 +166,7 @@ class Books(unittest.TestCase):
                 (sheets / file).write_text(text.replace(old, new, 1), encoding="utf-8")
                 run = xaropinto("write", sheets, "-o", self.folder / "book")
                 self.assertEqual((run.code, run.out), (REFUSED, b""))
-                self.assertIn(f"{file}, {told}", run.errors)
+                self.assertIn(f"{file}, {words}", run.errors)
                 self.assertFalse((self.folder / "book").exists())
 
     def test_convert(self):

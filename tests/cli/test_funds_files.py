@@ -61,7 +61,7 @@ class Split(Files):
 class Refused(Files):
     """Places and lengths are those of the file that is named."""
 
-    def told(self, table, first, second=FUND):
+    def errors(self, table, first, second=FUND):
         """What is reported of two funds, with the files by their names."""
         for name, held in (("table", table), ("first", first), ("second", second)):
             (self.folder / name).write_bytes(held)
@@ -71,10 +71,10 @@ class Refused(Files):
 
     def test_a_record(self):
         bad = changed(BOOK, (record(1).amounts[1], 1_000_001))
-        told = self.errors(TABLE, bad[:FRONT_BYTES] + bad[FRONT_BYTES + TABLE_BYTES:])
-        self.assertIn("first: refused 12 68\n", told)
-        self.assertIn("lapse at byte 68 of the fund file is 1,000,001", told)
-        self.assertNotIn("1,232", told)
+        errors = self.errors(TABLE, bad[:FRONT_BYTES] + bad[FRONT_BYTES + TABLE_BYTES:])
+        self.assertIn("first: refused 12 68\n", errors)
+        self.assertIn("lapse at byte 68 of the fund file is 1,000,001", errors)
+        self.assertNotIn("1,232", errors)
 
     def test_header_and_chain(self):
         self.assertIn(
@@ -82,39 +82,39 @@ class Refused(Files):
             self.errors(TABLE, FUND[:2] + (2016).to_bytes(2, "little") + FUND[4:]),
         )
         # The head of PG1a men leads to PG2's record.
-        told = self.errors(TABLE, FUND[:8] + b"\1\0" + FUND[10:])
-        self.assertIn("first: refused 10 56\n", told)
+        errors = self.errors(TABLE, FUND[:8] + b"\1\0" + FUND[10:])
+        self.assertIn("first: refused 10 56\n", errors)
         self.assertIn(
             "head of PG1a men at byte 8 of the fund file leads here; subgroup code at byte 56 of "
             "the fund file is 4",
-            told,
+            errors,
         )
 
     def test_the_table_file(self):
-        told = self.errors(TABLE[:196] + (1_000_001).to_bytes(4, "little") + TABLE[200:], FUND)
-        self.assertEqual(told.count("refused 8 196"), 1)
+        errors = self.errors(TABLE[:196] + (1_000_001).to_bytes(4, "little") + TABLE[200:], FUND)
+        self.assertEqual(errors.count("refused 8 196"), 1)
         self.assertIn(
             "table: refused 8 196\ntable: mortality of men, class 0 at byte 196 of the table file",
-            told,
+            errors,
         )
         for held, length in ((TABLE[:-1], "1,163"), (BOOK, f"{len(BOOK):,}"), (b"", "0")):
-            told = self.errors(held, FUND)
-            self.assertEqual(told.count("table: refused 24 0\n"), 1)
-            self.assertIn(f"table: the table file has {length} bytes", told)
+            errors = self.errors(held, FUND)
+            self.assertEqual(errors.count("table: refused 24 0\n"), 1)
+            self.assertIn(f"table: the table file has {length} bytes", errors)
 
     def test_lengths(self):
-        told = self.errors(TABLE, FUND + b"\0")
+        errors = self.errors(TABLE, FUND + b"\0")
         self.assertIn(
             f"first: refused 5 {len(FUND) + 1}\nfirst: the fund file has {len(FUND) + 1} bytes, "
             f"and its 3 records ask for {len(FUND)};",
-            told,
+            errors,
         )
-        self.assertIn("rule: the length of a fund file is 56 bytes and 24 for each record", told)
-        told = self.errors(TABLE, FUND, FUND[:55])
+        self.assertIn("rule: the length of a fund file is 56 bytes and 24 for each record", errors)
+        errors = self.errors(TABLE, FUND, FUND[:55])
         self.assertIn(
             "second: refused 1 55\nsecond: the fund file has 55 bytes; rule: a fund file has at "
             "least 56 bytes",
-            told,
+            errors,
         )
         self.assertIn(
             "no fund file at all: it looks like a PDF", self.errors(TABLE, b"%PDF" + FUND[4:40])

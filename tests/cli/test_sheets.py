@@ -159,7 +159,8 @@ class Saved(Sheets):
             run = self.write({**PLAIN, "header.csv": held})
             self.assertEqual(run.code, REFUSED)
             self.assertIn("refused: header.csv, line ", run.errors)
-        self.assertIn("separator", self.write({**PLAIN, "header.csv": "sep=|\nfield|value\n"}).errors)
+        run = self.write({**PLAIN, "header.csv": "sep=|\nfield|value\n"})
+        self.assertIn("separator", run.errors)
 
 
 class Numbers(Sheets):
@@ -299,7 +300,8 @@ class AgeBasis(Sheets):
 
     def test_refused_book_names_the_converter(self):
         run = xaropinto("check", sample("newer_basis"))
-        self.assertIn("age basis at byte 1 is 2; it must be 1; `xaropinto convert` turns", run.errors)
+        self.assertIn("age basis at byte 1 is 2; it must be 1; `xaropinto convert` turns",
+                      run.errors)
 
 
 class Folders(Sheets):

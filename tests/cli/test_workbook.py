@@ -150,7 +150,8 @@ class Refused(Workbooks):
         ):
             self.workbook.write_bytes(held)
             run = self.run_verb("write", self.workbook, "-o", self.book)
-            self.assertEqual((run.code, run.out, run.errors.count("\n")), (TROUBLE, b"", 1), run.errors)
+            self.assertEqual((run.code, run.out, run.errors.count("\n")), (TROUBLE, b"", 1),
+                             run.errors)
             self.assertIn("book.xlsx: no workbook", run.errors)
         run = self.run_verb("write", sample("worked_example"), "-o", self.book)
         self.assertEqual(run.code, TROUBLE)
