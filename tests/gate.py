@@ -92,7 +92,7 @@ CALLS = [
     script("a book as a workbook", "tests.cli.test_workbook", 9),
     script("the words of a refusal", "tests.cli.test_messages", 16),
     script("table file and fund files", "tests.cli.test_funds_files", 6),
-    script("outputs, inputs and endings of the command", "tests.cli.test_outputs", 17),
+    script("outputs, inputs and endings of the command", "tests.cli.test_outputs", 18),
     script("check, and every fault of a file", "tests.cli.test_check", 15),
     script("JSON, by its schema", "tests.cli.test_json", 8),
     script("the archive, and the types of the package", "tests.cli.test_package", 6),

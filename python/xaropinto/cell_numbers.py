@@ -19,7 +19,7 @@ TWO_WAYS = (
 )
 
 
-class NoNumber(ValueError):
+class NoNumberError(ValueError):
     """Why a word is not the number that is due."""
 
 
@@ -59,18 +59,19 @@ def headings_of(column: str) -> dict[str, Unit]:
 
 
 def number_of(word: str, unit: Unit, low: int, high: int) -> int:
-    """The number of a word, in the book's own unit; `NoNumber` where it is none or out of range."""
+    """The number of a word, in the book's own unit; `NoNumberError` where it is none or out of
+    range."""
     if TWO_READINGS.fullmatch(word):
-        raise NoNumber(TWO_WAYS)
+        raise NoNumberError(TWO_WAYS)
     found = NUMBER.fullmatch(word)
     if not found or (found["part"] and unit.factor == 1):
-        raise NoNumber(due(unit, low, high))
+        raise NoNumberError(due(unit, low, high))
     whole = found["whole"].replace("'", "").replace("\u2019", "")
     scaled = Fraction(f"{found['sign']}{whole}.{found['part'] or 0}") * unit.factor
     if scaled.denominator != 1:
-        raise NoNumber(f"this is no whole number of {unit.base}")
+        raise NoNumberError(f"this is no whole number of {unit.base}")
     if not low <= scaled <= high:
-        raise NoNumber(due(unit, low, high))
+        raise NoNumberError(due(unit, low, high))
     return int(scaled)
 
 

@@ -15,9 +15,9 @@ from xaropinto.layout import (
     header_fields,
     percentages,
 )
-from xaropinto.tables import BadLine, Kind, Row, Table, in_order, rows_of, saved_table
+from xaropinto.tables import BadLineError, Kind, Row, Table, in_order, rows_of, saved_table
 
-__all__ = ["BadLine", "KINDS", "csv_files", "folder_tables", "read_sheets", "written_tables"]
+__all__ = ["BadLineError", "KINDS", "csv_files", "folder_tables", "read_sheets", "written_tables"]
 
 HEADER = Kind("header", ("field", "value"))
 COST_RATES = Kind("cost_rates", ("group", "cost_rate_millionths"))
@@ -72,7 +72,7 @@ def csv_file(kind: Kind) -> str:
 
 
 def read_sheets(tables: Tables) -> BookValues:
-    """The values of five tables, on age basis 1; `BadLine` for the first fault."""
+    """The values of five tables, on age basis 1; `BadLineError` for the first fault."""
     header = read_header(tables(HEADER))
     cost_rates = [
         row.ranged("cost_rate_millionths", RANGES[f"cost rate of {group}"])
@@ -143,8 +143,9 @@ def class_on_basis_1(row: Row, age_basis: int) -> int:
     shift = age_basis - 1
     try:
         return row.number("class", shift, LAST_CLASS + shift) - shift
-    except BadLine as wrong:
-        raise BadLine(wrong.place, wrong.value, f"{wrong.rule}: {BASIS_RULE[age_basis]}") from wrong
+    except BadLineError as wrong:
+        rule = f"{wrong.rule}: {BASIS_RULE[age_basis]}"
+        raise BadLineError(wrong.place, wrong.value, rule) from wrong
 
 
 def chain_of_rows(rows: dict[int, Row], age_basis: int) -> Chain:

@@ -6,7 +6,7 @@ import re
 from pathlib import Path
 from typing import NamedTuple, NoReturn, Optional
 
-from xaropinto.cell_numbers import NoNumber, Unit, headings_of, number_of
+from xaropinto.cell_numbers import NoNumberError, Unit, headings_of, number_of
 from xaropinto.layout import Field
 
 # How a text says in its first bytes which encoding it has.
@@ -15,7 +15,7 @@ SEPARATOR_LINE = re.compile(r'"?sep=(.?)"?[,;\t]*(?:\r\n|\r|\n)', re.IGNORECASE)
 SEPARATORS = "\t;,"
 
 
-class BadLine(Exception):
+class BadLineError(Exception):
     """What is wrong in a sheet: the place, the value found there, and the rule."""
 
     def __init__(self, place: str, value: str, rule: str):
@@ -71,14 +71,14 @@ class Row(NamedTuple):
 
     def bad(self, column: str, rule: str) -> NoReturn:
         """Stop at a cell."""
-        raise BadLine(self.place(column), self.word(column), rule)
+        raise BadLineError(self.place(column), self.word(column), rule)
 
     def number(self, column: str, low: int, high: int) -> int:
         """A cell's number in the book's unit, within a range."""
         try:
             return number_of(self.word(column), self.columns[column].unit, low, high)
-        except NoNumber as wrong:
-            raise BadLine(self.place(column), self.word(column), str(wrong)) from wrong
+        except NoNumberError as wrong:
+            raise BadLineError(self.place(column), self.word(column), str(wrong)) from wrong
 
     def ranged(self, column: str, field: Field) -> int:
         """A cell's number, within the range of a book's field."""
@@ -108,7 +108,7 @@ def saved_table(path: Path) -> Table:
     text = decoded(path.name, path.read_bytes())
     told = SEPARATOR_LINE.match(text)
     if told and told[1] not in tuple(SEPARATORS):
-        raise BadLine(
+        raise BadLineError(
             f"{path.name}, line 1",
             told[0].strip(),
             "the separator is a comma, a semicolon or a tab",
@@ -122,7 +122,7 @@ def saved_table(path: Path) -> Table:
         for cells in reader:
             lines.append((before + reader.line_num, tuple(cells)))
     except csv.Error as wrong:
-        raise BadLine(
+        raise BadLineError(
             f"{path.name}, line {before + reader.line_num}", "", f"no line of cells: {wrong}"
         ) from wrong
     return Table(path.name, tuple(lines))
@@ -138,11 +138,11 @@ def decoded(file: str, raw: bytes) -> str:
             line, byte = raw[:wrong.start].count(b"\n") + 1, raw[wrong.start:wrong.start + 1]
             continue
         if "\0" in text:
-            raise BadLine(
+            raise BadLineError(
                 f"{file}, line 1", "\0", "text has no zero bytes; UTF-16 begins with its mark"
             )
         return text
-    raise BadLine(
+    raise BadLineError(
         f"{file}, line {line}", repr(byte), "UTF-8, UTF-16 with its mark or Windows-1252 is due"
     )
 
@@ -155,12 +155,12 @@ def rows_of(table: Table, kind: Kind) -> list[Row]:
     if columns is None:
         line, told = (lines[0][0], ",".join(lines[0][1])) if lines else (1, "")
         units = "; _percent may stand for _millionths and _thousandths, _francs for _centimes"
-        raise BadLine(
+        raise BadLineError(
             table.place(line, 0, "any"), told, f"the heading is {','.join(kind.columns)}{units}"
         )
     for line, cells in lines:
         if len(cells) != len(kind.columns):
-            raise BadLine(
+            raise BadLineError(
                 table.place(line, 0, "any"), ",".join(cells), f"{len(kind.columns)} columns are due"
             )
     return [Row(table, line, columns, cells) for line, cells in lines[1:]]
@@ -193,5 +193,5 @@ def in_order(rows: list[Row], table: Table, firsts: list[str]) -> list[Row]:
         rows[len(firsts)].bad(next(iter(rows[0].columns)), f"there are {len(firsts)} lines")
     if len(rows) < len(firsts):
         last = rows[-1].line if rows else 1
-        raise BadLine(table.place(last + 1, 0, "any"), "", f"{firsts[len(rows)]} is due here")
+        raise BadLineError(table.place(last + 1, 0, "any"), "", f"{firsts[len(rows)]} is due here")
     return rows

@@ -7,7 +7,7 @@ from typing import Any
 
 from xaropinto.book_values import BookValues
 from xaropinto.sheets import KINDS, Tables, written_tables
-from xaropinto.tables import BadLine, Kind, Table, letters, same_word
+from xaropinto.tables import BadLineError, Kind, Table, letters, same_word
 
 SUFFIX = ".xlsx"
 # No workbook of a book is a tenth as long when it is unpacked.
@@ -17,7 +17,7 @@ EXACT = 2**53
 REFUSED_TYPES = {"f": "a formula", "d": "a date", "b": "true or false", "e": "an error"}
 
 
-class NoWorkbook(Exception):
+class NoWorkbookError(Exception):
     """Why a workbook cannot be read or written: openpyxl is missing, or the file is none."""
 
 
@@ -31,24 +31,25 @@ def openpyxl() -> Any:
     try:
         return importlib.import_module("openpyxl")
     except ImportError as missing:
-        raise NoWorkbook(
+        raise NoWorkbookError(
             "a workbook needs openpyxl: pip install 'xaropinto[xlsx]', "
             "or Debian's package python3-openpyxl"
         ) from missing
 
 
 def workbook_tables(file: str, held: bytes) -> Tables:
-    """The tables of a workbook; `BadLine` where it has other sheets than the five."""
+    """The tables of a workbook; `BadLineError` where it has other sheets than the five."""
     sheets = loaded(held)
     names = [kind.name for kind in KINDS]
     for title in sheets.sheetnames:
         if not any(same_word(title, name) for name in names):
-            raise BadLine(f"{file}, sheet {title}", title, f"the sheets are {', '.join(names)}")
+            rule = f"the sheets are {', '.join(names)}"
+            raise BadLineError(f"{file}, sheet {title}", title, rule)
     by_name = {sheet.title.casefold(): sheet for sheet in sheets.worksheets}
 
     def table(kind: Kind) -> Table:
         if kind.name not in by_name:
-            raise BadLine(f"{file}, sheet {kind.name}", "", "this sheet is missing")
+            raise BadLineError(f"{file}, sheet {kind.name}", "", "this sheet is missing")
         return sheet_table(file, kind.name, by_name[kind.name])
 
     return table
@@ -60,12 +61,12 @@ def loaded(held: bytes) -> Any:
     try:
         with zipfile.ZipFile(io.BytesIO(held)) as archive:
             if sum(part.file_size for part in archive.infolist()) > MOST_BYTES:
-                raise NoWorkbook(f"longer than {MOST_BYTES:,} bytes when it is unpacked")
+                raise NoWorkbookError(f"longer than {MOST_BYTES:,} bytes when it is unpacked")
         return package.load_workbook(io.BytesIO(held))
-    except NoWorkbook:
+    except NoWorkbookError:
         raise
     except Exception as wrong:  # openpyxl promises no kind of exception for a damaged file
-        raise NoWorkbook(f"no workbook that openpyxl can read: {wrong}") from wrong
+        raise NoWorkbookError(f"no workbook that openpyxl can read: {wrong}") from wrong
 
 
 def sheet_table(file: str, name: str, sheet: Any) -> Table:
@@ -78,24 +79,24 @@ def sheet_table(file: str, name: str, sheet: Any) -> Table:
 
 
 def word_of(file: str, name: str, cell: Any) -> str:
-    """A cell's word; `BadLine` where it is neither text nor a whole number."""
+    """A cell's word; `BadLineError` where it is neither text nor a whole number."""
     place, value = f"{file}, sheet {name}, cell {letters(cell.column - 1)}{cell.row}", cell.value
     if value is None:
         return ""
     if cell.data_type in REFUSED_TYPES:
-        raise BadLine(
+        raise BadLineError(
             place, str(value), f"this is {REFUSED_TYPES[cell.data_type]}; a plain value is due"
         )
     if isinstance(value, str):
         return value
     if "%" in cell.number_format:
-        raise BadLine(
+        raise BadLineError(
             place,
             str(value),
             "a cell shown in percent can be read in two ways; " "a plain number is due",
         )
     if not (abs(value) < EXACT and value == int(value)):
-        raise BadLine(
+        raise BadLineError(
             place, str(value), "a number in a workbook is whole; others are entered as text"
         )
     return str(int(value))

@@ -261,6 +261,14 @@ class Starting(InAFolder):
             (ROOT / "packaging" / "xaropinto").read_text(encoding="utf-8"), feature_version=(3, 5)
         )
 
+    def test_every_way_in(self):
+        for name, words in (
+            ("python/pyproject.toml", 'xaropinto = "xaropinto.start:start"'),
+            ("python/xaropinto/__main__.py", "sys.exit(start())"),
+            ("packaging/xaropinto", "sys.exit(start())"),
+        ):
+            self.assertIn(words, (ROOT / name).read_text(encoding="utf-8"), name)
+
     def test_broken_library(self):
         text, other = self.folder / "text.so", self.folder / "other.so"
         text.write_text("this is no library")

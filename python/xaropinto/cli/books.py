@@ -11,7 +11,7 @@ from xaropinto.cli.words import Verbs, add_verb
 from xaropinto.layout import HEADER_BYTES, TABLES_AT
 from xaropinto.messages import refused_file
 from xaropinto.sheets import csv_files, folder_tables, read_sheets
-from xaropinto.workbook import NoWorkbook, is_workbook, workbook_of, workbook_tables
+from xaropinto.workbook import NoWorkbookError, is_workbook, workbook_of, workbook_tables
 
 TABLE_FILE, FUND_FILE = "table", "fund"
 
@@ -102,7 +102,7 @@ def write_book(chosen: argparse.Namespace) -> None:
         else:
             tables = folder_tables(path)
         values = read_sheets(tables)
-    except (OSError, ValueError, NoWorkbook) as error:
+    except (OSError, ValueError, NoWorkbookError) as error:
         file = getattr(error, "filename", None) or chosen.sheets
         raise CommandError(f"{file}: {reason_of(error)}") from error
     write_file(chosen.out, answers.write(values))
@@ -116,7 +116,7 @@ def read_book(chosen: argparse.Namespace) -> None:
         return
     try:
         held = workbook_of(values)
-    except NoWorkbook as error:
+    except NoWorkbookError as error:
         raise CommandError(f"{chosen.out}: {error}") from error
     write_file(chosen.out, held)
 

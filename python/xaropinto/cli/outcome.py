@@ -12,7 +12,7 @@ from xaropinto.cli.files import take_written, write_file
 from xaropinto.cli.streams import put_bytes, to_stderr
 from xaropinto.library import LibraryError
 from xaropinto.plausibility import Note
-from xaropinto.tables import BadLine
+from xaropinto.tables import BadLineError
 from xaropinto.version import VERSION
 
 Json = Union[None, bool, int, float, str, Sequence["Json"], Mapping[str, "Json"]]
@@ -94,7 +94,7 @@ def attempt(name: str, act: Callable[[], Optional[int]], prefix: str = "") -> in
     except RefusedError as refused:
         report_refusal(refused, prefix)
         code = REFUSED
-    except BadLine as bad:
+    except BadLineError as bad:
         _run.keep(
             status="refused",
             refusal={"number": None, "place": None, "owner": None, "words": str(bad)},
