@@ -74,10 +74,9 @@ class OfABook(unittest.TestCase):
             fields = record(number)
             amounts = "".join(f"{field.name.split(', ')[1]} {field.read(book)}\n"
                               for field in fields.amounts)
-            due = (
-                f"code {fields.code.read(book)}\nsex {fields.sex.read(book)}\n"
-                f"class {fields.age_class.read(book)}\n"
-                f"next {fields.next.read(book)}\nspare 0 0 0\n{amounts}")
+            due = (f"code {fields.code.read(book)}\nsex {fields.sex.read(book)}\n"
+                   f"class {fields.age_class.read(book)}\n"
+                   f"next {fields.next.read(book)}\nspare 0 0 0\n{amounts}")
             self.assertEqual(self.answer("record", sample("worked_example"), number), due)
 
     def test_classes(self):
@@ -144,20 +143,20 @@ class Books(unittest.TestCase):
 
     def test_bad_lines(self):
         for file, old, new, words in (("portfolio.csv", "PG2,men,118,", "PG2,men,118x,",
-                                      "line 2, column class: '118x'"),
-                                     ("portfolio.csv", "PG2,men,119,", "PG2,men,118,",
-                                      "line 3, column class: '118'"),
-                                     ("portfolio.csv", "PG2,men,119,", "PG9,men,119,",
-                                      "line 3, column subgroup: 'PG9'"),
-                                     ("curve.csv", "\n2,-5000", "\n2,-10001",
-                                      "line 3, column rate_millionths: '-10001'"),
-                                     ("cost_rates.csv", "PG3,", "PG4,",
-                                      "line 4, column group: 'PG4'"),
-                                     ("header.csv", "sst_year,2021", "sst_year,2016",
-                                      "line 4, column value: '2016'"),
-                                     ("mortality.csv", "class,men", "class,man",
-                                      "line 1"), ("mortality.csv", "\n120,", "\n121,",
-                                                  "line 122, column class: '121'")):
+                                       "line 2, column class: '118x'"),
+                                      ("portfolio.csv", "PG2,men,119,", "PG2,men,118,",
+                                       "line 3, column class: '118'"),
+                                      ("portfolio.csv", "PG2,men,119,", "PG9,men,119,",
+                                       "line 3, column subgroup: 'PG9'"),
+                                      ("curve.csv", "\n2,-5000", "\n2,-10001",
+                                       "line 3, column rate_millionths: '-10001'"),
+                                      ("cost_rates.csv", "PG3,", "PG4,",
+                                       "line 4, column group: 'PG4'"),
+                                      ("header.csv", "sst_year,2021", "sst_year,2016",
+                                       "line 4, column value: '2016'"),
+                                      ("mortality.csv", "class,men", "class,man",
+                                       "line 1"), ("mortality.csv", "\n120,", "\n121,",
+                                                   "line 122, column class: '121'")):
             with self.subTest(words=words):
                 sheets = self.folder / "sheets"
                 self.done("read", sample("worked_example"), "-o", sheets, "--replace")
