@@ -2,7 +2,7 @@
 # library and what calls it, g++, cargo and valgrind for the callers' tests, openpyxl
 # (Debian's python3-openpyxl) for those of workbooks.
 .DEFAULT_GOAL := help
-.PHONY: help test quick check list report convert practice fuzz streams samples lib install dist callers bench clean FORCE
+.PHONY: help test quick check list report convert practice fuzz streams samples lib install dist callers bench clean test-platforms FORCE
 
 SAMPLE := samples/one_record.book
 SETTING ?= 0
@@ -23,12 +23,12 @@ export SETTING_WORD := $(value SETTING)
 export START_WORD := $(value START)
 
 # A word that is no target would be passed over, and the sample listed in its place.
-STRAY := $(filter-out $(shell sed -n 's/^\([a-z]*\):[^=].*/\1/p' Makefile) target/bin/%,$(MAKECMDGOALS))
+STRAY := $(filter-out $(shell sed -n 's/^\([a-z-]*\):[^=].*/\1/p' Makefile) target/bin/%,$(MAKECMDGOALS))
 $(if $(STRAY),$(error $(firstword $(STRAY)) is no target; a book is named by BOOK=path))
 $(foreach word,book setting out start prefix destdir,$(if $(filter command line,$(origin $(word))),$(error $(word)= is not known: these words are in capitals)))
 
 help: ## list the targets
-	@sed -n 's/^\([a-z]*\):[^#]*## /\1: /p' Makefile
+	@sed -n 's/^\([a-z-]*\):[^#]*## /\1: /p' Makefile
 
 test: ## prove everything from nothing, try every must-fail edit and run the outside tests
 	@exec python3 -m tests.gate
@@ -88,6 +88,9 @@ bench: lib ## time the calls beside Rust and Python: make bench OPTIONS=--instru
 		BENCH_LINK=$$link cargo build --quiet --offline --locked --release --package bench && \
 		cp ../../target/cargo/release/bench ../../target/bench/link_$$link || exit 1; done
 	@target/bench/link_$(firstword $(LINKS)) $(OPTIONS) $(LINKS:%=target/bench/link_%)
+
+test-platforms: ## what needs LibreOffice: a book through a spreadsheet program
+	@python3 -m tests.platforms.test_spreadsheet
 
 clean: ## remove all that was built; the next run proves everything again
 	@rm -rf target differing python/build python/xaropinto.egg-info python/xaropinto/libxaropinto.so

@@ -82,8 +82,10 @@
 /* The risk factors: mortality, lapse, costs and claims, in this order. */
 #define XAROPINTO_FACTORS 4
 
-/* The version of this header and of its library. */
-#define XAROPINTO_VERSION "2.0.0"
+/* The version of this header, and as one number: 10,000 times the first part, 100 times the second,
+ * and the third. */
+#define XAROPINTO_VERSION "2.1.0"
+#define XAROPINTO_VERSION_NUMBER 20100
 
 #ifdef __cplusplus
 extern "C" {
@@ -219,6 +221,10 @@ typedef struct {
     uint64_t place;
     uint64_t deviation;
 } xaropinto_deviation_reply;
+
+/* The version of the library that runs, as one number: XAROPINTO_VERSION_NUMBER where it is that of
+ * this header. */
+uint64_t xaropinto_version(void);
 
 /* Check: whether the bytes are a valid book. Refusals: the book's. */
 xaropinto_verdict xaropinto_check(const uint8_t *book, size_t length);

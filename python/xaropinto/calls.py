@@ -278,7 +278,7 @@ class _Call:
     """A function of the library, found when it is first called: help and words do without the
     library."""
 
-    def __init__(self, name: str, reply: type[ctypes.Structure], *arguments: Any):
+    def __init__(self, name: str, reply: Any, *arguments: Any):
         self.name, self.reply, self.arguments = name, reply, arguments
         self.function: Optional[Callable[..., Any]] = None
 
@@ -295,6 +295,7 @@ class _Call:
         return self.function(*arguments)
 
 
+_VERSION = _Call("xaropinto_version", ctypes.c_uint64)
 _CHECK = _Call("xaropinto_check", _Verdict, *_BOOK)
 _GROUP = _Call("xaropinto_group", _GroupReply, *_BOOK, ctypes.c_size_t, ctypes.c_size_t, *_NUMBERS)
 _TOTALS = _Call("xaropinto_totals", _TotalsReply, *_BOOK)
@@ -313,6 +314,12 @@ _IN_FORCE = _Call("xaropinto_in_force", _InForceReply, *_BOOK, *[ctypes.c_size_t
 _SPREAD = _Call("xaropinto_spread", _SpreadReply, _Summary, ctypes.c_double, ctypes.c_double)
 _DEVIATION = _Call("xaropinto_deviation", _DeviationReply, *_BOOK, _RiskModel)
 _PRACTICE = _Call("xaropinto_practice", _WriteReply, ctypes.c_uint64, *_BYTES)
+
+
+def version() -> int:
+    """The version of the library as one number: 20100 for 2.1.0."""
+    number: int = _VERSION()
+    return number
 
 
 def check(book: Bytes) -> Verdict:

@@ -5,6 +5,8 @@ import os
 from functools import lru_cache
 from pathlib import Path
 
+from xaropinto.version import VERSION
+
 NAME = "libxaropinto.so"
 # A path set here is the only one that is tried.
 VARIABLE = "XAROPINTO_LIBRARY"
@@ -38,6 +40,21 @@ def loaded_library() -> ctypes.CDLL:
     """The shared library, loaded once."""
     path = find_library()
     try:
-        return ctypes.CDLL(str(path))
+        library = ctypes.CDLL(str(path))
     except OSError as error:
         raise LibraryError(f"{path} cannot be loaded: {error}") from error
+    found = version_of(library)
+    if found != VERSION:
+        raise LibraryError(f"{path} is of version {found}, this package of {VERSION}")
+    return library
+
+
+def version_of(library: ctypes.CDLL) -> str:
+    """The version of a library, which 2.1.0 and later ones can say."""
+    try:
+        function = library.xaropinto_version
+    except AttributeError:
+        return "2.0.0 or older"
+    function.restype = ctypes.c_uint64
+    number = function()
+    return f"{number // 10_000}.{number // 100 % 100}.{number % 100}"

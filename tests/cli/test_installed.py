@@ -128,6 +128,22 @@ class Version(unittest.TestCase):
                              VERSION, name)
 
 
+    def test_library_of_another_version(self):
+        with tempfile.TemporaryDirectory() as folder:
+            for source, found in (("unsigned long long xaropinto_version(void) { return 20099; }",
+                                   "2.0.99"), ("int nothing;", "2.0.0 or older")):
+                library = Path(folder) / "other.so"
+                built = subprocess.run(["cc", "-shared", "-fPIC", "-x", "c", "-", "-o", library],
+                                       input=source.encode(), check=False)
+                self.assertEqual(built.returncode, 0)
+                ended = run(sys.executable, "-m", "xaropinto", "check", sample("one_record"),
+                            env={**SHELL, "PYTHONPATH": str(ROOT / "python"),
+                                 "XAROPINTO_LIBRARY": str(library)})
+                self.assertEqual((ended.returncode, ended.stdout), (2, b""))
+                self.assertIn(f"is of version {found}, this package of {VERSION}\n",
+                              ended.stderr.decode())
+
+
 class Make(unittest.TestCase):
     """`make list` lists what it is told to, or fails."""
 

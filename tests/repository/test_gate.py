@@ -167,7 +167,9 @@ class Modules(unittest.TestCase):
         self.assertEqual(len({first for first, _ in held.values()}), 2)
 
     def test_every_module_is_a_part(self):
-        paths = sorted((ROOT / "tests").rglob("test_*.py"))
+        # Those of tests/platforms need more than the gate installs: `make test-platforms`.
+        paths = sorted(path for path in (ROOT / "tests").rglob("test_*.py")
+                       if path.parent.name != "platforms")
         due = [".".join(path.relative_to(ROOT).with_suffix("").parts) for path in paths]
         listed = [gate.module_of(part) for part in gate.PARTS]
         self.assertEqual(sorted(filter(None, listed)), due)

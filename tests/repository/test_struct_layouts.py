@@ -138,6 +138,11 @@ def c_kind(words):
     return "*" + TYPES[found[1]] if found[2] else found[1]
 
 
+def c_kinds(arguments):
+    """The types of a call's arguments in C."""
+    return [] if arguments == "void" else [c_kind(each) for each in arguments.split(",")]
+
+
 def read_c(text):
     """The header's declarations."""
     numbers, structs = c_numbers(text), {}
@@ -148,7 +153,7 @@ def read_c(text):
             for size in re.findall(r"\w+", sizes):
                 count *= numbers[size] if size in numbers else int(size)
             structs[name].append((field, (kind, count)))
-    return Declared(structs, {name: ([c_kind(each) for each in arguments.split(",")], reply)
+    return Declared(structs, {name: (c_kinds(arguments), reply)
                               for reply, name, arguments in C_CALL.findall(text)})
 
 

@@ -6,12 +6,17 @@ import shutil
 from tests.support.command import run
 
 MOST_SECONDS = 600
-WAIT_FOR_OTHERS = ["-o", "DPkg::Lock::Timeout=300"]
+APT_GET = ["apt-get", "-o", "DPkg::Lock::Timeout=300"]
 
 
 def install(packages):
-    """Install packages, where any are named and this process may; a line says so."""
+    """Install packages, where any are named and this process may; a line says so.
+
+    The lists of packages are fetched only where they don't have these.
+    """
     if packages and os.geteuid() == 0 and shutil.which("apt-get"):
         print(f"installing {' '.join(packages)}", flush=True)
-        run(["apt-get", *WAIT_FOR_OTHERS, "install", "-y", "--no-install-recommends", *packages],
-            MOST_SECONDS)
+        wanted = [*APT_GET, "install", "-y", "--no-install-recommends", *packages]
+        if run(wanted, MOST_SECONDS)[0] != 0:
+            run([*APT_GET, "update"], MOST_SECONDS)
+            run(wanted, MOST_SECONDS)

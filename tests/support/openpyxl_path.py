@@ -7,18 +7,21 @@ import sys
 import tempfile
 from pathlib import Path
 
+from tests.support.debian import install
+
 SYSTEM = Path("/usr/lib/python3/dist-packages")
 NEEDED = ("openpyxl", "et_xmlfile")
+PACKAGE = "python3-openpyxl"
 
 
 def installed(package):
-    """The folder of a package."""
+    """The folder of a package; where it is missing it is installed."""
     spec = importlib.util.find_spec(package)
     path = Path(spec.origin).parent if spec and spec.origin else SYSTEM / package
     if not path.is_dir():
-        raise FileNotFoundError(
-            f"{package} is not installed: Debian's package python3-openpyxl has it"
-        )
+        install([PACKAGE])
+    if not path.is_dir():
+        raise FileNotFoundError(f"{package} is not installed: Debian's {PACKAGE} has it")
     return path
 
 
@@ -37,7 +40,3 @@ def import_openpyxl():
     """The package."""
     sys.path.append(openpyxl_folder())
     return importlib.import_module("openpyxl")
-
-
-if __name__ == "__main__":
-    print(f"openpyxl {import_openpyxl().__version__}")

@@ -1477,6 +1477,13 @@ static void test_listing(void)
     free(book.bytes);
 }
 
+static void test_version(void)
+{
+    test("library_and_header_are_of_one_version", xaropinto_version() == XAROPINTO_VERSION_NUMBER);
+    test("the_version_is_2_1_0",
+         strcmp(XAROPINTO_VERSION, "2.1.0") == 0 && XAROPINTO_VERSION_NUMBER == 20100);
+}
+
 static void test_refusal_texts(void)
 {
     test("every_refusal_has_words", *xaropinto_refusal_text(1) && *xaropinto_refusal_text(32));
@@ -1514,6 +1521,7 @@ static void test_nulls(void)
 
 int main(void)
 {
+    test_version();
     test_sizes();
     test_one_record();
     test_year_table();

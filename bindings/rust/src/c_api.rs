@@ -136,6 +136,8 @@ pub struct DeviationReply {
 }
 
 extern "C" {
+    pub fn xaropinto_version() -> u64;
+
     pub fn xaropinto_check(book: *const u8, length: usize) -> Verdict;
 
     pub fn xaropinto_group(

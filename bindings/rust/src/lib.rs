@@ -17,7 +17,8 @@ use c_api::xaropinto_in_force;
 use c_api::xaropinto_practice;
 use c_api::{
     xaropinto_check, xaropinto_convert, xaropinto_cost_rates, xaropinto_group, xaropinto_listing,
-    xaropinto_read, xaropinto_record, xaropinto_spread, xaropinto_totals, xaropinto_write,
+    xaropinto_read, xaropinto_record, xaropinto_spread, xaropinto_totals, xaropinto_version,
+    xaropinto_write,
 };
 use c_api::{xaropinto_funds, Verdict};
 use c_api::{xaropinto_report, xaropinto_report_room};
@@ -84,6 +85,12 @@ pub enum Spread {
     Coefficient { mean: f64, coefficient: f64 },
     /// All claims are alike.
     Level { mean: f64 },
+}
+
+/// The version of the library that is linked, as one number: 20100 for 2.1.0.
+pub fn version() -> u64 {
+    // SAFETY: it takes nothing.
+    unsafe { xaropinto_version() }
 }
 
 /// Is this a book?

@@ -14,6 +14,7 @@ ghost use Rattle.c_api.specs.Exported.{FundsExported};
 ghost use Rattle.c_api.specs.Exported.{ListingExported, ReportExported, ReportLengthExported};
 ghost use Rattle.c_api.specs.Exported.{WriteExported, PracticeExported, InForceExported};
 ghost use Rattle.c_api.specs.Exported.{SpreadExported};
+ghost use Rattle.c_api.specs.Version.{versionNumber};
 use book_contents::ReadReply;
 use book_contents::Values;
 use c_api_fields::FundsFields;
@@ -38,6 +39,14 @@ use record_view::Located;
 use risk_factors::DeviationReply;
 use risk_model::RiskModel;
 use valuation::TotalsReply;
+
+// Of this library, as the file VERSION has it.
+#[no_mangle]
+pub extern "C" fn xaropinto_version() -> u64
+    ensures { λ r. ⌜ r ≡ versionNumber 2 1 0 ⌝ }
+{
+    20_100
+}
 
 #[no_mangle]
 pub extern "C" fn xaropinto_check(book: &[u8]) -> VerdictFields

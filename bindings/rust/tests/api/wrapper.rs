@@ -4,6 +4,16 @@ use plain::book::{full_book, Kind};
 use plain::chooser::Chooser;
 
 #[test]
+fn the_library_is_of_the_crates_version() {
+    let parts: Vec<u64> = env!("CARGO_PKG_VERSION")
+        .split('.')
+        .map(|part| part.parse().expect("a part is a number"))
+        .collect();
+    let number = parts.iter().fold(0, |number, part| 100 * number + part);
+    assert_eq!(xaropinto::version(), number);
+}
+
+#[test]
 fn a_record_is_a_part_of_the_book() {
     let book = full_book(&mut Chooser::new(24), Kind::Anywhere);
     for number in [1, 2, 1_694] {
