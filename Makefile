@@ -60,8 +60,9 @@ fuzz: target/bin/test_check target/bin/listing_main lib ## compare programs and 
 streams: ## write the test programs' streams anew
 	@python3 -m tools.streams
 
-samples: ## write the sample books, their listings and their reports anew
+samples: lib ## write the sample books anew, with their listings, reports and pages
 	@python3 -m tools.sample_books write
+	@python3 -m tools.sample_pages write
 
 lib: ## prove the C boundary and put its archive and shared library under target/lib
 	@rm -rf target/lib.new && mkdir -p target/lib target/lib.new
