@@ -127,7 +127,6 @@ class Version(unittest.TestCase):
             self.assertEqual(re.search(pattern, (ROOT / name).read_text(encoding="utf-8"))[1],
                              VERSION, name)
 
-
     def test_library_of_another_version(self):
         with tempfile.TemporaryDirectory() as folder:
             for source, found in (("unsigned long long xaropinto_version(void) { return 20099; }",
