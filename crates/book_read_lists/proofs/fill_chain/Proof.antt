@@ -1,4 +1,4 @@
--- `book_read::fill_chain` meets its contract. The invariant: the entries passed are written, and i is the next one. The
+-- `book_read_lists::fill_chain` meets its contract. The invariant: the entries passed are written, and i is the next one. The
 -- measure is how many are left.
 -- Assumes nothing.
 use mathlib.Core.Path.{_≡_, sym, ap, _∙_}
@@ -10,8 +10,8 @@ use Rattle.buffer.proofs.Digits.{nothing, kept}
 use Rattle.book_contents.specs.Contents.{noClass}
 use Rattle.book_contents.specs.Reading.{each, firstIn, listIn}
 use Rattle.book_contents.proofs.Projection.{sound-long, sound-inside, sound-next, each-wrote}
-use Rattle.book_read.proofs.fill_chain.Statement.{statement}
-use Rattle.book_read.proofs.fill_chain.Tie as tie
+use Rattle.book_read_lists.proofs.fill_chain.Statement.{statement}
+use Rattle.book_read_lists.proofs.fill_chain.Tie as tie
 
 abbrev Inv-loop : tie.InvT-loop
 Inv-loop book k offset list₀ at size i₀ next₀ counter₀ list i next counter =

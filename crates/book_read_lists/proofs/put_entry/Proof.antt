@@ -1,9 +1,9 @@
--- `book_read::put_entry` meets its contract: one store, or none past the end. Assumes nothing.
+-- `book_read_lists::put_entry` meets its contract: one store, or none past the end. Assumes nothing.
 use mathlib.Core.Path.{sym, refl}
 use lib.Seq.{set-out}
 use borrow.Author.Needs.{needs}
-use Rattle.book_read.proofs.put_entry.Statement.{statement}
-use Rattle.book_read.proofs.put_entry.Tie as tie
+use Rattle.book_read_lists.proofs.put_entry.Statement.{statement}
+use Rattle.book_read_lists.proofs.put_entry.Tie as tie
 
 returns-2 : tie.Need-returns-2
 returns-2 c =

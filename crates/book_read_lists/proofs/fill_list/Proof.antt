@@ -1,4 +1,4 @@
--- `book_read::fill_list` meets its contract. The invariant: the lists of the chains before k are written. The measure
+-- `book_read_lists::fill_list` meets its contract. The invariant: the lists of the chains before k are written. The measure
 -- is the number of chains left.
 -- Assumes nothing.
 use mathlib.Core.Path.{_≡_}
@@ -8,8 +8,8 @@ use native.Mathlib.Omega.{arith}
 use Rattle.buffer.specs.Text.{Wrote, joined}
 use Rattle.buffer.proofs.Digits.{nothing, kept, joined-more}
 use Rattle.book_contents.specs.Reading.{listIn, fieldList}
-use Rattle.book_read.proofs.fill_list.Statement.{statement}
-use Rattle.book_read.proofs.fill_list.Tie as tie
+use Rattle.book_read_lists.proofs.fill_list.Statement.{statement}
+use Rattle.book_read_lists.proofs.fill_list.Tie as tie
 
 abbrev Inv-loop : tie.InvT-loop
 Inv-loop book offset list₀ next₀ k₀ list next k = (k ≤ 14) × Wrote list₀ 0 (joined (listIn book offset) k) list next

@@ -1,11 +1,11 @@
--- `book_read::check_read` meets its contract: the book's refusal, or a buffer that is too short. Assumes nothing.
+-- `book_read_lists::check_read` meets its contract: the book's refusal, or a buffer that is too short. Assumes nothing.
 use mathlib.Core.Path.{sym, _∙_}
 use borrow.Author.Needs.{needs}
 use Rattle.verdict.proofs.Verdicts.{accepted}
 use Rattle.book_contents.specs.Reading.{checkRead}
 use Rattle.book_contents.proofs.Projection.{book-refused}
-use Rattle.book_read.proofs.check_read.Statement.{statement}
-use Rattle.book_read.proofs.check_read.Tie as tie
+use Rattle.book_read_lists.proofs.check_read.Statement.{statement}
+use Rattle.book_read_lists.proofs.check_read.Tie as tie
 
 returns : tie.Need-returns
 returns c =
