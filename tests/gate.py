@@ -95,7 +95,7 @@ CALLS = [
     script("outputs, inputs and endings of the command", "tests.cli.test_outputs", 18),
     script("check, and every fault of a file", "tests.cli.test_check", 15),
     script("JSON, by its schema", "tests.cli.test_json", 8),
-    script("the archive, and the types of the package", "tests.cli.test_package", 6),
+    script("the archive, and the types of the package", "tests.cli.test_package", 5),
     script("warnings about a book", "tests.cli.test_plausibility", 19),
     script("a slip of the age class", "tests.cli.test_age_shift", 6),
     script("pages of books", "tests.cli.test_page", 10),

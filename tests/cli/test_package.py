@@ -2,6 +2,7 @@
 
 import ast
 import os
+import shutil
 import subprocess
 import sys
 import tempfile
@@ -10,6 +11,7 @@ from pathlib import Path
 
 from tests import ROOT
 from tests.cli.run import sample
+from tests.support.debian import install
 from tests.support.report import run_unit_tests
 
 LISTING = (ROOT / "samples" / "small_insurer.listing").read_bytes()
@@ -118,11 +120,11 @@ class Archive(unittest.TestCase):
 
 
 class Types(unittest.TestCase):
-    """What a caller's type checker sees."""
+    """What a caller's type checker sees; the package's own types are a part of the gate's style."""
 
-    def test_mypy(self):
-        ended = run("mypy", "--strict", "--cache-dir", os.devnull, PACKAGE)
-        self.assertEqual(ended.returncode, 0, ended.stdout.decode())
+    @classmethod
+    def setUpClass(cls):
+        install([] if shutil.which("mypy") else ["mypy"])
 
     def test_funds(self):
         with tempfile.TemporaryDirectory() as folder:
