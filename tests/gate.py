@@ -16,6 +16,7 @@ from tests import ROOT
 from tests.support.checker import checker_line
 from tests.support.command import run, run_beside
 from tests.support.progress import Line, Work, crates_listed, edits_listed
+from tests.support.prover import prover_settings
 from tests.support.report import NUMBER, SEED
 
 TALLY = re.compile(r"^(\d+) passed, (\d+) failed$")
@@ -47,7 +48,7 @@ QUICK_PROOFS = Part("proofs and programs", ["rt", "check"], 61)
 # What runs on the proved programs, two parts at once.
 PROGRAMS = [
     script("must-fail edits fit the proof files", "tests.repository.test_must_fail_reasons", 2),
-    script("behaviour of the gate", "tests.repository.test_gate", 18),
+    script("behaviour of the gate", "tests.repository.test_gate", 21),
     script("numbers of the promises, against the order", "tests.repository.test_order_figures", 55),
     script("declarations of the calls in four languages", "tests.repository.test_struct_layouts",
            20),
@@ -170,7 +171,8 @@ def run_gate(proofs, programs, edits):
     names = [part.name for part in (proofs, *before, *after)]
     work, line = Work(crates_listed(), edits, names), Line(sys.stdout)
     try:
-        tallies = try_parts([proofs], work, line)
+        with prover_settings():
+            tallies = try_parts([proofs], work, line)
         if not tallies[0][1]:
             tallies += [*try_parts(before, work, line), *try_parts(after, work, line)]
     finally:

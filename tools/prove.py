@@ -11,6 +11,7 @@ from pathlib import Path
 from tests import ROOT
 from tests.support.command import run, run_beside
 from tests.support.progress import Line, Work, crates_listed, crates_needed
+from tests.support.prover import prover_settings
 
 # For the crate and all that it needs, on a slow machine.
 MOST_SECONDS = 90 * 60
@@ -53,11 +54,12 @@ def prove(verb, crate):
 
     code, printed = 0, ""
     try:
-        for command in commands_of(verb, crate):
-            [(code, text, _)] = run_beside([command], MOST_SECONDS, watch)
-            printed += text
-            if code:
-                break
+        with prover_settings():
+            for command in commands_of(verb, crate):
+                [(code, text, _)] = run_beside([command], MOST_SECONDS, watch)
+                printed += text
+                if code:
+                    break
     finally:
         line.clear()
     return code, printed

@@ -195,7 +195,9 @@ class Ending(InAFolder):
         ):
             for words in (("practice", 1, "-o", "out"), ("read", ACCEPTED, "-o", "out")):
                 with self.subTest(number=number, words=words):
-                    stop = f"import os; os.fsync = lambda _: os.kill(os.getpid(), {int(number)})"
+                    # A run in the background may have started with the signal ignored.
+                    stop = (f"import os, signal; signal.signal({int(number)}, signal.SIG_DFL)\n"
+                            f"os.fsync = lambda _: os.kill(os.getpid(), {int(number)})")
                     self.one_line(by_python(stop, *words[:-1], self.folder / "out"), code)
                     self.assertEqual(self.names(), [])
 

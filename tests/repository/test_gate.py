@@ -17,6 +17,7 @@ from tests import ROOT, gate
 from tests.support.case import Case
 from tests.support.differential import Differential
 from tests.support.progress import Line, Work, crates_listed, crates_needed
+from tests.support.prover import JOBS, TEMPORARY, prover_settings
 from tests.support.report import NUMBER, SEED, run_unit_tests
 
 # What `rt` prints as it goes: a crate proved, one that is not, one unchanged; edits; programs.
@@ -100,6 +101,37 @@ class Tally(unittest.TestCase):
             self.assertEqual(started.wait(MOST_SECONDS), gate.INTERRUPTED)
             with self.assertRaises(ProcessLookupError):
                 os.kill(int(number.read_text()), 0)
+
+
+class ProverSettings(unittest.TestCase):
+    """`rt` has its temporary files in memory and several checks at once, for its run alone."""
+
+    def test_set_for_the_run_alone(self):
+        with patch.dict(os.environ), tempfile.TemporaryDirectory() as memory:
+            for name in (JOBS, TEMPORARY):
+                os.environ.pop(name, None)
+            before = dict(os.environ)
+            with prover_settings(memory):
+                folder = Path(os.environ[TEMPORARY])
+                self.assertEqual((str(folder.parent), oct(folder.stat().st_mode & 0o777)),
+                                 (memory, "0o711"))
+                self.assertGreater(int(os.environ[JOBS]), os.cpu_count())
+            self.assertEqual((dict(os.environ), os.listdir(memory)), (before, []))
+
+    def test_what_is_set_stays(self):
+        with patch.dict(os.environ, {JOBS: "1", TEMPORARY: "/tmp"}), prover_settings():
+            self.assertEqual((os.environ[JOBS], os.environ[TEMPORARY]), ("1", "/tmp"))
+
+    def test_memory_that_cannot_be_used(self):
+        full = types.SimpleNamespace(f_flag=0, f_bavail=1, f_frsize=1)
+        no_programs = types.SimpleNamespace(f_flag=os.ST_NOEXEC, f_bavail=1 << 40, f_frsize=1)
+        for held in (full, no_programs):
+            with patch.dict(os.environ), patch("os.statvfs", return_value=held):
+                os.environ.pop(TEMPORARY, None)
+                with prover_settings():
+                    self.assertNotIn(TEMPORARY, os.environ)
+        with patch.dict(os.environ), prover_settings("/nowhere"):
+            self.assertIn(JOBS, os.environ)
 
 
 class Modules(unittest.TestCase):
