@@ -45,26 +45,26 @@ pub struct Years {
     pub outgo: [u64; 50],
 }
 
-// The years from `from` to before `to`, before discounting, in a setting: whoever values many
-// groups makes it once.
-pub fn undiscounted(
-    book: &[u8],
-    s: Setting,
-    group: usize,
-    numbers: &YearSums,
-    from: usize,
-    to: usize,
-) -> Years
+// The years from k = `from` to before k = `to`.
+pub struct Span {
+    pub from: usize,
+    pub to: usize,
+}
+
+// The years of a span, before discounting, in a setting: whoever values many groups makes it once.
+pub fn undiscounted(book: &[u8], s: Setting, group: usize, numbers: &YearSums, span: Span) -> Years
     requires { ⌜ SettingOf s
         × (1 ≤ group)
         × (group ≤ 5)
-        × (from ≤ to)
-        × (to ≤ 50)
+        × (span .from ≤ span .to)
+        × (span .to ≤ 50)
         × ValidBook 1 (now book)
         × TableIn (now book) (projectionOf (s .number)) group (now numbers) ⌝ }
-    ensures { λ r. ⌜ Undiscounted (now (book .entry)) (s .number) group from to (r .premium)
-        (r .outgo) ⌝ }
+    ensures { λ r. ⌜ Undiscounted (now (book .entry)) (s .number) group (span .from) (span .to)
+        (r .premium) (r .outgo) ⌝ }
 {
+    let from = span.from;
+    let to = span.to;
     let setting = s.number;
     let projection = s.projection;
     let rate = cash_flow::cost_rate_of(book, group);
@@ -103,7 +103,7 @@ pub fn value_group(
     let divisors = curve.divisors;
     let fractions = curve.fractions;
     let setting = s.number;
-    let years = undiscounted(book, s, group, numbers, 0, 50);
+    let years = undiscounted(book, s, group, numbers, Span { from: 0, to: 50 });
     let due = years.premium;
     let spent = years.outgo;
     let mut premium = due;
@@ -145,39 +145,47 @@ fn end_of(premium: &[u64; 50], outgo: &[u64; 50], from: usize, to: usize) -> usi
     end
 }
 
-// What the years from `from` to before `to` give.
+// What the years of a span give.
 pub fn amounts_in(
     book: &[u8],
-    divisors: &[u64; 50],
-    fractions: &[u64; 50],
+    curve: Curve,
     s: Setting,
     group: usize,
     numbers: &YearSums,
-    from: usize,
-    to: usize,
+    span: Span,
 ) -> Amounts
     requires { ⌜ SettingOf s
         × (1 ≤ group)
         × (group ≤ 5)
-        × (from ≤ to)
-        × (to ≤ 50)
+        × (span .from ≤ span .to)
+        × (span .to ≤ 50)
         × ValidBook 1 (now book)
         × TableIn (now book) (projectionOf (s .number)) group (now numbers) ⌝ }
-    requires { ⌜ CurveOf (now book) (now divisors) (now fractions) ⌝ }
-    ensures { λ r. ⌜ AmountsIn (now (book .entry)) (s .number) group from to r ⌝ }
+    requires { ⌜ CurveOf (now book) (curve .divisors) (curve .fractions) ⌝ }
+    ensures { λ r. ⌜ AmountsIn (now (book .entry)) (s .number) group (span .from) (span .to) r ⌝ }
 {
+    let divisors = curve.divisors;
+    let fractions = curve.fractions;
+    let from = span.from;
     let setting = s.number;
-    let years = undiscounted(book, s, group, numbers, from, to);
+    let years = undiscounted(book, s, group, numbers, span);
     let mut premium = years.premium;
     let mut outgo = years.outgo;
-    let end = end_of(&premium, &outgo, from, to);
+    let end = end_of(&premium, &outgo, from, span.to);
     if end == 0 {
         return Amounts {
             premium: 0,
             outgo: 0,
         };
     }
-    cash_flow::discount(divisors, fractions, end - 1, end, &mut premium, &mut outgo);
+    cash_flow::discount(
+        &divisors,
+        &fractions,
+        end - 1,
+        end,
+        &mut premium,
+        &mut outgo,
+    );
     let mut paid: u64 = 0;
     let mut earned: u64 = 0;
     for k in from..end {

@@ -16,6 +16,8 @@ use cell_projection::A_YEAR;
 use cell_projection::YEARS;
 use cell_projection::YearSums;
 use present_value::Amounts;
+use present_value::Curve;
+use present_value::Span;
 use rate_table::COLUMNS;
 use rate_table::ROWS;
 use settings::Setting;
@@ -54,52 +56,54 @@ fn eight_settings() -> [Setting; 8]
     ]
 }
 
-// What the years from k = 5 on give to a product group in a setting. Those of the base are at hand:
-// they serve every setting whose later years are the base's.
+// The base, and what its years from k = 5 on give to a product group.
+struct Base {
+    setting: Setting,
+    later: Amounts,
+}
+
+// What the years from k = 5 on give to a product group in a setting: those of the base serve every
+// setting whose later years are the base's.
 fn later_years(
     book: &[u8],
-    divisors: &[u64; 50],
-    fractions: &[u64; 50],
+    curve: Curve,
     s: Setting,
     group: usize,
     numbers: &YearSums,
-    base: Setting,
-    shared: Amounts,
+    base: Base,
 ) -> Amounts
     requires { ⌜ SettingOf s
-        × SettingOf base
+        × SettingOf (base .setting)
         × GroupTable (now book) group (now numbers)
-        × CurveOf (now book) (now divisors) (now fractions)
-        × AmountsIn (now book) (base .number) group 5 50 shared ⌝ }
+        × CurveOf (now book) (curve .divisors) (curve .fractions)
+        × AmountsIn (now book) (base .setting .number) group 5 50 (base .later) ⌝ }
     ensures { λ r. ⌜ AmountsIn (now (book .entry)) (s .number) group 5 50 r ⌝ }
 {
-    if s.later_as(base) {
-        return shared;
+    if s.later_as(base.setting) {
+        return base.later;
     }
-    present_value::amounts_in(book, divisors, fractions, s, group, numbers, 5, 50)
+    present_value::amounts_in(book, curve, s, group, numbers, Span { from: 5, to: 50 })
 }
 
 // The liability of a product group in a setting: its first five years, and its later ones.
 fn liability_of(
     book: &[u8],
-    divisors: &[u64; 50],
-    fractions: &[u64; 50],
+    curve: Curve,
     s: Setting,
     group: usize,
     numbers: &YearSums,
-    base: Setting,
-    shared: Amounts,
+    base: Base,
 ) -> i64
     requires { ⌜ SettingOf s
-        × SettingOf base
+        × SettingOf (base .setting)
         × GroupTable (now book) group (now numbers)
-        × CurveOf (now book) (now divisors) (now fractions)
-        × AmountsIn (now book) (base .number) group 5 50 shared ⌝ }
+        × CurveOf (now book) (curve .divisors) (curve .fractions)
+        × AmountsIn (now book) (base .setting .number) group 5 50 (base .later) ⌝ }
     ensures { λ r. ⌜ (r ≡ groupLiability (now (book .entry)) (s .number) group)
         × (mag r ≤ 495000000000000000) ⌝ }
 {
-    let first = present_value::amounts_in(book, divisors, fractions, s, group, numbers, 0, 5);
-    let later = later_years(book, divisors, fractions, s, group, numbers, base, shared);
+    let first = present_value::amounts_in(book, curve, s, group, numbers, Span { from: 0, to: 5 });
+    let later = later_years(book, curve, s, group, numbers, base);
     cash_flow::less(first.outgo + later.outgo, first.premium + later.premium)
 }
 
@@ -107,8 +111,7 @@ fn liability_of(
 // once.
 fn add_group(
     book: &[u8],
-    divisors: &[u64; 50],
-    fractions: &[u64; 50],
+    curve: Curve,
     settings: [Setting; 8],
     group: usize,
     numbers: &YearSums,
@@ -116,15 +119,23 @@ fn add_group(
 )
     requires { ⌜ EightSettings settings
         × GroupTable (now book) group (now numbers)
-        × CurveOf (now book) (now divisors) (now fractions)
+        × CurveOf (now book) (curve .divisors) (curve .fractions)
         × Sums (now book) (group - 1) (now totals) ⌝ }
     ensures { λ _. ⌜ Sums (now (book .entry)) group (now (totals .exit)) ⌝ }
 {
-    let base = settings[0];
-    let shared = present_value::amounts_in(book, divisors, fractions, base, group, numbers, 5, 50);
+    let setting = settings[0];
+    let later = present_value::amounts_in(
+        book,
+        curve,
+        setting,
+        group,
+        numbers,
+        Span { from: 5, to: 50 },
+    );
+    let base = Base { setting, later };
     for j in 0usize..8 {
         let s = settings[j];
-        let liability = liability_of(book, divisors, fractions, s, group, numbers, base, shared);
+        let liability = liability_of(book, curve, s, group, numbers, base);
         totals[j] = plus(totals[j], liability);
     }
 }
@@ -137,8 +148,6 @@ fn all_totals(book: &[u8]) -> [i64; 8]
         × Sizes a ⌝ }
 {
     let curve = present_value::curve_of(book);
-    let divisors = curve.divisors;
-    let fractions = curve.fractions;
     let w = Shifts::new(book);
     let settings = eight_settings();
     let mut rows = [0u64; ROWS * COLUMNS];
@@ -153,15 +162,7 @@ fn all_totals(book: &[u8]) -> [i64; 8]
             &mut rows,
             &mut numbers,
         );
-        add_group(
-            book,
-            &divisors,
-            &fractions,
-            settings,
-            group,
-            &numbers,
-            &mut totals,
-        );
+        add_group(book, curve, settings, group, &numbers, &mut totals);
     }
     totals
 }

@@ -14,7 +14,7 @@ use Rattle.present_value.proofs.amounts_in.Statement.{statement}
 use Rattle.present_value.proofs.amounts_in.Tie as tie
 
 abbrev Inv-loop : tie.InvT-loop
-Inv-loop book divisors fractions group numbers from to setting premium outgo end paid₀ earned₀ k₀ paid earned k =
+Inv-loop book group numbers from setting premium outgo end paid₀ earned₀ k₀ paid earned k =
     (from ≤ k) × (k ≤ end)
     × (sumYears rounded from (yearOutgo book setting group) + paid ≡ sumYears rounded k (yearOutgo book setting group))
     × (sumYears rounded from (yearPremium book setting group) + earned ≡ sumYears rounded k
@@ -24,34 +24,34 @@ Inv-loop book divisors fractions group numbers from to setting premium outgo end
     × InYears (yearPremium book setting group) 9000000000000000 from end premium
 
 abbrev μ-loop : tie.MeasureT-loop
-μ-loop book divisors fractions group numbers from to setting premium outgo end paid₀ earned₀ k₀ paid earned k = end - k
+μ-loop book group numbers from setting premium outgo end paid₀ earned₀ k₀ paid earned k = end - k
 
 undiscounted-requires : tie.Need-undiscounted-requires Inv-loop μ-loop
-undiscounted-requires c κs = c .before .pre .0
+undiscounted-requires c κs = c .before .before .before .pre .0
 
 end-of-requires : tie.Need-end-of-requires Inv-loop μ-loop
-end-of-requires c κs = let a = c .before .before .before .before .before .before in (a .pre .0 .3, a .pre .0 .4)
+end-of-requires c κs = let a = c .before .before .before .before .before .before .before .before in (a .pre .0 .3, a .pre .0 .4)
 
 -- the years from the end on give nothing
 outgo-to-end : (c : tie.After-end-of Inv-loop μ-loop) →
-    let a = c .before .before .before .before .before .before .before in
+    let a = c .before .before .before .before .before .before .before .before .before in
     let f = yearOutgo (a .args .book .now) (a .args .s .number) (a .args .group) in
-    sumYears rounded (c .end-of .result) f ≡ sumYears rounded (a .args .to) f
+    sumYears rounded (c .end-of .result) f ≡ sumYears rounded (a .args .span .to) f
 outgo-to-end c =
     let u = c .before .before .before .before .before in
-    let a = u .before .before in
+    let a = u .before .before .before .before in
     let n = c .end-of .ensures in
     sum-to-end (divisorOf (a .args .book .now)) _ _ _ _ _ _ _ (outgo-discounted _ (a .args .s .number) (a .args .group))
     (u .undiscounted .ensures .outgo-in)
     (n .least) (n .most) (n .no-outgo)
 
 premium-to-end : (c : tie.After-end-of Inv-loop μ-loop) →
-    let a = c .before .before .before .before .before .before .before in
+    let a = c .before .before .before .before .before .before .before .before .before in
     let f = yearPremium (a .args .book .now) (a .args .s .number) (a .args .group) in
-    sumYears rounded (c .end-of .result) f ≡ sumYears rounded (a .args .to) f
+    sumYears rounded (c .end-of .result) f ≡ sumYears rounded (a .args .span .to) f
 premium-to-end c =
     let u = c .before .before .before .before .before in
-    let a = u .before .before in
+    let a = u .before .before .before .before in
     let n = c .end-of .ensures in
     sum-to-end (divisorOf (a .args .book .now)) _ _ _ _ _ _ _
     (premium-discounted _ (a .args .s .number) (a .args .group)) (u .undiscounted .ensures .premium-in)
@@ -59,9 +59,9 @@ premium-to-end c =
 
 discount-requires : tie.Need-discount-requires Inv-loop μ-loop
 discount-requires c κs =
-    let e = c .before .before .before in
+    let e = c .before .before .before .before .before in
     let u = e .before .before .before .before .before in
-    let a = u .before .before in
+    let a = u .before .before .before .before in
     let y = u .undiscounted .ensures in
     let n = e .end-of .ensures in (
       omega arith,
@@ -73,16 +73,16 @@ discount-requires c κs =
 
 loop-holds : tie.Need-loop-holds Inv-loop μ-loop
 loop-holds c =
-    let e = c .before .before .before .before in
+    let e = c .before .before .before .before .before .before in
     let u = e .before .before .before .before .before in
-    let a = u .before .before in
+    let a = u .before .before .before .before in
     let b = a .args .book .now in
     let s = a .args .s .number in
     let g = a .args .group in
     let y = u .undiscounted .ensures in
     let n = e .end-of .ensures in
     let d = c .discount .ensures in
-    let last : e .end-of .result - 1 + 1 ≡ e .end-of .result = omega (arith, c .before .before .before .if1 .left) in
+    let last : e .end-of .result - 1 + 1 ≡ e .end-of .result = omega (arith, c .before .before .before .before .before .if1 .left) in
     let few : e .end-of .result ≤ 50 = omega (arith, n .most, a .pre .0 .4) in (
       omega arith,
       n .least,
@@ -121,7 +121,7 @@ loop-again c =
 returns : tie.Need-returns Inv-loop μ-loop
 returns c =
     let e = c .before in
-    let z : e .before .before .before .before .before .before .before .args .from ≡ e .end-of .result =
+    let z : e .before .before .before .before .before .before .before .before .before .args .span .from ≡ e .end-of .result =
     omega (arith, e .end-of .ensures .least, c .if1 .taken) in record {
       outgo-is = rw z (omega (arith, outgo-to-end e));
       premium-is = rw z (omega (arith, premium-to-end e));
@@ -132,7 +132,7 @@ returns c =
 returns-2 : tie.Need-returns-2 Inv-loop μ-loop
 returns-2 c =
     let l = c .before .loop in
-    let e = c .before .before .before .before .before .before in
+    let e = c .before .before .before .before .before .before .before .before in
     let n = e .end-of .ensures in
     let z : l .k ≡ e .end-of .result = omega arith in record {
       outgo-is = rw z at (l .inv .2) ∙ outgo-to-end e;

@@ -80,7 +80,7 @@ loop-again c =
 returns : tie.Need-returns Inv-loop μ-loop
 returns c =
     let l = c .before .loop in
-    let e : l .k ≡ c .before .before .before .before .before .args .to = omega arith in
+    let e : l .k ≡ c .before .before .before .before .before .args .span .to = omega arith in
     record { premium-in = rw e at (l .inv .4); outgo-in = rw e at (l .inv .5) }
 
 pub undiscounted-spec : {M : Type 1} → statement M

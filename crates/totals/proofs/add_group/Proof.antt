@@ -16,11 +16,11 @@ use Rattle.totals.proofs.add_group.Statement.{statement}
 use Rattle.totals.proofs.add_group.Tie as tie
 
 abbrev Inv-loop : tie.InvT-loop
-Inv-loop book divisors fractions group numbers totals₀ settings base shared j₀ totals j =
+Inv-loop book curve group numbers totals₀ settings base j₀ totals j =
     (j ≤ 8) × Growing book group j totals
 
 abbrev μ-loop : tie.MeasureT-loop
-μ-loop book divisors fractions group numbers totals₀ settings base shared j₀ totals j = 8 - j
+μ-loop book curve group numbers totals₀ settings base j₀ totals j = 8 - j
 
 amounts-in-requires : tie.Need-amounts-in-requires Inv-loop μ-loop
 amounts-in-requires c κs =

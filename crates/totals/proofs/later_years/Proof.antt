@@ -9,8 +9,8 @@ use Rattle.totals.proofs.later_years.Tie as tie
 
 returns : tie.Need-returns
 returns c =
-    let a = c .before .before .before in
-    let same = sym (c .before .later-as .ensures) ∙ c .if1 .taken in
+    let a = c .before .before .before .before in
+    let same = sym (c .before .before .later-as .ensures) ∙ c .before .if1 .taken in
     later-same _ _ _ (later-decrements _ _ (a .pre .0) (a .pre .1) same _)
     (later-outgo _ _ (a .pre .0) (a .pre .1) same) _ _ (a .pre .4)
 
