@@ -18,6 +18,7 @@ from tests.support.openpyxl_path import openpyxl_folder
 
 sys.path.insert(0, str(ROOT / "python"))
 
+import xaropinto  # noqa: E402
 from xaropinto.refusals import refusals  # noqa: E402
 
 MOST_SECONDS = 60
@@ -28,8 +29,9 @@ STAND_INS = {
     "make": f'[ "$*" = list ] && exec {ROOT}/target/bin/listing_main < samples/one_record.book',
 }
 PROMPT = "    $ "
-# A span that is a command, and not a name or a piece of a file.
-COMMAND = re.compile(r"(?:make|xaropinto|rt|python3|git|gcc|pip|grep|objdump)\b")
+# A span that is a command or an option of the linker, and not a name or a piece of a file.
+COMMAND = re.compile(r"(?:make|xaropinto|rt|python3|git|gcc|cc|cargo|pip|grep|objdump|man"
+                     r"|ldconfig)\b|-Wl,")
 SPAN = re.compile(r"(?<!`)`([^`]+)`(?!`)")
 # A function of a crate, which another rule finds in its source.
 FUNCTION = re.compile(r"[a-z]\w*::[a-z]\w*")
@@ -99,6 +101,14 @@ def programs():
     for where, match in matches(r"python3 -m ((?:tests|tools)[\w.]*)"):
         path = ROOT / (match[1].replace(".", "/") + ".py")
         yield where, path.is_file(), f"there is no module {match[1]}"
+
+
+def python_names():
+    """Names of the Python package in the documents are there."""
+    for where, match in matches(r"(?<![\w/.-])xaropinto\.(?!py\b|h\b|book\b)([A-Za-z]\w+)"):
+        holds = (ROOT / "python" / "xaropinto" / f"{match[1]}.py").is_file()
+        holds = holds or hasattr(xaropinto, match[1])
+        yield where, holds, f"the package has no {match[0]}"
 
 
 def squeezed(text):
