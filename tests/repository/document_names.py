@@ -155,10 +155,8 @@ def calls():
 
 
 def parts():
-    """Parts of the gate are those of VERIFICATION's table, in their order."""
-    listed = [cell.strip() for _, heading, cell in cells(VERIFICATION)
-              if heading.strip() == "part of `make test`"]
-    listed = [name for name in listed if set(name) != {"-"}]
+    """Parts of the gate are those of VERIFICATION's list, in their order."""
+    listed = [match[1] for _, match in matches(r"^- \*\*(.+?)\*\*", [VERIFICATION])]
     due = [part.name for part in PARTS]
     more = [name for name in listed if name not in due]
     less = [name for name in due if name not in listed]

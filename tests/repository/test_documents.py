@@ -33,7 +33,7 @@ BREAKS = [
     (names.names, TRACEABILITY, "`accepted-held`", "`accepted-hold`"),
     (names.functions, API, "`totals::totals(book)`", "`totals::total(book)`"),
     (names.calls, API, "| `totals::totals(book)`", "| `totals::add_group(book)`"),
-    (names.parts, VERIFICATION, "| sample books |", "| sampled books |"),
+    (names.parts, VERIFICATION, "- **sample books**", "- **sampled books**"),
     (names.counts, VERIFICATION, "/Bytes.antt, 16:", "/Bytes.antt, 17:"),
     (names.definitions, VERIFICATION, "specs/Version.antt", "specs/Versions.antt"),
     (names.definitions, VERIFICATION, "`present_value` and", "and"),
