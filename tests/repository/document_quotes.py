@@ -40,6 +40,8 @@ REFUSAL = re.compile(r"(?:refused |Refused\()?(\d+)[ ,]+\d+\)?")
 NOTATION = ("notation", "read")
 # A path, and a block that repeats the file.
 READS = re.compile(r"^([\w./-]+) reads:\n\n((?:    .*\n)+)", re.M)
+# One path or two, and a block of lines that are in these files.
+FROM = re.compile(r"\bFrom\s+([\w./-]+)(?:\s+and\s+([\w./-]+))?:\n\n((?:    .*\n)+)")
 
 
 def shown_in(page):
@@ -171,3 +173,14 @@ def files_shown():
             file = found(match[1])
             holds = file is not None and text_of(file).strip() == block.strip()
             yield str(page.relative_to(ROOT)), holds, f"{match[1]} reads otherwise"
+
+
+def fragments():
+    """Lines that a document shows from files are in these."""
+    for page in PAGES:
+        for match in FROM.finditer(text_of(page)):
+            held = [squeezed(line) for path in match.groups()[:2] if path
+                    for line in text_of(found(path)).splitlines()]
+            for line in match[3].splitlines():
+                holds = squeezed(line) in held
+                yield str(page.relative_to(ROOT)), holds, f"nothing there reads {line.strip()!r}"

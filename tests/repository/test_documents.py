@@ -20,7 +20,8 @@ EXAMPLES = DOCS / "WORKED_EXAMPLES.md"
 RULES = [names.paths, names.links, names.edits, names.notes, names.names, names.functions,
          names.calls, names.parts, names.counts, names.definitions, names.checkers, names.machines,
          form.lengths, form.widths, form.words, form.one_file, form.decisions, quotes.commands,
-         quotes.programs, quotes.python_names, quotes.spans, quotes.files_shown]
+         quotes.programs, quotes.python_names, quotes.spans, quotes.files_shown,
+         quotes.fragments]
 
 LONG = "word " * 50
 # For each rule pages, what is changed in the copy and into what.
@@ -66,6 +67,7 @@ BREAKS = [
     (quotes.spans, METHOD, "`yearsInForce`", "`yearsInForced`"),
     (quotes.spans, FILE_FORMAT, "`refused 13 1248`", "`refused 99 1248`"),
     (quotes.files_shown, CONTRIBUTING, "    old: 1300,", "    old: 1301,"),
+    (quotes.fragments, VERIFICATION, "(ltb kind 2) 10 1000", "(ltb kind 2) 10 1001"),
 ]
 
 
