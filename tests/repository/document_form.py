@@ -7,8 +7,8 @@ import re
 
 from tests import ROOT
 from tests.repository.pages import (API, CHANGELOG, CONTRIBUTING, DECISIONS, DOCS, ERROR_BOUND,
-                                    LANDINGS, PAGES, README, TRACEABILITY, VERIFICATION, cells,
-                                    lines, points, text_of)
+                                    INSTALL, LANDINGS, PAGES, README, TRACEABILITY, VERIFICATION,
+                                    cells, lines, points, text_of)
 
 MAN_PAGE = ROOT / "packaging" / "xaropinto.1"
 HEADER = ROOT / "include" / "xaropinto.h"
@@ -19,6 +19,7 @@ MOST_LINES = {
     DOCS / "METHOD.md": 250, DOCS / "WORKED_EXAMPLES.md": 350, ERROR_BOUND: 150, API: 250,
     VERIFICATION: 300, TRACEABILITY: None, DOCS / "ARCHITECTURE.md": 150, CONTRIBUTING: 200,
     DECISIONS: None, CHANGELOG: None, LANDINGS / "README.md": 50, **dict.fromkeys(NOTES, 30),
+    INSTALL: 100,
 }
 WIDEST_LINE, WIDEST_CELL = 100, 200
 MOST_WORDS = 60

@@ -31,6 +31,8 @@ BRACKETED = re.compile(rf"((?:`[^`]+`(?:, | and )?)+) \(({FILE})\)")
 TOKEN = re.compile(rf"`?(?P<path>{FILE})`?|`(?P<span>[^`]+)`"
                    rf"|\b(?P<crate>{'|'.join(CRATES)})(?= `)|\b(?P<file>[A-Z]\w+)(?= [`(])")
 NAME = re.compile(r"(?:[A-Z]\w*::)?([\w′-]+)")
+# How the paragraph of VERIFICATION begins that names crates whose definitions nobody needs to read.
+STEPS = "**Steps of the code**"
 # What only one machine has; in this form the pattern does not find itself.
 MACHINE = re.compile(r"/(?:work|tmp|root|home|opt|farm)/")
 # The requests of document 02, and what the note of each has.
@@ -153,10 +155,8 @@ def calls():
 
 
 def parts():
-    """Parts of the gate are those of VERIFICATION's table, in their order."""
-    listed = [cell.strip() for _, heading, cell in cells(VERIFICATION)
-              if heading.strip() == "part of `make test`"]
-    listed = [name for name in listed if set(name) != {"-"}]
+    """Parts of the gate are those of VERIFICATION's list, in their order."""
+    listed = [match[1] for _, match in matches(r"^- \*\*(.+?)\*\*", [VERIFICATION])]
     due = [part.name for part in PARTS]
     more = [name for name in listed if name not in due]
     less = [name for name in due if name not in listed]
@@ -165,13 +165,22 @@ def parts():
 
 def counts():
     """Line counts of VERIFICATION are those of the files."""
-    for where, match in matches(r"^\| *`?([\w+./-]+/[\w+.-]+)`? *\| *([\d,]+) *\|",
-                                [VERIFICATION]):
+    for where, match in matches(r"^- ([\w+./-]+/[\w+.-]+), ([\d,]+): ", [VERIFICATION]):
         at = found(match[1])
         file = at is not None and at.is_file()
         held = sum(1 for line in text_of(at).splitlines() if line.strip()) if file else "no file"
         holds = held == int(match[2].replace(",", ""))
         yield where, holds, f"{match[1]} is {held} and not {match[2]}"
+
+
+def definitions():
+    """Every file of definitions is on VERIFICATION's list, or among its steps of the code."""
+    steps = next(text for text in text_of(VERIFICATION).split("\n\n") if text.startswith(STEPS))
+    crates = set(re.findall(r"`(\w+)`", steps))
+    for file in sorted((ROOT / "crates").glob("*/specs/**/*.antt")):
+        path = str(file.relative_to(ROOT))
+        holds = path in text_of(VERIFICATION) or file.relative_to(ROOT).parts[1] in crates
+        yield "docs/VERIFICATION.md", holds or file.stem == "Lib", f"does not name {path}"
 
 
 def checkers():

@@ -18,6 +18,7 @@ from tests.support.openpyxl_path import openpyxl_folder
 
 sys.path.insert(0, str(ROOT / "python"))
 
+import xaropinto  # noqa: E402
 from xaropinto.refusals import refusals  # noqa: E402
 
 MOST_SECONDS = 60
@@ -28,8 +29,9 @@ STAND_INS = {
     "make": f'[ "$*" = list ] && exec {ROOT}/target/bin/listing_main < samples/one_record.book',
 }
 PROMPT = "    $ "
-# A span that is a command, and not a name or a piece of a file.
-COMMAND = re.compile(r"(?:make|xaropinto|rt|python3|git|gcc|pip|grep|objdump)\b")
+# A span that is a command or an option of the linker, and not a name or a piece of a file.
+COMMAND = re.compile(r"(?:make|xaropinto|rt|python3|git|gcc|cc|cargo|pip|grep|objdump|man"
+                     r"|ldconfig)\b|-Wl,")
 SPAN = re.compile(r"(?<!`)`([^`]+)`(?!`)")
 # A function of a crate, which another rule finds in its source.
 FUNCTION = re.compile(r"[a-z]\w*::[a-z]\w*")
@@ -38,6 +40,8 @@ REFUSAL = re.compile(r"(?:refused |Refused\()?(\d+)[ ,]+\d+\)?")
 NOTATION = ("notation", "read")
 # A path, and a block that repeats the file.
 READS = re.compile(r"^([\w./-]+) reads:\n\n((?:    .*\n)+)", re.M)
+# One path or two, and a block of lines that are in these files.
+FROM = re.compile(r"\bFrom\s+([\w./-]+)(?:\s+and\s+([\w./-]+))?:\n\n((?:    .*\n)+)")
 
 
 def shown_in(page):
@@ -101,6 +105,14 @@ def programs():
         yield where, path.is_file(), f"there is no module {match[1]}"
 
 
+def python_names():
+    """Names of the Python package in the documents are there."""
+    for where, match in matches(r"(?<![\w/.-])xaropinto\.(?!py\b|h\b|book\b)([A-Za-z]\w+)"):
+        holds = (ROOT / "python" / "xaropinto" / f"{match[1]}.py").is_file()
+        holds = holds or hasattr(xaropinto, match[1])
+        yield where, holds, f"the package has no {match[0]}"
+
+
 def squeezed(text):
     """A text with single blanks."""
     return " ".join(text.split())
@@ -161,3 +173,14 @@ def files_shown():
             file = found(match[1])
             holds = file is not None and text_of(file).strip() == block.strip()
             yield str(page.relative_to(ROOT)), holds, f"{match[1]} reads otherwise"
+
+
+def fragments():
+    """Lines that a document shows from files are in these."""
+    for page in PAGES:
+        for match in FROM.finditer(text_of(page)):
+            held = [squeezed(line) for path in match.groups()[:2] if path
+                    for line in text_of(found(path)).splitlines()]
+            for line in match[3].splitlines():
+                holds = squeezed(line) in held
+                yield str(page.relative_to(ROOT)), holds, f"nothing there reads {line.strip()!r}"

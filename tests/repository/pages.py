@@ -13,11 +13,12 @@ README, CONTRIBUTING, CHANGELOG = (ROOT / f"{name}.md" for name in
                                    ("README", "CONTRIBUTING", "CHANGELOG"))
 DOCS = ROOT / "docs"
 LANDINGS = DOCS / "landings"
+INSTALL = ROOT / "packaging" / "INSTALL.md"
 (API, DECISIONS, ERROR_BOUND, METHOD, TRACEABILITY, VERIFICATION) = (
     DOCS / f"{name}.md" for name in
     ("API", "DECISIONS", "ERROR_BOUND", "METHOD", "TRACEABILITY", "VERIFICATION"))
 PAGES = [README, CONTRIBUTING, CHANGELOG, *sorted(DOCS.glob("*.md")),
-         *sorted(LANDINGS.glob("*.md"))]
+         *sorted(LANDINGS.glob("*.md")), INSTALL]
 # Directories of what is built or kept, and of books; the file that marks an environment of Python.
 NOT_READ = {".git", "target", "differing", "samples", "__pycache__"}
 ENVIRONMENT = "pyvenv.cfg"

@@ -18,9 +18,10 @@ NOTE = DOCS / "landings" / "W-201.md"
 EXAMPLES = DOCS / "WORKED_EXAMPLES.md"
 
 RULES = [names.paths, names.links, names.edits, names.notes, names.names, names.functions,
-         names.calls, names.parts, names.counts, names.checkers, names.machines, form.lengths,
-         form.widths, form.words, form.one_file, form.decisions, quotes.commands, quotes.programs,
-         quotes.spans, quotes.files_shown]
+         names.calls, names.parts, names.counts, names.definitions, names.checkers, names.machines,
+         form.lengths, form.widths, form.words, form.one_file, form.decisions, quotes.commands,
+         quotes.programs, quotes.python_names, quotes.spans, quotes.files_shown,
+         quotes.fragments]
 
 LONG = "word " * 50
 # For each rule pages, what is changed in the copy and into what.
@@ -33,8 +34,10 @@ BREAKS = [
     (names.names, TRACEABILITY, "`accepted-held`", "`accepted-hold`"),
     (names.functions, API, "`totals::totals(book)`", "`totals::total(book)`"),
     (names.calls, API, "| `totals::totals(book)`", "| `totals::add_group(book)`"),
-    (names.parts, VERIFICATION, "| sample books |", "| sampled books |"),
-    (names.counts, VERIFICATION, "/Bytes.antt | 16 |", "/Bytes.antt | 17 |"),
+    (names.parts, VERIFICATION, "- **sample books**", "- **sampled books**"),
+    (names.counts, VERIFICATION, "/Bytes.antt, 16:", "/Bytes.antt, 17:"),
+    (names.definitions, VERIFICATION, "specs/Version.antt", "specs/Versions.antt"),
+    (names.definitions, VERIFICATION, "`present_value` and", "and"),
     (names.machines, README, "`/usr/local`", "`/" + "opt/local`"),
     (form.lengths, README, "# Xaropinto\n", "# Xaropinto\n" + 30 * "\n"),
     (form.widths, README, "**For whom.**", LONG + LONG),
@@ -59,10 +62,12 @@ BREAKS = [
     (quotes.programs, README, "`make dist`", "`make dists`"),
     (quotes.programs, CONTRIBUTING, "python3 -m tests.api.test_base_calls",
      "python3 -m tests.api.test_calls"),
+    (quotes.python_names, API, "xaropinto.RefusedError", "xaropinto.Refused"),
     (quotes.spans, VERIFICATION, "`for group in 1usize..6`", "`for group in 0usize..5`"),
     (quotes.spans, METHOD, "`yearsInForce`", "`yearsInForced`"),
     (quotes.spans, FILE_FORMAT, "`refused 13 1248`", "`refused 99 1248`"),
     (quotes.files_shown, CONTRIBUTING, "    old: 1300,", "    old: 1301,"),
+    (quotes.fragments, VERIFICATION, "(ltb kind 2) 10 1000", "(ltb kind 2) 10 1001"),
 ]
 
 
