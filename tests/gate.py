@@ -104,7 +104,7 @@ CALLS = [
     script("age classes of two years, on seeded pairs", "tests.cli.test_age_alignment", 14),
     script("what is installed", "tests.cli.test_installed", 14),
     script("formatters and linters", "tests.repository.test_style", 9),
-    script("documents", "tests.repository.test_documents", 15),
+    script("documents", "tests.repository.test_documents", 60),
 ]
 PARTS = [PROOFS, *PROGRAMS, CALLERS, *CALLS]
 # The module that reads what the prover said of each edit; those whose inputs are drawn; and those
