@@ -1,13 +1,16 @@
 """The files that the command reads and writes. An output appears whole or not at all, and is never
 an input."""
 
+import contextlib
+import glob
 import os
 import shutil
 import signal
 import stat
 import sys
 from pathlib import Path
-from typing import Iterable, Mapping
+from types import FrameType
+from typing import Iterable, Iterator, Mapping, Optional, Sequence
 
 from xaropinto.cli.errors import CommandError, reason_of
 from xaropinto.cli.streams import put_bytes
@@ -15,8 +18,16 @@ from xaropinto.cli.streams import put_bytes
 STANDARD = "-"
 # No book is a thousandth as long; a file beyond it is not read at all.
 MOST_BYTES = 64 * 1024 * 1024
-# The signals that a person or a system ends a run with.
-ENDING = (signal.SIGINT, signal.SIGTERM, signal.SIGHUP)
+# The signals that a person or a system ends a run with, as far as the system has them: only Windows
+# has SIGBREAK (Ctrl-Break, or the console is closed), and it has no SIGHUP.
+ENDING = tuple(
+    getattr(signal, name)
+    for name in ("SIGINT", "SIGTERM", "SIGHUP", "SIGBREAK")
+    if hasattr(signal, name)
+)
+# Windows neither lets a file that is open be replaced nor lists files by pattern before a command
+# starts.
+ON_WINDOWS = os.name == "nt"
 
 # Of one run: which files it reads, by device and inode, and the paths that it has written.
 _inputs: set[tuple[int, int]] = set()
@@ -52,6 +63,18 @@ def need_no_input(path: str) -> None:
     """Stop where an output is what is read."""
     if path != STANDARD and identity_of(path) in _inputs:
         raise CommandError(f"{path}: this is an input; it is left as it was")
+
+
+def listed_files(words: Sequence[str]) -> list[str]:
+    """The files that words name. On Windows, where no name has * or ?, a pattern names all that it
+    fits, in order; one that fits none is left, so that it is reported as a name."""
+    if not ON_WINDOWS:
+        return list(words)
+    paths: list[str] = []
+    for word in words:
+        found = sorted(glob.glob(word)) if "*" in word or "?" in word else []
+        paths += found or [word]
+    return paths
 
 
 def take_written() -> list[str]:
@@ -95,8 +118,17 @@ def write_file(path: str, held: bytes) -> None:
         else:
             replace_file(target, held)
     except (OSError, ValueError) as error:
-        raise CommandError(f"{path}: {reason_of(error)}") from error
+        raise not_written(path, error) from error
     _written.append(path)
+
+
+def not_written(path: str, error: Exception) -> CommandError:
+    """What is said of a file or folder that cannot be written. The reason that Windows gives does
+    not name the usual one: a spreadsheet program that has the old one open."""
+    words = f"{path}: {reason_of(error)}"
+    if ON_WINDOWS and isinstance(error, PermissionError) and os.path.exists(path):
+        words += "; it is left as it was: is it open in another program?"
+    return CommandError(words)
 
 
 def beside(target: Path, kind: str) -> Path:
@@ -137,7 +169,7 @@ def write_folder(path: str, files: Mapping[str, bytes], replace: bool = False) -
             put_new(part / name, held)
         swap_in(part, target)
     except (OSError, ValueError) as error:
-        raise CommandError(f"{path}: {reason_of(error)}") from error
+        raise not_written(path, error) from error
     finally:
         shutil.rmtree(part, ignore_errors=True)
     _written.append(path)
@@ -161,8 +193,7 @@ def need_free(path: str, target: Path, files: Mapping[str, bytes], replace: bool
 def swap_in(part: Path, target: Path) -> None:
     """Put a folder in another's place; an interrupt waits until both renames are done."""
     old = beside(target, "old")
-    mask = signal.pthread_sigmask(signal.SIG_BLOCK, ENDING)
-    try:
+    with signals_held():
         if target.exists():
             os.rename(target, old)
         try:
@@ -172,5 +203,22 @@ def swap_in(part: Path, target: Path) -> None:
                 os.rename(old, target)
             raise
         shutil.rmtree(old, ignore_errors=True)
+
+
+@contextlib.contextmanager
+def signals_held() -> Iterator[None]:
+    """The first signal that comes meanwhile takes effect when this is over. Windows cannot block
+    signals, so a handler keeps them here."""
+    came: list[int] = []
+
+    def keep(number: int, _: Optional[FrameType]) -> None:
+        came.append(number)
+
+    before = {each: signal.signal(each, keep) for each in ENDING}
+    try:
+        yield
     finally:
-        signal.pthread_sigmask(signal.SIG_SETMASK, mask)
+        for each, handler in before.items():
+            signal.signal(each, handler or signal.SIG_DFL)
+        for number in came[:1]:
+            signal.raise_signal(number)
