@@ -12,10 +12,8 @@ SEED ?= 1
 PREFIX ?= /usr/local
 # Of the program that times: in each the functions stand in another order.
 LINKS ?= 1 2 3 4 5
-VERSION := $(shell cat VERSION)
 # The name by which programs ask for the shared library: it changes where an old caller would break.
 SHARED := libxaropinto.so.2
-DIST := xaropinto-$(VERSION)-linux-x86_64
 # Paths reach the shell through the environment and as they were given: quotes and dollar signs stay what they are.
 export BOOK_PATH := $(if $(value BOOK),$(value BOOK),$(SAMPLE))
 export OUT_PATH := $(if $(value OUT),$(value OUT),target/converted.book)
@@ -75,10 +73,10 @@ lib: ## prove the C boundary and put its archive and shared library under target
 	@mv -f target/lib.new/* target/lib/
 
 install: lib target/bin/listing_main target/bin/year_report_main target/bin/age_basis_main ## install under PREFIX, by default /usr/local, below DESTDIR
-	@sh packaging/install.sh "$(DESTDIR)$(PREFIX)" $(SHARED) $(VERSION)
+	@python3 -m tools.dist install "$(DESTDIR)$(PREFIX)"
 
-dist: lib target/bin/listing_main target/bin/year_report_main target/bin/age_basis_main ## an archive for machines without the toolchain, under target/dist
-	@sh packaging/dist.sh target/dist $(DIST) $(SHARED) $(VERSION)
+dist: lib target/bin/listing_main target/bin/year_report_main target/bin/age_basis_main ## archives and wheels for machines without the toolchain, under target/dist
+	@python3 -m tools.dist build target/dist
 
 callers: ## run the tests of the callers in C, Rust and Python
 	@python3 -m tests.gate callers
