@@ -12,8 +12,10 @@ from pathlib import Path
 
 from tests import ROOT
 from tests.cli.run import sample, without_warnings, xaropinto
+from tests.cli.test_package import unpacked
 from tests.support.debian import install
 from tests.support.report import run_unit_tests
+from tools.dist import identity
 
 MOST_SECONDS = 600
 WHEELS = Path("/usr/share/python-wheels")
@@ -45,8 +47,14 @@ def wheel_path():
     return str(found[-1])
 
 
+def version_lines():
+    """What `--version` prints where it is installed from this tree."""
+    return (f"xaropinto {VERSION}\ncommit {identity.commit()}\n"
+            f"checker {identity.checker()}\n")
+
+
 class Installed(unittest.TestCase):
-    """`make install`, `make dist` and pip."""
+    """`make install`, the archive and pip."""
 
     def setUp(self):
         held = tempfile.TemporaryDirectory()
@@ -73,6 +81,10 @@ class Installed(unittest.TestCase):
             ended = run(self.folder / "example", sample(book),
                         env={"LD_LIBRARY_PATH": str(root / "lib")})
             self.assertEqual((ended.returncode, ended.stdout), (code, b"" if code else LISTING))
+        # Nothing of the repository on the path: neither git nor the checker is asked.
+        ended = run(sys.executable, root / "bin" / "xaropinto", "--version", folder=self.folder,
+                    env={"PATH": "/nowhere"})
+        self.assertEqual((ended.returncode, ended.stdout.decode()), (0, version_lines()))
 
     def test_install(self):
         ended = run("make", "install", f"DESTDIR={self.folder}", "PREFIX=/usr/it")
@@ -81,12 +93,8 @@ class Installed(unittest.TestCase):
         manual = self.folder / "usr" / "it" / "share" / "man" / "man1" / "xaropinto.1"
         self.assertIn(f"xaropinto {VERSION}", manual.read_text(encoding="ascii"))
 
-    def test_dist(self):
-        ended = run("make", "dist")
-        self.assertEqual(ended.returncode, 0, ended.stderr)
-        archive = ROOT / ended.stdout.decode().split()[-1]
-        self.assertEqual(run("tar", "-xzf", archive, "-C", self.folder).returncode, 0)
-        self.hold(self.folder / archive.name.removesuffix(".tar.gz"))
+    def test_archive(self):
+        self.hold(unpacked(self.folder))
 
     def test_pip(self):
         shutil.copytree(ROOT / "python", self.folder / "python")
