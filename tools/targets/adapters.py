@@ -47,7 +47,8 @@ def adapters(calls, two_words):
 def adapter(call, two_words):
     """The adapter of one call."""
     by_pointer = is_struct(call.reply) and not two_words
-    outer = [f"{each.kind} {each.name}" for each in call.arguments]
+    outer = [f"{each.kind}{'' if each.kind.endswith('*') else ' '}{each.name}"
+             for each in call.arguments]
     inner = [f"{each.kind} *{each.name}" if is_struct(each.kind) else words
              for each, words in zip(call.arguments, outer)]
     passed = [f"&{each.name}" if is_struct(each.kind) else each.name for each in call.arguments]

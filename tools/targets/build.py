@@ -1,4 +1,4 @@
-"""Compiles and links the captured module for each target, with the kit's clang and linkers alone."""
+"""Compiles and links the captured module for each target, with the kit's clang and lld alone."""
 
 import contextlib
 import fcntl
@@ -18,10 +18,16 @@ C_FOLDER = Path(__file__).resolve().parent / "c"
 OF_TARGET = ("--target=", "-march=", "--sysroot=", "-O", "-fPIC")
 ASSEMBLED = ("--no-default-config", "-Werror", "-c")
 COMPILED = (*ASSEMBLED, "-nostdinc", "-std=c11", "-Wall", "-Wextra", "-O2", "-ffreestanding",
-            "-fno-builtin", "-ffunction-sections", "-DXAROPINTO_STATIC",
-            f"-I{C_FOLDER / 'include'}", f"-I{HEADER.parent}")
-# Above -O1 the upper half of a product becomes one of 128 bits, which WebAssembly does not have.
-OPTIMISED = {WASM32: ("-O1",), WINDOWS: ("-O3", "-march=x86-64"), ARM64: ("-O3", "-fPIC")}
+            "-fno-builtin", "-DXAROPINTO_STATIC", f"-I{C_FOLDER / 'include'}",
+            f"-I{HEADER.parent}")
+# How each target is optimised, and what else is asked of code for it. Above -O1 the upper half of a
+# product becomes one of 128 bits, which WebAssembly does not have. On Windows the tables of a
+# function in a section of its own are in one of their own too, and the linker leaves them out.
+OPTIMISED = {
+    WASM32: ("-O1",),
+    WINDOWS: ("-O3", "-march=x86-64", "-fno-function-sections", "-fasynchronous-unwind-tables"),
+    ARM64: ("-O3", "-fPIC"),
+}
 STACK_BYTES = 256 * 1024
 SONAME = "libxaropinto.so.2"
 

@@ -26,25 +26,28 @@ PROVED = "proved_"
 class Target(NamedTuple):
     """A target of the module: its folder, its triple, and what is said of every function.
 
-    With adapters, the calls are the adapters', and the module's have other names. A reply of two
-    words is returned in two registers: by which convention, where the target's own does not do so.
+    With adapters, the calls are the adapters', and the module's have other names and are, where
+    the target knows that, hidden. A reply of two words is returned in two registers: by which
+    convention, where the target's own does not do so.
     """
 
     name: str
     triple: str
     attributes: str
-    adapters: bool
+    adapters: bool = False
+    hidden: bool = False
     two_words: str = ""
 
 
 # WebAssembly has a stack that traps at its end.
-WASM32 = Target("wasm32", "wasm32-unknown-unknown", "nounwind", False)
+WASM32 = Target("wasm32", "wasm32-unknown-unknown", "nounwind")
 # Windows protects nothing below the stack pointer and unwinds by tables; it has its own probe of
 # the stack.
 WINDOWS = Target("windows-x86_64", "x86_64-pc-windows-gnu",
-                 'noredzone nounwind uwtable "target-cpu"="x86-64"', True, "x86_64_sysvcc")
-ARM64 = Target("linux-arm64", "aarch64-unknown-linux-gnu",
-               'nounwind "probe-stack"="inline-asm"', True)
+                 'noredzone nounwind uwtable "target-cpu"="x86-64"', adapters=True,
+                 two_words="x86_64_sysvcc")
+ARM64 = Target("linux-arm64", "aarch64-unknown-linux-gnu", 'nounwind "probe-stack"="inline-asm"',
+               adapters=True, hidden=True)
 TARGETS = (WASM32, WINDOWS, ARM64)
 
 
@@ -80,12 +83,12 @@ def call_line(found, target):
     """The line on which a call of the C API begins."""
     if not target.adapters:
         return found[0]
-    reply, convention = found["reply"], ""
-    if reply == TWO_WORDS and target.two_words:
-        convention = f"{target.two_words} "
+    hidden = "hidden " if target.hidden else ""
+    convention = f"{target.two_words} " if found["reply"] == TWO_WORDS and target.two_words else ""
     # The caller makes the copy, and passes where it is.
     arguments = COPIED.sub("", found["arguments"])
-    return f"define hidden {convention}{reply} @{PROVED}{found['name']}({arguments}) #0 {{"
+    return (f"define {hidden}{convention}{found['reply']} @{PROVED}{found['name']}({arguments})"
+            " #0 {")
 
 
 def two_word_calls(module, names):
