@@ -98,6 +98,10 @@ class Installed(unittest.TestCase):
 
     def test_pip(self):
         shutil.copytree(ROOT / "python", self.folder / "python")
+        # In place of the repository's: what the package is of.
+        (self.folder / "tools" / "dist").mkdir(parents=True)
+        (self.folder / "tools" / "dist" / "identity.py").write_text(
+            """build_json = lambda: b'{"commit": "abc", "checker": "kit logic 1"}'""")
         ended = run(sys.executable, "-m", "pip", "install", "--quiet", "--no-build-isolation",
                     "--no-deps", "--no-index", "--disable-pip-version-check", "--target",
                     self.folder / "there", self.folder / "python",
@@ -111,6 +115,10 @@ class Installed(unittest.TestCase):
         self.assertEqual((ended.returncode, ended.stdout), (0, LISTING), ended.stderr)
         self.assertEqual(without_warnings(ended.stderr.decode()), [])
         self.assertTrue((self.folder / "there" / "xaropinto" / "schema.json").is_file())
+        ended = run(self.folder / "there" / "bin" / "xaropinto", "--version", folder=self.folder,
+                    env={"PYTHONPATH": str(self.folder / "there")})
+        self.assertEqual(ended.stdout.decode(),
+                         f"xaropinto {VERSION}\ncommit abc\nchecker kit logic 1\n")
         ended = run(sys.executable, "-c",
                     "import xaropinto, sys; print(xaropinto.__version__, xaropinto.check("
                     "open(sys.argv[1], 'rb').read()))", sample("small_insurer"), folder=self.folder,

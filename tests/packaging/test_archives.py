@@ -5,6 +5,7 @@ import calendar
 import hashlib
 import io
 import os
+import shutil
 import stat
 import subprocess
 import sys
@@ -18,6 +19,7 @@ from unittest.mock import patch
 from tests import ROOT
 from tests.support.case import Case
 from tests.support.command import run
+from tests.support.debian import install
 from tests.support.report import run_unit_tests
 from tools.dist import archives, contents
 from tools.dist.elf import glibc_needed
@@ -54,6 +56,25 @@ LIBRARIES = {
     "windows-x86_64": ("target/targets/windows-x86_64/xaropinto.dll", "bin/xaropinto.dll",
                        "xaropinto.dll"),
 }
+# Where the files for CMake lead, in each archive: printed by a project that asks for no compiler.
+PROJECT = """cmake_minimum_required(VERSION 3.15)
+project(it NONE)
+find_package(xaropinto CONFIG REQUIRED)
+foreach(target xaropinto static)
+  foreach(name LOCATION IMPLIB SONAME)
+    if(TARGET xaropinto::${target})
+      get_target_property(value xaropinto::${target} IMPORTED_${name})
+      message(NOTICE "${target} ${name} ${value}")
+    endif()
+  endforeach()
+endforeach()
+"""
+LINUX_PLACES = {"xaropinto LOCATION": "TOP/lib/libxaropinto.so.2", "xaropinto IMPLIB": "none",
+                "xaropinto SONAME": "libxaropinto.so.2", "static IMPLIB": "none",
+                "static LOCATION": "TOP/lib/libxaropinto.a", "static SONAME": "none"}
+PLACES = {"linux-x86_64": LINUX_PLACES, "linux-arm64": LINUX_PLACES, "windows-x86_64": {
+    "xaropinto LOCATION": "TOP/bin/xaropinto.dll", "xaropinto IMPLIB": "TOP/lib/xaropinto.lib",
+    "xaropinto SONAME": "none"}}
 # Another zone, encoding, order of sets and access to new files than the first build has.
 ELSEWHERE = {"TZ": "Asia/Tokyo", "LC_ALL": "C", "PYTHONHASHSEED": "7"}
 
@@ -222,6 +243,24 @@ class Archives(Case):
         held = self.held["linux-x86_64"]
         needed = max(glibc_needed(held[name].held) for name in PROGRAMS)
         self.assertIn(f"glibc {needed[0]}.{needed[1]} or later", held["README.md"].held.decode())
+
+    def test_places_for_cmake(self):
+        install([] if shutil.which("cmake") else ["cmake"])
+        for platform, held in self.held.items():
+            with tempfile.TemporaryDirectory() as name:
+                top = Path(name) / "top"
+                for place, entry in held.items():
+                    (top / place).parent.mkdir(parents=True, exist_ok=True)
+                    (top / place).write_bytes(entry.held)
+                (Path(name) / "CMakeLists.txt").write_text(PROJECT, encoding="ascii")
+                code, text = run(["cmake", "-B", f"{name}/build", "-S", name,
+                                  f"-DCMAKE_PREFIX_PATH={top}"], MOST_SECONDS)
+                said = [line.replace(str(top), "TOP").replace("value-NOTFOUND", "none")
+                        for line in text.splitlines()]
+                due = [f"{target} {place}" for target, place in PLACES[platform].items()]
+                self.check(platform, code == 0 and set(due) <= set(said)
+                           and len([line for line in said if "LOCATION" in line])
+                           == len([line for line in due if "LOCATION" in line]), text)
 
 
 class Missing(Case):
