@@ -310,7 +310,9 @@ class Version(InAFolder):
 
     def test_closed_and_full_output(self):
         for output in ("sys.stdout = None", "sys.stdout = open('/dev/full', 'w')"):
-            self.one_line(by_python(output, "--version"), TROUBLE)
+            ended = by_python(output, "--version")
+            self.one_line(ended, TROUBLE)
+            self.assertTrue(ended.stderr.startswith(b"xaropinto: standard output"), ended.stderr)
 
 
 if __name__ == "__main__":
