@@ -2,7 +2,8 @@
 
 The modules of web/src are put one behind the other, those that are imported first, each in a
 function of its own; an import becomes a line that takes names from what another function returned.
-Nothing is shortened or left out. The page's policy allows these bytes and no connection.
+Comments that have lines of their own are left out; nothing else is shortened. The page's policy
+allows these bytes and no connection.
 """
 
 import argparse
@@ -33,6 +34,10 @@ EXPORT = re.compile(r"^export\s+(?:async\s+)?(?:function\*?|class|const)\s+(\w+)
 EXPORTED_PARTS = re.compile(r"^export\s+const\s*\{([^{}]*)\}\s*=", re.MULTILINE)
 EXPORTED_NAMES = re.compile(r"^export\s*\{([^{}]*)\};$", re.MULTILINE)
 LEFT = re.compile(r"^(?:import|export)\b.*", re.MULTILINE)
+COMMENT = re.compile(r"^[ \t]*(?://[^\n]*|/\*(?:(?!\*/).)*\*/[ \t]*)\n", re.MULTILINE | re.DOTALL)
+HEADING = """"use strict";
+// Put together by tools/web_page.py from web/src, where the comments are.
+"""
 # What would end a script inside a page, or change how its end is found.
 ENDS_A_SCRIPT = re.compile(r"</script|<!--|<script", re.IGNORECASE)
 MARK = re.compile(r"@([a-z_]+)@")
@@ -93,6 +98,17 @@ def variable(path):
     return re.sub(r"\W", "_", os.path.relpath(path, ROOT).removesuffix(".js"))
 
 
+def without_comments(module):
+    """A module's text without the comments that have lines of their own.
+
+    A line inside a text between backticks may look like a comment: such texts keep to one line.
+    """
+    for number, line in enumerate(module.text.splitlines(), 1):
+        if line.count("`") % 2:
+            raise BundleError(f"{module.path.name}, line {number}: a text goes on in the next line")
+    return COMMENT.sub("", module.text)
+
+
 def in_a_function(module):
     """A module as a constant that has its exports."""
     def imported(found):
@@ -102,7 +118,7 @@ def in_a_function(module):
         names = ", ".join(old if old == new else f"{old}: {new}" for old, new in pairs_of(found[1]))
         return f"const {{ {names} }} = {source};"
 
-    text = IMPORT.sub(imported, module.text)
+    text = IMPORT.sub(imported, without_comments(module))
     renamed = [each for found in EXPORTED_NAMES.finditer(text) for each in pairs_of(found[1])]
     text = re.sub(r"^export\s+(?=async\b|function\b|class\b|const\b)", "",
                   EXPORTED_NAMES.sub("", text), flags=re.MULTILINE)
@@ -119,7 +135,7 @@ def in_a_function(module):
 def bundle(main=MAIN):
     """All modules as one text, in which each is a constant with the exports of the module."""
     modules = modules_from(main, {TABLES: tables_text()})
-    return '"use strict";\n' + "".join(map(in_a_function, modules))
+    return HEADING + "".join(map(in_a_function, modules))
 
 
 def script_text(wasm):

@@ -1,7 +1,7 @@
 // A refused book: the verdict, where and why, and what stands around the place.
 import { LAYOUT } from "../../target/web/tables.js";
 import { document as page, element, facts, note, section, text } from "./html_parts.js";
-import { headerFields, heads, percentages, recordAt } from "./layout.js";
+import { Field, headerFields, heads, percentages, recordAt } from "./layout.js";
 import { grouped } from "./python_text.js";
 import { refusalOf } from "./refusals.js";
 import { sha256 } from "./sha256.js";
@@ -14,8 +14,7 @@ const AROUND = 3;
 // The refusals whose place is a length.
 const LENGTHS = [1, 5];
 const { HEADER_BYTES, RECORD_BYTES } = LAYOUT;
-// The fields at the start of a record: name, offset, size.
-/** @type {[string, number, number][]} */
+/** The fields at the start of a record: name, offset, size. @type {[string, number, number][]} */
 const START_FIELDS = [["code", 0, 1], ["sex", 1, 1], ["class", 2, 1], ["next", 4, 2]];
 const NOT_CHECKED = "As the bytes stand, the lowest first; nothing here is checked. Marked is the "
   + "field that the refusal names.";
@@ -51,11 +50,11 @@ function neighbourhood(book, place) {
 function headerPart(book, place) {
   const fields = [...headerFields(), ...heads(), ...percentages()]
     .sort((one, other) => one.at - other.at);
-  const found = fields.findIndex(({ at, size }) => at <= place && place < at + size);
+  const found = fields.findIndex((field) => has(field, place));
   if (found < 0) return "";
   const some = fields.slice(Math.max(0, found - AROUND), found + AROUND + 1);
   const rows = some.map((field) => tableRow(field.name, [grouped(field.at),
-    grouped(Number(field.read(book))), `${grouped(field.low)} to ${grouped(field.high)}`,
+    grouped(field.read(book)), `${grouped(field.low)} to ${grouped(field.high)}`,
     field.unit], field === fields[found] ? 1 : -1));
   return around("Fields around the place", ["field", "byte", "value", "permitted", "unit"], rows);
 }
@@ -69,10 +68,8 @@ function recordPart(book, place) {
   const rows = [];
   for (let each = first; each <= Math.min(last, number + AROUND); each++) {
     const start = HEADER_BYTES + RECORD_BYTES * (each - 1);
-    const fields = fieldsFrom(start);
-    const at = each === number ? fields.findIndex((field) =>
-      field.at <= place && place < field.at + field.size) : -1;
-    const cells = fields.map((field) => grouped(numberAt(book, field.at, field.size)));
+    const fields = fieldsFrom(start), at = fields.findIndex((field) => has(field, place));
+    const cells = fields.map((field) => grouped(field.read(book)));
     rows.push(tableRow(String(each), [grouped(start), ...cells], at < 0 ? at : at + 1,
       each === number));
   }
@@ -80,15 +77,15 @@ function recordPart(book, place) {
   return around("Records around the place", ["record", "byte", ...names], rows);
 }
 
-/** The fields of a record that starts here, by their places. @param {number} start */
+/** The fields of a record that starts here. @param {number} start */
 function fieldsFrom(start) {
-  return [...START_FIELDS.map(([name, at, size]) => ({ name, at: start + at, size })),
-    ...recordAt(start).fields().map(({ name, at, size }) => ({ name, at, size }))];
+  return [...START_FIELDS.map(([name, at, size]) => new Field([name, start + at, size])),
+    ...recordAt(start).fields()];
 }
 
-/** A number of a book. @param {Uint8Array} book @param {number} at @param {number} size */
-function numberAt(book, at, size) {
-  return book.subarray(at, at + size).reduceRight((sum, byte) => 256 * sum + byte, 0);
+/** Is a place in a field? @param {Field} field @param {number} place */
+function has(field, place) {
+  return field.at <= place && place < field.at + field.size;
 }
 
 /** A row of a table, whose cell of this index, if any, is marked.
