@@ -12,6 +12,7 @@ import hashlib
 import os
 import re
 import sys
+import zlib
 from pathlib import Path
 from typing import NamedTuple
 
@@ -139,8 +140,9 @@ def bundle(main=MAIN):
 
 
 def script_text(wasm):
-    """The page's script: the modules, and the line that starts the page with the proved code."""
-    module = base64.b64encode(wasm).decode()
+    """The page's script: the modules, and a line that starts the page with the proved code, which
+    is compressed."""
+    module = base64.b64encode(zlib.compress(wasm, 9)).decode()
     text = f'{bundle()}{variable(MAIN)}.openPage("{module}");\n'
     found = ENDS_A_SCRIPT.search(text)
     if found:

@@ -17,7 +17,7 @@ from tests.support.debian import install
 PACKAGE = "chromium"
 OPTIONS = ["--headless=new", "--no-sandbox", "--disable-gpu", "--no-first-run",
            "--disable-background-networking", "--disable-component-update", "--disable-extensions",
-           "--remote-debugging-pipe"]
+           "--hide-scrollbars", "--remote-debugging-pipe"]
 # Where Chromium expects the pipe's ends.
 COMMANDS, REPLIES = 3, 4
 MOST_SECONDS = 20

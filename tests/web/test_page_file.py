@@ -6,6 +6,7 @@ import json
 import re
 import sys
 import tempfile
+import zlib
 from html.parser import HTMLParser
 from pathlib import Path
 
@@ -76,7 +77,7 @@ class PageFile(Case):
 
     def test_holds_the_proved_code(self):
         found = re.search(r'openPage\("([A-Za-z0-9+/=]+)"\);', self.text)
-        self.check("module", base64.b64decode(found[1]) == self.wasm)
+        self.check("module", zlib.decompress(base64.b64decode(found[1])) == self.wasm)
         self.check("its digest", hashlib.sha256(self.wasm).hexdigest() in self.text)
 
     def test_policy_allows_its_own_bytes_and_no_connection(self):

@@ -5,8 +5,10 @@ import { report } from "./frame.js";
 // Errors that a person can do something about; any other is a fault of the page.
 const EXPECTED = ["RefusedError", "BadLineError", "GivenError", "YearsError"];
 
-/** Do something and report what stops it.
- * @param {() => void | Promise<void>} act */
+/**
+ * Do something and report what stops it.
+ * @param {() => void | Promise<void>} act
+ */
 export async function attempt(act) {
   try {
     await act();
@@ -15,7 +17,10 @@ export async function attempt(act) {
   }
 }
 
-/** What went wrong, in words. @param {unknown} error */
+/**
+ * What went wrong, in words.
+ * @param {unknown} error
+ */
 export function trouble(error) {
   if (!(error instanceof Error)) return `this is a fault of the page, please report it: ${error}`;
   if (error.name === "BadLineError") return `refused: ${error.message}`;
@@ -23,9 +28,13 @@ export function trouble(error) {
   return `this is a fault of the page, please report it: ${error.name}: ${error.message}`;
 }
 
-/** A button. @param {string} words @param {() => void | Promise<void>} act
- * @param {{first?: boolean}} [more] whether it is the one that most people want */
-export function button(words, act, { first = false } = {}) {
+/**
+ * A button.
+ * @param {string} words
+ * @param {() => void | Promise<void>} act
+ * @param {boolean} first whether it is the one that most people want
+ */
+export function button(words, act, first = false) {
   const held = document.createElement("button");
   held.type = "button";
   held.textContent = words;
@@ -34,8 +43,28 @@ export function button(words, act, { first = false } = {}) {
   return held;
 }
 
-/** A choice of the setting with a button that uses it.
- * @param {string} words @param {(setting: number) => void} act */
+/**
+ * Buttons that belong together, behind the word that says what they do.
+ * @param {string} word
+ * @param {...Node} buttons
+ */
+export function group(word, ...buttons) {
+  const held = document.createElement("div"), label = document.createElement("span");
+  held.className = "row";
+  held.setAttribute("role", "group");
+  held.setAttribute("aria-label", word);
+  label.textContent = word;
+  label.className = "word";
+  label.setAttribute("aria-hidden", "true");
+  held.append(label, ...buttons);
+  return held;
+}
+
+/**
+ * A choice of the setting with a button that uses it.
+ * @param {string} words
+ * @param {(setting: number) => void} act
+ */
 export function settingButton(words, act) {
   const choice = document.createElement("select");
   choice.setAttribute("aria-label", "Setting of the year report");

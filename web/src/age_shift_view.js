@@ -12,7 +12,11 @@ import { counted, swiss } from "./number_format.js";
 const HEADINGS = CLI_PORTFOLIO.HEADING.split(",");
 const LOWER = "one_class_lower", HIGHER = "one_class_higher";
 
-/** The page. @param {string} name @param {AgeShift} shift */
+/**
+ * The page.
+ * @param {string} name
+ * @param {AgeShift} shift
+ */
 export function ageShiftPage(name, shift) {
   const title = `${name}: totals one age class lower and higher`;
   return page(title, [element("h1", title),
@@ -22,8 +26,12 @@ export function ageShiftPage(name, shift) {
     part(CLI_PORTFOLIO.COUNTS, shift.totals, shift.counts)]);
 }
 
-/** A table of totals, and what is to be known of it.
- * @param {string} title @param {bigint[]} own @param {Move} move */
+/**
+ * A table of totals, and what is to be known of it.
+ * @param {string} title
+ * @param {bigint[]} own
+ * @param {Move} move
+ */
 function part(title, own, move) {
   const [heading, words] = title.split(": ");
   const rows = own.map((total, setting) => [`${setting} ${SETTINGS[setting]}`,
@@ -34,34 +42,52 @@ function part(title, own, move) {
     remarks.length ? items(remarks) : "");
 }
 
-/** A setting's total, both that are moved, and how far these are from it.
- * @param {number} setting @param {bigint} total @param {Move} move
- * @returns {(bigint | null)[]} */
+/**
+ * A setting's total, both that are moved, and how far these are from it.
+ * @param {number} setting
+ * @param {bigint} total
+ * @param {Move} move
+ * @returns {(bigint | null)[]}
+ */
 function figures(setting, total, move) {
   const sides = [move.lower, move.higher].map((side) => side.totals?.[setting] ?? null);
   return [total, ...sides, ...sides.map((side) => (side === null ? null : side - total))];
 }
 
-/** A block for whole records, then one for counts alone. @param {AgeShift} shift */
+/**
+ * A block for whole records, then one for counts alone.
+ * @param {AgeShift} shift
+ */
 export function ageShiftText(shift) {
   return [...block(CLI_PORTFOLIO.RECORDS, shift.totals, shift.records), "",
     ...block(CLI_PORTFOLIO.COUNTS, shift.totals, shift.counts), ""].join("\n");
 }
 
-/** The totals with those moved, and what is to be known of these.
- * @param {string} title @param {bigint[]} own @param {Move} move */
+/**
+ * The totals with those moved, and what is to be known of these.
+ * @param {string} title
+ * @param {bigint[]} own
+ * @param {Move} move
+ */
 function block(title, own, move) {
   const lines = own.map((total, setting) => [setting, SETTINGS[setting],
     ...figures(setting, total, move).map((figure) => figure ?? "")].join(","));
   return [title, CLI_PORTFOLIO.HEADING, ...lines, ...remarksOf(move)];
 }
 
-/** Why a column is empty, or what it leaves out. @param {Move} move */
+/**
+ * Why a column is empty, or what it leaves out.
+ * @param {Move} move
+ */
 function remarksOf(move) {
   return [...remarks(LOWER, move.lower), ...remarks(HIGHER, move.higher)];
 }
 
-/** The same of one column. @param {string} column @param {MovedTotals} side */
+/**
+ * The same of one column.
+ * @param {string} column
+ * @param {MovedTotals} side
+ */
 function remarks(column, side) {
   if (side.totals === null) return [`${column} cannot be shown: ${side.whyNot}`];
   if (!side.leftOut) return [];

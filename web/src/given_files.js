@@ -3,22 +3,32 @@ import { CLI_FILES } from "../../target/web/tables.js";
 import { grouped } from "./python_text.js";
 import { KINDS, csvFile } from "./sheets.js";
 
-/** A file by its name, with its bytes.
- * @typedef {{name: string, held: Uint8Array}} NamedBytes */
-/** What was given; the name of the folder is empty where there was none.
- * @typedef {{folder: string, files: File[]}} Given */
+/**
+ * A file by its name, with its bytes.
+ * @typedef {{name: string, held: Uint8Array}} NamedBytes
+ */
+/**
+ * What was given; the name of the folder is empty where there was none.
+ * @typedef {{folder: string, files: File[]}} Given
+ */
 
 /** What is given cannot be used, in words. */
 export class GivenError extends Error {
   name = "GivenError";
 }
 
-/** Is this the name of a table? @param {string} name */
+/**
+ * Is this the name of a table?
+ * @param {string} name
+ */
 const isTable = (name) => /\.csv$/i.test(name);
 
-/** The files of a drop, those of a folder included. A browser forgets what was dropped as soon as
+/**
+ * The files of a drop, those of a folder included. A browser forgets what was dropped as soon as
  * the event has ended: entries are taken before anything is awaited.
- * @param {DataTransfer} dropped @returns {Promise<Given>} */
+ * @param {DataTransfer} dropped
+ * @returns {Promise<Given>}
+ */
 export async function droppedFiles(dropped) {
   const entries = Array.from(dropped.items).map((item) => item.webkitGetAsEntry?.() ?? null);
   const files = Array.from(dropped.files);
@@ -29,8 +39,10 @@ export async function droppedFiles(dropped) {
   return { folder: folder.name, files: await filesIn(folder) };
 }
 
-/** The files of a folder, none of the folders in it. A reader gives some at a time, at last none.
- * @param {FileSystemDirectoryEntry} folder */
+/**
+ * The files of a folder, none of the folders in it. A reader gives some at a time, at last none.
+ * @param {FileSystemDirectoryEntry} folder
+ */
 async function filesIn(folder) {
   const reader = folder.createReader();
   /** @type {File[]} */
@@ -46,8 +58,11 @@ async function filesIn(folder) {
   }
 }
 
-/** The files of a chooser; of a folder those that are not in folders below it.
- * @param {HTMLInputElement} chooser @returns {Given} */
+/**
+ * The files of a chooser; of a folder those that are not in folders below it.
+ * @param {HTMLInputElement} chooser
+ * @returns {Given}
+ */
 export function chosenFiles(chooser) {
   const files = Array.from(chooser.files ?? []);
   if (!chooser.webkitdirectory) return { folder: "", files };
@@ -55,8 +70,11 @@ export function chosenFiles(chooser) {
   return { folder, files: files.filter((file) => file.webkitRelativePath.split("/").length < 3) };
 }
 
-/** The bytes of a file, whatever its length up to one that no book has.
- * @param {File} file @returns {Promise<NamedBytes>} */
+/**
+ * The bytes of a file, whatever its length up to one that no book has.
+ * @param {File} file
+ * @returns {Promise<NamedBytes>}
+ */
 export async function bytesOf(file) {
   if (file.size > CLI_FILES.MOST_BYTES) {
     throw new GivenError(`${file.name}: longer than ${grouped(CLI_FILES.MOST_BYTES)} bytes; `
@@ -65,12 +83,15 @@ export async function bytesOf(file) {
   try {
     return { name: file.name, held: new Uint8Array(await file.arrayBuffer()) };
   } catch (error) {
-    throw new GivenError(`${file.name}: it cannot be read: ${/** @type {Error} */ (error).message}`);
+    const { message } = /** @type {Error} */ (error);
+    throw new GivenError(`${file.name}: it cannot be read: ${message}`);
   }
 }
 
-/** The files that are the tables of a book; none where books are given.
- * @param {Given} given */
+/**
+ * The files that are the tables of a book; none where books are given.
+ * @param {Given} given
+ */
 export function tableFiles(given) {
   const tables = given.files.filter((file) => isTable(file.name));
   if (!given.folder && tables.length && tables.length < given.files.length) {

@@ -1,21 +1,25 @@
 // The web page: a book is dropped, chosen or made, and everything about it is computed here.
 import { attempt, trouble } from "./actions.js";
 import * as answers from "./answers.js";
-import { showBook, showComparison } from "./book_views.js";
+import { showBadLine, showBook, showComparison } from "./book_views.js";
 import { openCalls } from "./calls.js";
 import { part, report } from "./frame.js";
 import { GivenError, bytesOf, chosenFiles, droppedFiles, tableFiles } from "./given_files.js";
 import { quoted } from "./python_text.js";
 import { folderTables, readSheets } from "./sheets.js";
+import { BadLineError } from "./tables.js";
 
 /** @typedef {import("./book_views.js").Book} Book */
 /** @typedef {import("./given_files.js").Given} Given */
 
 const MOST_START = 2n ** 64n;
-const WRITTEN = "Written, not saved yet: ";
+/** The name of tables that come in no folder. */
+const NO_FOLDER = "written";
 
-/** The book that is shown, if any, and how its view is drawn.
- * @type {{book: Book | null, draw: () => void}} */
+/**
+ * The book that is shown, if any, and how its view is drawn.
+ * @type {{book: Book | null, draw: () => void}}
+ */
 const state = { book: null, draw: () => {} };
 
 /** @type {import("./book_views.js").Surroundings} */
@@ -25,7 +29,10 @@ const around = {
   remember: (draw) => { state.draw = draw; },
 };
 
-/** A field of the page. @param {string} id */
+/**
+ * A field of the page.
+ * @param {string} id
+ */
 function input(id) {
   return /** @type {HTMLInputElement} */ (part(id));
 }
@@ -37,17 +44,22 @@ function today() {
     .map((number) => String(number).padStart(2, "0")).join("-");
 }
 
-/** Show a book. @param {Book} book */
+/**
+ * Show a book.
+ * @param {Book} book
+ */
 function openBook(book) {
   state.book = book;
   showBook(book, around);
 }
 
-/** Show what is given: a book, two books to compare, or the tables of a book.
- * @param {Given} given */
+/**
+ * Show what is given: a book, two books to compare, or the tables of a book.
+ * @param {Given} given
+ */
 async function take(given) {
   const tables = tableFiles(given);
-  if (tables.length) return openBook(await writtenBook(given.folder, tables));
+  if (tables.length) return openTables(given.folder || NO_FOLDER, tables);
   const books = await Promise.all(given.files.map(bytesOf));
   if (books.length === 1) return openBook(books[0]);
   if (books.length === 2) return compareBooks(books[0], books[1]);
@@ -55,16 +67,30 @@ async function take(given) {
     + `${books.length} files were given`);
 }
 
-/** The book of five tables. @param {string} folder @param {File[]} files @returns {Promise<Book>} */
-async function writtenBook(folder, files) {
-  const tables = new Map();
-  for (const file of files) tables.set(file.name.toLowerCase(), (await bytesOf(file)).held);
-  const held = answers.write(readSheets(folderTables(tables)));
-  return { name: `${folder || "written"}.book`, held, made: WRITTEN };
+/**
+ * Show the book of five tables, or what is wrong with them.
+ * @param {string} name
+ * @param {File[]} files
+ */
+async function openTables(name, files) {
+  /** @type {{[name: string]: Uint8Array}} */
+  const tables = {};
+  for (const file of files) tables[file.name.toLowerCase()] = (await bytesOf(file)).held;
+  try {
+    const held = answers.write(readSheets(folderTables(tables)));
+    openBook({ name: `${name}.book`, held, made: "Written, not saved yet: " });
+  } catch (error) {
+    if (!(error instanceof BadLineError)) throw error;
+    state.book = null;
+    showBadLine(name, error, around);
+  }
 }
 
-/** Compare two books, that of the earlier SST year as last year's; of one year in this order.
- * @param {Book} one @param {Book} other */
+/**
+ * Compare two books, that of the earlier SST year as last year's; of one year in this order.
+ * @param {Book} one
+ * @param {Book} other
+ */
 function compareBooks(one, other) {
   const [first, second] = [one, other].map(({ name, held }) => {
     try {
@@ -88,8 +114,11 @@ function makePractice() {
   openBook({ name: `practice-${word}.book`, held, made: "Made, not saved yet: " });
 }
 
-/** Take files from a chooser, which then forgets them: the same may be chosen again.
- * @param {string} id @param {(given: Given) => Promise<void>} use */
+/**
+ * Take files from a chooser, which then forgets them: the same may be chosen again.
+ * @param {string} id
+ * @param {(given: Given) => Promise<void>} use
+ */
 function onChoice(id, use) {
   const chooser = input(id);
   chooser.addEventListener("change", () => attempt(async () => {
@@ -133,13 +162,27 @@ function connect() {
   document.querySelectorAll("button").forEach((each) => { each.disabled = false; });
 }
 
-/** Start the page with the proved code. @param {string} module WebAssembly in base64 */
+/**
+ * The bytes of the proved code.
+ * @param {string} module compressed, in base64
+ */
+function unpacked(module) {
+  const packed = Uint8Array.from(atob(module), (letter) => letter.charCodeAt(0));
+  // The type checker of Debian's packages does not know this class yet.
+  const { DecompressionStream } = /** @type {any} */ (globalThis);
+  const bytes = new Blob([packed]).stream().pipeThrough(new DecompressionStream("deflate"));
+  return new Response(bytes).arrayBuffer();
+}
+
+/**
+ * Start the page with the proved code.
+ * @param {string} module as `unpacked` takes it
+ */
 export async function openPage(module) {
   window.addEventListener("error", (event) => report(trouble(event.error), "bad"));
   window.addEventListener("unhandledrejection", (event) => report(trouble(event.reason), "bad"));
   await attempt(async () => {
-    const bytes = Uint8Array.from(atob(module), (letter) => letter.charCodeAt(0));
-    const { instance } = await WebAssembly.instantiate(bytes, {});
+    const { instance } = await WebAssembly.instantiate(await unpacked(module), {});
     answers.useCalls(openCalls(instance.exports));
     connect();
     report("No book is open.");

@@ -4,8 +4,11 @@
 const KEPT_MILLISECONDS = 60_000;
 const BOOK = ".book";
 
-/** Save a file under this name; a text is saved as UTF-8.
- * @param {string} name @param {string | Uint8Array} held */
+/**
+ * Save a file under this name; a text is saved as UTF-8.
+ * @param {string} name
+ * @param {string | Uint8Array} held
+ */
 export function saveFile(name, held) {
   // A type that no browser shows: the file is always saved, with these bytes.
   const content = new Blob([held], { type: "application/octet-stream" });
@@ -19,8 +22,10 @@ export function saveFile(name, held) {
   setTimeout(() => URL.revokeObjectURL(link.href), KEPT_MILLISECONDS);
 }
 
-/** The name of a book without its ending, as the command names what it writes of many.
- * @param {string} name */
+/**
+ * The name of a book without its ending, as the command names what it writes of many.
+ * @param {string} name
+ */
 export function stemOf(name) {
   return name.endsWith(BOOK) ? name.slice(0, -BOOK.length) : name;
 }

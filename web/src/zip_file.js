@@ -7,7 +7,10 @@ const FORMAT_VERSION = 20;
 const FIRST_DAY = 0x21;
 const POLYNOMIAL = 0xedb88320;
 
-/** The checksum that the format has for each file (CRC-32). @param {Uint8Array} held */
+/**
+ * The checksum that the format has for each file (CRC-32).
+ * @param {Uint8Array} held
+ */
 export function checksum(held) {
   let sum = 0xffffffff;
   for (const byte of held) {
@@ -17,15 +20,19 @@ export function checksum(held) {
   return (sum ^ 0xffffffff) >>> 0;
 }
 
-/** Numbers one behind the other, the lowest byte first.
- * @param {...[number, number]} fields each with its size in bytes */
+/**
+ * Numbers one behind the other, the lowest byte first.
+ * @param {...[number, number]} fields each with its size in bytes
+ */
 function packed(...fields) {
   return fields.flatMap(([value, size]) =>
     Array.from({ length: size }, (_, at) => (value >>> (8 * at)) & 0xff));
 }
 
-/** The .zip file of some files; their names are ASCII.
- * @param {Iterable<[string, Uint8Array]>} files */
+/**
+ * The .zip file of some files; their names are ASCII.
+ * @param {Iterable<[string, Uint8Array]>} files
+ */
 export function zipOf(files) {
   /** @type {number[]} */
   const body = [];
