@@ -17,6 +17,8 @@ from pathlib import Path
 from typing import NamedTuple
 
 from tests import ROOT
+from tools.targets import BuildError
+from tools.targets.build import build
 from tools.web_tables import TABLES, tables_text
 
 sys.path.insert(0, str(ROOT / "python"))
@@ -26,7 +28,6 @@ from xaropinto.version import VERSION  # noqa: E402
 
 WEB = ROOT / "web"
 MAIN = WEB / "src" / "main.js"
-MODULE = ROOT / "target" / "web" / "xaropinto.wasm"
 PAGE = ROOT / "target" / "web" / "xaropinto.html"
 MOST_BYTES = 200_000
 # A statement begins at the start of a line and ends with the first semicolon.
@@ -179,12 +180,14 @@ def page_text(wasm):
 def main():
     """Write the page and the tables that its modules import."""
     parser = argparse.ArgumentParser(description=__doc__.splitlines()[0])
-    parser.add_argument("--module", type=Path, default=MODULE, help="the proved code in WebAssembly")
+    parser.add_argument("--module", type=Path,
+                        help="the proved code in WebAssembly; without it, it is built")
     parser.add_argument("--page", type=Path, default=PAGE, help="the file that is written")
     wanted = parser.parse_args()
     try:
-        text = page_text(wanted.module.read_bytes())
-    except (BundleError, OSError) as error:
+        module = wanted.module or next(path for path in build() if path.suffix == ".wasm")
+        text = page_text(module.read_bytes())
+    except (BuildError, BundleError, OSError) as error:
         print(f"web_page: {error}", file=sys.stderr)
         return 1
     wanted.page.parent.mkdir(parents=True, exist_ok=True)

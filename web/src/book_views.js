@@ -2,8 +2,9 @@
 import { CLI_FIGURES, CLI_PAGES, COMPARE_PAGE } from "../../target/web/tables.js";
 import { button, group, settingButton } from "./actions.js";
 import { ageShift } from "./age_shift.js";
-import { ageShiftPage, ageShiftText } from "./age_shift_view.js";
+import { ageShiftPage } from "./age_shift_view.js";
 import * as answers from "./answers.js";
+import { ageShiftText } from "./cli_portfolio.js";
 import { compare } from "./compare.js";
 import { comparePage } from "./compare_page.js";
 import { comparisonLines } from "./comparison_lines.js";

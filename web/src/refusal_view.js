@@ -15,7 +15,10 @@ import { sha256 } from "./sha256.js";
 // So many records or fields are shown before and behind the one at fault.
 const AROUND = 3;
 const { SHORT, BAD_LENGTH, SST_YEAR } = MESSAGES;
-/** The fields at the start of a record: name, offset, size. @type {[string, number, number][]} */
+/**
+ * The fields at the start of a record: name, offset, size.
+ * @type {[string, number, number][]}
+ */
 const START_FIELDS = [["code", 0, 1], ["sex", 1, 1], ["class", 2, 1], ["next", 4, 2]];
 const CAPTION = "As the bytes stand, not checked";
 const REMARK = "Nothing is computed for a refused book. Only its first fault is reported: there "
@@ -120,7 +123,7 @@ function recordPart(book, place) {
  * @param {number} start
  */
 function fieldsFrom(start) {
-  return [...START_FIELDS.map(([name, at, size]) => new Field([name, Number(start) + at, size])),
+  return [...START_FIELDS.map(([name, at, size]) => new Field([name, start + at, size])),
     ...recordAt(start).fields()];
 }
 
