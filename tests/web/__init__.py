@@ -1,1 +1,1 @@
-"""Tests of the web page and of the proved calls in WebAssembly, run by node."""
+"""The web page's modules under node, compared with the Python package."""
