@@ -75,7 +75,8 @@ lib: ## prove the C boundary and put its archive and shared library under target
 install: lib target/bin/listing_main target/bin/year_report_main target/bin/age_basis_main ## install under PREFIX, by default /usr/local, below DESTDIR
 	@python3 -m tools.dist install "$(DESTDIR)$(PREFIX)"
 
-dist: lib target/bin/listing_main target/bin/year_report_main target/bin/age_basis_main ## archives and wheels for machines without the toolchain, under target/dist
+# With the page the proved code is built for all targets.
+dist: web lib target/bin/listing_main target/bin/year_report_main target/bin/age_basis_main ## archives and wheels for machines without the toolchain, under target/dist
 	@python3 -m tools.dist build target/dist
 
 web: lib ## the web page, one file with the proved code inside: target/web/xaropinto.html
