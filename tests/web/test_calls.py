@@ -8,7 +8,7 @@ from pathlib import Path
 from unittest import mock
 
 from tests import ROOT
-from tests.platforms import bridged
+from tests.targets import bridged
 from tests.support.command import run
 from tests.support.debian import install
 from tests.support.report import run_unit_tests
