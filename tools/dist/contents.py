@@ -70,7 +70,7 @@ class Row(NamedTuple):
 def filled(held, platform):
     """A text with the facts of the build in it."""
     facts = {"VERSION": VERSION, "PLATFORM": platform.words, "COMMIT": identity.commit(),
-             "CHECKER": identity.checker(), "SHARED": platform.library.rpartition("/")[2]}
+             "CHECKER": identity.checker()}
     text = held.decode("utf-8")
     for name, words in facts.items():
         text = text.replace(f"@{name}@", words)
