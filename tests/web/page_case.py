@@ -1,7 +1,9 @@
-"""Test cases of the web page in Chromium: one browser for a class, the page opened anew for each
-test."""
+"""Test cases of the web page in Chromium: one browser for all, the page opened anew for each test.
+"""
 
 import tempfile
+import unittest
+from functools import lru_cache
 from pathlib import Path
 
 from tests.cli.run import DONE, sample, xaropinto
@@ -17,17 +19,24 @@ READY = "No book is open."
 TROUBLE = ("Log.entryAdded", "Runtime.exceptionThrown", "Runtime.consoleAPICalled")
 
 
+@lru_cache(maxsize=None)
+def opened():
+    """The browser, and the path of the page; both end with the module's tests."""
+    folder = tempfile.TemporaryDirectory()
+    unittest.addModuleCleanup(folder.cleanup)
+    path = Path(folder.name) / "xaropinto.html"
+    path.write_text(page_text(module_path().read_bytes()), encoding="utf-8")
+    browser = Chromium()
+    unittest.addModuleCleanup(browser.close)
+    return browser, path
+
+
 class PageCase(Case):
     """A test that drives the page."""
 
     @classmethod
     def setUpClass(cls):
-        cls.folder = tempfile.TemporaryDirectory()
-        cls.addClassCleanup(cls.folder.cleanup)
-        cls.path = Path(cls.folder.name) / "xaropinto.html"
-        cls.path.write_text(page_text(module_path().read_bytes()), encoding="utf-8")
-        cls.browser = Chromium()
-        cls.addClassCleanup(cls.browser.close)
+        cls.browser, cls.path = opened()
 
     def setUp(self):
         self.browser.resize(1280)
@@ -64,12 +73,18 @@ class PageCase(Case):
         return self.browser.file_saved(lambda: self.click(words))
 
     def command(self, *words):
-        """What the command writes to the file `-o out`, or else prints."""
+        """What the command prints."""
+        run = xaropinto(*words)
+        self.assertEqual(run.code, DONE, run.errors)
+        return run.out
+
+
+    def written(self, *words):
+        """What the command writes to a file, where it prints something else."""
         with tempfile.TemporaryDirectory() as folder:
             out = Path(folder) / "out"
-            run = xaropinto(*(out if word == "out" else word for word in words))
-            self.assertEqual(run.code, DONE, run.errors)
-            return out.read_bytes() if "out" in words else run.out
+            self.command(*words, "-o", out)
+            return out.read_bytes()
 
 
 def button(words):

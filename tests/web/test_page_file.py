@@ -108,8 +108,6 @@ class PageFile(Case):
         for path in SOURCES:
             names = sorted(web_page.read_module(path).exports)
             self.check(path.name, names == due[str(path)], f"{names} and {due[str(path)]}")
-        self.check("every module is in the page", {each.path for each in self.modules()} ==
-                   {*SOURCES, web_page.TABLES})
 
     def test_bundle_gives_the_exports(self):
         names = {web_page.variable(each.path): list(each.exports) for each in self.modules()}
