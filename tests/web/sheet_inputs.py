@@ -1,11 +1,16 @@
 """Sheets of random books as spreadsheets save them, most with a fault: cells, rows, text, bytes."""
 
 import codecs
+import sys
 from typing import NamedTuple
 
 from reference.book import random_book
-from xaropinto import answers
-from xaropinto.sheets import csv_files
+from tests import ROOT
+
+sys.path.insert(0, str(ROOT / "python"))
+
+from xaropinto import answers  # noqa: E402
+from xaropinto.sheets import csv_files  # noqa: E402
 
 # What people enter for a number or a name: read, read in one unit only, or turned away.
 WORDS = (
@@ -110,8 +115,11 @@ def change_rows(sheets, chooser):
     """A row less, twice, elsewhere, longer or shorter; or all in another order."""
     rows = some_rows(sheets, chooser)
     at = chooser.randrange(len(rows))
-    change = chooser.choice(("drop", "repeat", "swap", "longer", "shorter", "shuffle", "none"))
-    if change == "drop":
+    change = chooser.choice(("drop", "repeat", "last", "swap", "longer", "shorter", "shuffle",
+                             "none"))
+    if change == "last":
+        rows.append(list(rows[-1]))
+    elif change == "drop":
         rows[at:at + 1] = [] if len(rows) > 1 else [[""]]
     elif change == "repeat":
         rows.insert(chooser.randrange(len(rows) + 1), list(rows[at]))
@@ -135,10 +143,12 @@ def change_basis(sheets, chooser):
         header[:] = [row for row in header if row[0] != "age_basis"]
         return
     header[2:3] = [["Age_Basis", basis]]
+    rows = [row for row in sheets["portfolio.csv"][1:] if len(row) > 2 and row[2].isdigit()]
     if chooser.random() < 0.7:
-        for row in sheets["portfolio.csv"][1:]:
-            if len(row) > 2 and row[2].isdigit():
-                row[2] = str(int(row[2]) + 1)
+        for row in rows:
+            row[2] = str(int(row[2]) + 1)
+    if rows and chooser.random() < 0.4:
+        chooser.choice(rows)[2] = chooser.choice(("0", "122", "x"))
 
 
 def change_edition(sheets, chooser):
