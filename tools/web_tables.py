@@ -2,8 +2,8 @@
 
 For each module an object by its name in capitals, with the module's constants under their own
 names; LAYOUT has the fields of a book as well, REFUSALS the lines of the one table, TABLES letters
-of an encoding. Fields of records are in camelCase, an enum is its value, bytes are numbers, a set of numbers is the first and
-last number of each of its ranges, a pattern is its source.
+of an encoding. Fields of records are in camelCase, an enum is its value, bytes are numbers, a set
+of numbers is the first and last number of each of its ranges, a pattern is its source.
 """
 
 import argparse

@@ -1,7 +1,7 @@
 // Answers calls of functions of web/src, one to a line of standard input, each as a line of JSON.
 //
-// A request is {"function": "messages.explain", "arguments": [...]}: the module of web/src, which is
-// loaded when it is first named, and its function. An argument that is itself a request is what
+// A request is {"function": "messages.explain", "arguments": [...]}: the module of web/src, which
+// is loaded when it is first named, and its function. An argument that is itself a request is what
 // that gives. Bytes are {"base64": "..."}, whole numbers that may be beyond 2^53 {"bigint": "..."},
 // doubles that JSON has no number for, or the digits of another, {"double": "..."}, both ways. The
 // reply is {"value": ...}, or {"error": ...} with the error's name, message and own fields. The

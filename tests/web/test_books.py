@@ -38,8 +38,9 @@ CALLS = (refusals.BOOK, messages.CONVERT, messages.WRITE, messages.READ, message
          messages.GROUP, messages.FUNDS, messages.PRACTICE)
 BOOK_REFUSALS = (*range(1, 14), 21, 23)
 # How files begin that are no books.
-FOREIGN = (b"%PDF-1.7", b"PK\x03\x04", b"\xd0\xcf\x11\xe0", b"\x1f\x8b", b"\x89PNG", b"\xef\xbb\xbf",
-           b"\xff\xfe", b"{\\rtf1", b"group,premium\n", "Prämie;".encode("cp1252"), b"a\x00b", b"")
+FOREIGN = (b"%PDF-1.7", b"PK\x03\x04", b"\xd0\xcf\x11\xe0", b"\x1f\x8b", b"\x89PNG",
+           b"\xef\xbb\xbf", b"\xff\xfe", b"{\\rtf1", b"group,premium\n",
+           "Pr\xe4mie;".encode("cp1252"), b"a\x00b", b"")
 # What is said of sheets, but for places, values and numbers.
 SHEET_RULES = (
     "the heading is", "columns are due", "is due here", "a whole number from", "a number from",
@@ -332,14 +333,14 @@ class OtherRefusals(NodeCase):
         far = values.chains[0]._replace(first_class=122)
         longer = values.chains[6]._replace(counts=(*values.chains[6].counts, 1))
         high = values.chains[6]._replace(claims=(10_000_001,) * 3)
-        for number, changed in (
+        for number, changes in (
                 (2, {"edition": 3}), (4, {"year": 2016}), (4, {"percentages": (1, 0)}),
                 (23, {"edition": 2, "percentages": (0, 1)}), (6, {"cost_rates": (1_000_001,) * 5}),
                 (7, {"curve": (-10_001,) * 49}), (8, {"mortality": (1_000_001,) * 242}),
                 (11, {"chains": (far, *values.chains[1:])}),
                 (22, {"chains": (*values.chains[:6], longer, *values.chains[7:])}),
                 (12, {"chains": (*values.chains[:6], high, *values.chains[7:])})):
-            broken = values._replace(**changed)
+            broken = values._replace(**changes)
             due = outcome(answers.write, broken)
             self.assertEqual(due[1], number)
             asked.ask(due, "answers.write", as_plain(broken))
@@ -465,8 +466,9 @@ class Numbers(NodeCase):
                 due = ("NoNumberError", str(wrong))
             self.asked.ask(due, "cell_numbers.numberOf", digits, as_plain(unit), low, high)
         for column in columns:
-            due = [[name, as_plain(unit)] for name, unit in cell_numbers.headings_of(column).items()]
-            self.asked.ask(due, "cell_numbers.headingsOf", column)
+            held = cell_numbers.headings_of(column).items()
+            self.asked.ask([[name, as_plain(unit)] for name, unit in held],
+                           "cell_numbers.headingsOf", column)
         self.same("cells", self.asked)
 
 

@@ -9,7 +9,7 @@ const SEQUENCES = [
   [0xec, 0x80, 0xbf, 3], [0xed, 0x80, 0x9f, 3], [0xef, 0x80, 0xbf, 3], [0xf0, 0x90, 0xbf, 4],
   [0xf3, 0x80, 0xbf, 4], [0xf4, 0x80, 0x8f, 4], [0xff, 1, 0, 0],
 ];
-/** What Windows-1252 has in place of Latin-1's controls, and the mark for what it does not assign. */
+/** The bytes that Windows-1252 has in place of controls, and the mark for unassigned ones. */
 const CONTROLS = 0x80, CONTROLS_END = 0xa0, UNASSIGNED = "\ufffd";
 const MARK_BYTES = { "utf-8-sig": 3, "utf-16": 2 };
 const HIGH_SURROGATES = 0xd800, LOW_SURROGATES = 0xdc00, SURROGATES_END = 0xe000;
