@@ -14,7 +14,10 @@ import { MOST_CONTRACTS } from "./plausibility.js";
 /** @typedef {import("./book_values.js").BookValues} BookValues */
 /** @typedef {import("./book_values.js").Chain} Chain */
 
-/** A chain without records. @type {Chain} */
+/**
+ * A chain without records.
+ * @type {Chain}
+ */
 const EMPTY = AGE_SHIFT.EMPTY;
 
 /**
