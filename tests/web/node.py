@@ -27,6 +27,11 @@ class NodeError(Exception):
         self.name, self.message, self.fields = held["name"], held["message"], held
 
 
+def request(function, *arguments):
+    """A call as a request has it; as an argument of another it is what it gives."""
+    return {"function": function, "arguments": sent(arguments)}
+
+
 def sent(held):
     """A value as a request has it."""
     if isinstance(held, (bytes, bytearray)):
@@ -109,7 +114,7 @@ class Node:
         """The replies as they are, while a few requests are under way."""
         waiting = deque()
         for function, *arguments in requests:
-            line = json.dumps({"function": function, "arguments": sent(arguments)}).encode()
+            line = json.dumps(request(function, *arguments)).encode()
             while waiting and sum(waiting) + len(line) > MOST_WAITING_BYTES:
                 yield self.read_reply(waiting)
             self.process.stdin.write(line + b"\n")
