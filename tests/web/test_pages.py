@@ -1,47 +1,44 @@
 """Pages and comparisons of the web page's modules: letter for letter those of the package."""
 
-import hashlib
-import math
-import random
+import json
+import os
 import subprocess
 import sys
-import unicodedata
+import unittest.mock
 from datetime import date
-from decimal import Context, Decimal
 
 from tests import ROOT
 from tests.cli.run import sample
-from tests.support.case import Case
 from tests.support.report import run_unit_tests
-from tests.web.node import Node, node_path
+from tests.web.node import MODULE, VARIABLE, node_path
+from tests.web.page_case import NodeCase
 from tests.web.page_inputs import Pair, Titled, drawn_books, drawn_pairs
 from tools.sample_books import PAGES
 from tools.sample_pages import DAY, FOLDER, WORDS
 
 sys.path.insert(0, str(ROOT / "python"))
 
-from xaropinto import age_alignment, answers, charts, html_parts  # noqa: E402
+from xaropinto import age_alignment, answers, calls, charts  # noqa: E402
+from xaropinto.change_analysis import analyse_change  # noqa: E402
 from xaropinto.cli.compare import comparison_lines  # noqa: E402
 from xaropinto.compare import YearsError, compare  # noqa: E402
 from xaropinto.compare_page import Book, compare_page  # noqa: E402
+from xaropinto.json_data import json_fields  # noqa: E402
 from xaropinto.page import Imprint, page_of  # noqa: E402
 
-BOOKS, PAIRS, NUMBERS = 330, 180, 3_000
+REFUSED_STEPS = ROOT / "tests" / "web" / "refused_steps.mjs"
+BOOKS, PAIRS = 330, 180
 ACCEPTED = ("one_record", "worked_example", "edition_2", "small_insurer", "full", "last_year",
             "this_year", "this_year_slipped")
 REFUSED = ("lapse_too_large", "newer_basis")
 # Signals of nearly equal likelihoods: beyond so many digits they are not the same.
 SAME = 1e-9
 LARGEST_EXACT = 2**53
-CODES = 0x110000
-MOST_AMOUNT = 10_000_000
 
 
-def first_difference(given, due):
-    """Where two texts part, for the reader of a failure."""
-    at = next((at for at, (one, other) in enumerate(zip(given, due)) if one != other),
-              min(len(given), len(due)))
-    return f"at {at:,}: {given[max(0, at - 40):at + 40]!r}, due is {due[max(0, at - 40):at + 40]!r}"
+def module_path():
+    """The compiled module."""
+    return os.environ.get(VARIABLE) or MODULE
 
 
 def imprint_of(titled):
@@ -57,24 +54,8 @@ def compared(pair):
     return "\n".join([*comparison_lines(comparison), ""]), page, comparison
 
 
-class NodeCase(Case):
-    """Tests that ask one process of node."""
-
-    @classmethod
-    def setUpClass(cls):
-        cls.node = Node()
-        cls.addClassCleanup(cls.node.close)
-        super().setUpClass()
-
-    def same(self, name, given, due):
-        """A check that texts are the same, each with the next."""
-        differing = [(at, *pair) for at, pair in enumerate(zip(given, due, strict=True))
-                     if pair[0] != pair[1]]
-        detail = ""
-        if differing:
-            at, *texts = differing[0]
-            detail = f"{len(differing)} differ, first number {at}: {first_difference(*texts)}"
-        self.check(name, not differing, detail)
+class PageCase(NodeCase):
+    """Tests of whole pages."""
 
     def pages(self, books):
         """The pages of books."""
@@ -84,12 +65,12 @@ class NodeCase(Case):
     def comparisons(self, pairs):
         """The texts and pages of pairs, and their comparisons."""
         return self.node.calls([
-            ("comparison_lines.shownComparison",
+            ("cli_compare.shownComparison",
              *({"name": each.name, "held": each.book} for each in pair), imprint_of(pair.this))
             for pair in pairs])
 
 
-class Samples(NodeCase):
+class Samples(PageCase):
     """The sample books, on the day of their pages."""
 
     def titled(self, path):
@@ -117,12 +98,12 @@ class Samples(NodeCase):
             for request in (("page.pageOf", book.name, book.book, imprint_of(book)),
                             ("compare.compare", book.book, book.book, DAY)):
                 error = self.node.outcomes([request])[0]
-                self.check(f"{name} in {request[0]}",
-                           (error.name, error.fields["words"], error.fields["owner"])
-                           == ("RefusedError", due.exception.words, due.exception.owner), str(error))
+                given = error.name, error.fields["words"], error.fields["owner"]
+                self.check(f"{name} in {request[0]}", given == (
+                    "RefusedError", due.exception.words, due.exception.owner), str(error))
 
 
-class RandomPages(NodeCase):
+class RandomPages(PageCase):
     """Pages of books of every kind."""
 
     def test_pages(self):
@@ -134,15 +115,14 @@ class RandomPages(NodeCase):
         for name, seen in (
                 ("totals below zero", any(each < 0 for each in figures)),
                 ("totals beyond 2^53", any(each > LARGEST_EXACT for each in figures)),
-                ("credits beyond 2^53", any(each < -LARGEST_EXACT for each in figures)),
                 ("no contracts", any(">No contracts.<" in page for page in due)),
-                ("a class of 64 letters", any(len(each.name) == 64 for each in books)),
+                ("a name as long as a SHA-256", any(len(each.name) == 64 for each in books)),
                 *((f"amounts in {unit}", any(f">{unit}</text>" in page for page in due))
                   for _, unit in charts.UNITS)):
             self.check(f"books with {name}", seen)
 
 
-class RandomComparisons(NodeCase):
+class RandomComparisons(PageCase):
     """Comparisons of pairs of every kind."""
 
     def test_texts_and_pages(self):
@@ -158,9 +138,12 @@ class RandomComparisons(NodeCase):
         self.check("signals to nine digits", not far, str(far[:5]))
         self.covers("every verdict was given", age_alignment.Verdict,
                     {each[2].alignment.overall.verdict for each in due})
-        for kind in ("chain is", "classes", "class 0 is"):
-            self.check(f"remarks on what one book alone has: {kind}", any(
-                kind in remark for each in due for remark in each[2].analysis.remarks))
+        analyses = [each[2].analysis for each in due]
+        for kind in ("the chain is", "classes", "class 0 is"):
+            self.check(f"{kind} in one book alone", any(
+                f": {kind}" in remark for each in analyses for remark in each.remarks))
+        self.check("steps below zero beyond 2^53", any(
+            step.adds.totals[0] < -LARGEST_EXACT for each in analyses for step in each.steps))
 
     def test_years_that_do_not_fit(self):
         this, last = (sample(name).read_bytes() for name in ("this_year", "last_year"))
@@ -172,12 +155,32 @@ class RandomComparisons(NodeCase):
             self.check(name, (error.name, error.message) == ("YearsError", str(due.exception)))
 
     def test_a_step_that_cannot_be_written_is_joined_with_the_next(self):
-        paths = [str(sample(name)) for name in ("last_year", "this_year")]
-        for refused in ("curve", "lapse", "all"):
+        paths = [sample(name) for name in ("last_year", "this_year")]
+        books = [path.read_bytes() for path in paths]
+        for refusals in ((0, 0, 0, 0, 0), (9, 0, 0, 0, 0), (0, 9, 12, 0, 0), (0, 0, 0, 0, 21),
+                         (9, 9, 9, 9, 9)):
             run = subprocess.run(
-                [node_path(), str(ROOT / "tests" / "web" / "refused_steps.mjs"), refused, *paths],
+                [node_path(), REFUSED_STEPS, module_path(), *paths, *map(str, refusals)],
                 capture_output=True, check=True)
-            print(run.stdout)
+            replies, write = iter(refusals), calls.write
+
+            def refusing(*given, replies=replies, write=write):
+                """Write, but for some calls."""
+                refusal = next(replies)
+                return calls.WriteReply(refusal, 0, 0) if refusal else write(*given)
+
+            with unittest.mock.patch.object(calls, "write", refusing):
+                due = json_fields(analyse_change(*books))
+            self.check(f"refusals {refusals}", as_text(json.loads(run.stdout)) == as_text(due))
+
+
+def as_text(held):
+    """Numbers as their digits, tuples as lists."""
+    if isinstance(held, dict):
+        return {name: as_text(each) for name, each in held.items()}
+    if isinstance(held, (list, tuple)):
+        return [as_text(each) for each in held]
+    return str(held)
 
 
 def signals(alignment):
