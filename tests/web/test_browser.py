@@ -8,9 +8,10 @@ from pathlib import Path
 
 from tests.cli.run import sample, xaropinto
 from tests.support.report import run_unit_tests
-from tests.web.page_case import NEWS, RESULT, PageCase, button
+from tests.web.browser_case import NEWS, RESULT, PageCase, button
 
 VIEW = "document.body.dataset.view"
+NAMESPACES = '/ xmlns="[^"]*"/g'
 FILES = ("header.csv", "cost_rates.csv", "curve.csv", "mortality.csv", "portfolio.csv")
 # Ways by which a page could reach another machine; each must end in an error.
 CONNECTIONS = {
@@ -32,10 +33,9 @@ class Opened(PageCase):
             self.open_book(name)
             self.check(f"{name} is accepted", self.browser.value(VIEW) == "accepted", self.news())
             page = self.command("page", sample(name), "-o", "-").decode()
-            due = self.browser.value(
-                f"new DOMParser().parseFromString({page!r}, 'text/html').body.innerHTML.trim()"
-                ".replace(/ xmlns=\"[^\"]*\"/g, '')")
-            shown = self.browser.value(f"{RESULT}.innerHTML.trim().replace(/ xmlns=\"[^\"]*\"/g, '')")
+            due, shown = (self.browser.value(f"{each}.innerHTML.trim().replace({NAMESPACES}, '')")
+                          for each in (f"new DOMParser().parseFromString({page!r}, 'text/html').body",
+                                       RESULT))
             self.check(f"{name} is drawn", shown == due, f"{shown[:300]}\n{due[:300]}")
 
     def test_a_dropped_book_is_shown(self):

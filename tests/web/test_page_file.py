@@ -88,8 +88,8 @@ class PageFile(Case):
             self.check(name, policy.pop(name, None) == due)
         digests = {kind: [f"'sha256-{digest(text)}'" for text in self.parts.texts[kind]]
                    for kind in ("script", "style")}
-        self.check("scripts", policy.pop("script-src").split() ==
-                   [*digests["script"], "'wasm-unsafe-eval'"])
+        self.check("scripts", policy.pop("script-src").split()
+                   == [*digests["script"], "'wasm-unsafe-eval'"])
         self.check("styles", policy.pop("style-src").split() == digests["style"])
         self.check("nothing else", not policy, str(policy))
         before = [tag for tag, _ in self.parts.elements]

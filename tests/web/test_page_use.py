@@ -7,7 +7,7 @@ import sys
 from tests import ROOT
 from tests.cli.run import sample
 from tests.support.report import run_unit_tests
-from tests.web.page_case import NEWS, RESULT, PageCase, button
+from tests.web.browser_case import NEWS, RESULT, PageCase, button
 
 # What the page shows, and how it gets there from the start.
 VIEWS = {
@@ -157,9 +157,9 @@ class Used(PageCase):
     def test_print_has_the_result_alone(self):
         self.open_book("small_insurer")
         self.browser.ask("Emulation.setEmulatedMedia", media="print")
-        shown = self.browser.value("[...document.querySelectorAll('header, #open, #status, #actions,"
-                                   " footer, #result')].filter((each) => each.checkVisibility())"
-                                   ".map((each) => each.id)")
+        shown = self.browser.value(
+            "[...document.querySelectorAll('header, #open, #status, #actions, footer, #result')]"
+            ".filter((each) => each.checkVisibility()).map((each) => each.id)")
         self.browser.ask("Emulation.setEmulatedMedia", media="")
         self.check("what is seen", shown == ["result"], str(shown))
         printed = self.browser.pdf()

@@ -41,8 +41,8 @@ export async function droppedFiles(dropped) {
     const inside = handle ? await filesBelow(await handle) : await filesIn(entry);
     return { folder: entry.name, files: inside };
   } catch (error) {
-    throw new GivenError(`${entry.name}: this browser does not read a dropped folder; drop the five `
-      + "files themselves, or choose the folder");
+    throw new GivenError(`${entry.name}: this browser does not read a dropped folder; drop the `
+      + "five files themselves, or choose the folder");
   }
 }
 
