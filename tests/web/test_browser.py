@@ -33,9 +33,9 @@ class Opened(PageCase):
             self.open_book(name)
             self.check(f"{name} is accepted", self.browser.value(VIEW) == "accepted", self.news())
             page = self.command("page", sample(name), "-o", "-").decode()
+            parsed = f"new DOMParser().parseFromString({page!r}, 'text/html').body"
             due, shown = (self.browser.value(f"{each}.innerHTML.trim().replace({NAMESPACES}, '')")
-                          for each in (f"new DOMParser().parseFromString({page!r}, 'text/html').body",
-                                       RESULT))
+                          for each in (parsed, RESULT))
             self.check(f"{name} is drawn", shown == due, f"{shown[:300]}\n{due[:300]}")
 
     def test_a_dropped_book_is_shown(self):
