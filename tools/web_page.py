@@ -31,7 +31,8 @@ MAIN = WEB / "src" / "main.js"
 PAGE = ROOT / "target" / "web" / "xaropinto.html"
 MOST_BYTES = 200_000
 # A statement begins at the start of a line and ends with the first semicolon.
-IMPORT = re.compile(r'^import\s*(?:\{([^{}]*)\}|\*\s*as\s+(\w+))\s*from\s*"([^"]+)";$', re.MULTILINE)
+IMPORT = re.compile(r'^import\s*(?:\{([^{}]*)\}|\*\s*as\s+(\w+))\s*from\s*"([^"]+)";$',
+                    re.MULTILINE)
 EXPORT = re.compile(r"^export\s+(?:async\s+)?(?:function\*?|class|const)\s+(\w+)", re.MULTILINE)
 EXPORTED_PARTS = re.compile(r"^export\s+const\s*\{([^{}]*)\}\s*=", re.MULTILINE)
 EXPORTED_NAMES = re.compile(r"^export\s*\{([^{}]*)\};$", re.MULTILINE)

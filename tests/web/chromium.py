@@ -53,7 +53,7 @@ class Chromium:
         self.tab = self.ask("Target.attachToTarget", targetId=target, flatten=True)["sessionId"]
         self.ask("Browser.setDownloadBehavior", behavior="allow", downloadPath=str(self.saved),
                  eventsEnabled=True)
-        for domain in ("Page", "Runtime", "Log", "DOM", "Network", "Accessibility"):
+        for domain in ("Page", "Runtime", "Log", "DOM", "Network", "Accessibility", "Performance"):
             self.ask(f"{domain}.enable")
 
     def start(self):
@@ -171,6 +171,11 @@ class Chromium:
         """Give the page a window of this size, in CSS pixels."""
         self.ask("Emulation.setDeviceMetricsOverride", width=width, height=height,
                  deviceScaleFactor=1, mobile=False)
+
+    def processor_milliseconds(self):
+        """What the page's thread has used of the processors so far, whatever else ran on them."""
+        held = self.ask("Performance.getMetrics")["metrics"]
+        return 1_000 * next(each["value"] for each in held if each["name"] == "ThreadTime")
 
     def picture(self):
         """The whole page as PNG."""

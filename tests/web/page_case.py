@@ -1,78 +1,31 @@
-"""Test cases of the web page in Chromium: one browser for a class, the page opened anew for each
-test."""
+"""Tests that ask one process of node and compare texts."""
 
-import tempfile
-from pathlib import Path
-
-from tests.cli.run import DONE, sample, xaropinto
 from tests.support.case import Case
-from tests.web.chromium import Chromium
-from tests.web.proved_module import module_path
-from tools.web_page import page_text
-
-NEWS = "document.getElementById('status').textContent"
-RESULT = "document.getElementById('result')"
-READY = "No book is open."
-# What the browser reports of a page that does something wrong.
-TROUBLE = ("Log.entryAdded", "Runtime.exceptionThrown", "Runtime.consoleAPICalled")
+from tests.web.node import Node
 
 
-class PageCase(Case):
-    """A test that drives the page."""
+def first_difference(given, due):
+    """Where two texts part, for the reader of a failure."""
+    at = next((at for at, (one, other) in enumerate(zip(given, due)) if one != other),
+              min(len(given), len(due)))
+    return f"at {at:,}: {given[max(0, at - 40):at + 40]!r}, due is {due[max(0, at - 40):at + 40]!r}"
+
+
+class NodeCase(Case):
+    """Tests that ask one process of node."""
 
     @classmethod
     def setUpClass(cls):
-        cls.folder = tempfile.TemporaryDirectory()
-        cls.addClassCleanup(cls.folder.cleanup)
-        cls.path = Path(cls.folder.name) / "xaropinto.html"
-        cls.path.write_text(page_text(module_path().read_bytes()), encoding="utf-8")
-        cls.browser = Chromium()
-        cls.addClassCleanup(cls.browser.close)
+        cls.node = Node()
+        cls.addClassCleanup(cls.node.close)
+        super().setUpClass()
 
-    def setUp(self):
-        self.browser.resize(1280)
-        self.browser.open(self.path.as_uri())
-        self.browser.until(f"{NEWS} === {READY!r}")
-
-    def tearDown(self):
-        """No test leaves an error or a warning on the console."""
-        self.assertEqual(self.browser.named(*TROUBLE), [])
-
-    def news(self):
-        """What the page reports last."""
-        return self.browser.value(NEWS)
-
-    def text_of(self, selector="#result"):
-        """The text of an element of the page."""
-        return self.browser.value(f"document.querySelector({selector!r}).textContent")
-
-    def wait_for(self, words):
-        """Wait until the page reports something with these words."""
-        self.browser.until(f"{NEWS}.includes({words!r})")
-
-    def open_book(self, name):
-        """Choose a sample book."""
-        self.browser.choose("#files", sample(name))
-        self.wait_for(f"{name}.book: ")
-
-    def click(self, words):
-        """Click the button with these words."""
-        self.browser.value(f"{button(words)}.click()")
-
-    def saved(self, words):
-        """The name and bytes of the file that a button saves."""
-        return self.browser.file_saved(lambda: self.click(words))
-
-    def command(self, *words):
-        """What the command writes to the file `-o out`, or else prints."""
-        with tempfile.TemporaryDirectory() as folder:
-            out = Path(folder) / "out"
-            run = xaropinto(*(out if word == "out" else word for word in words))
-            self.assertEqual(run.code, DONE, run.errors)
-            return out.read_bytes() if "out" in words else run.out
-
-
-def button(words):
-    """The button that begins with these words, as an expression."""
-    return (f"[...document.querySelectorAll('button')].find((each) => "
-            f"each.textContent.trim().startsWith({words!r}))")
+    def same(self, name, given, due):
+        """A check that texts are the same, each with the next."""
+        differing = [(at, *pair) for at, pair in enumerate(zip(given, due, strict=True))
+                     if pair[0] != pair[1]]
+        detail = ""
+        if differing:
+            at, *texts = differing[0]
+            detail = f"{len(differing)} differ, first number {at}: {first_difference(*texts)}"
+        self.check(name, not differing, detail)

@@ -8,9 +8,10 @@ from pathlib import Path
 
 from tests.cli.run import sample, xaropinto
 from tests.support.report import run_unit_tests
-from tests.web.page_case import NEWS, RESULT, PageCase, button
+from tests.web.browser_case import NEWS, RESULT, PageCase, button
 
 VIEW = "document.body.dataset.view"
+NAMESPACES = '/ xmlns="[^"]*"/g'
 FILES = ("header.csv", "cost_rates.csv", "curve.csv", "mortality.csv", "portfolio.csv")
 # Ways by which a page could reach another machine; each must end in an error.
 CONNECTIONS = {
@@ -31,11 +32,10 @@ class Opened(PageCase):
         for name in ("small_insurer", "full", "edition_2"):
             self.open_book(name)
             self.check(f"{name} is accepted", self.browser.value(VIEW) == "accepted", self.news())
-            page = self.command("page", sample(name), "-o", "out").decode()
-            due = self.browser.value(
-                f"new DOMParser().parseFromString({page!r}, 'text/html').body.innerHTML.trim()"
-                ".replace(/ xmlns=\"[^\"]*\"/g, '')")
-            shown = self.browser.value(f"{RESULT}.innerHTML.trim().replace(/ xmlns=\"[^\"]*\"/g, '')")
+            page = self.command("page", sample(name), "-o", "-").decode()
+            parsed = f"new DOMParser().parseFromString({page!r}, 'text/html').body"
+            due, shown = (self.browser.value(f"{each}.innerHTML.trim().replace({NAMESPACES}, '')")
+                          for each in (parsed, RESULT))
             self.check(f"{name} is drawn", shown == due, f"{shown[:300]}\n{due[:300]}")
 
     def test_a_dropped_book_is_shown(self):
@@ -91,7 +91,7 @@ class Opened(PageCase):
         self.browser.until(f"{RESULT}.textContent.includes('Söhne <AG>')")
         name, held = self.saved("Page")
         self.assertEqual(name, "one_record.html")
-        self.assertEqual(held, self.command("page", sample("one_record"), "-o", "out", "--insurer",
+        self.assertEqual(held, self.command("page", sample("one_record"), "-o", "-", "--insurer",
                                             "Example & Söhne <AG>"))
 
 
@@ -103,15 +103,15 @@ class Saved(PageCase):
             self.open_book(book)
             path = sample(book)
             self.check(f"listing of {book}", self.saved("Listing") == (
-                f"{book}.listing", self.command("list", path, "-o", "out")))
+                f"{book}.listing", self.command("list", path, "-o", "-")))
             for setting in ("0", "7"):
                 self.browser.value("(document.querySelector('#actions select').selectedIndex = "
                                    f"{setting})")
                 self.check(f"report {setting} of {book}", self.saved("Year report") == (
                     f"{book}.years-{setting}.csv",
-                    self.command("years", path, "--setting", setting, "-o", "out")))
+                    self.command("years", path, "--setting", setting, "-o", "-")))
             self.check(f"page of {book}", self.saved("Page") == (
-                f"{book}.html", self.command("page", path, "-o", "out")))
+                f"{book}.html", self.command("page", path, "-o", "-")))
 
     def test_csv_files(self):
         self.open_book("small_insurer")
@@ -139,7 +139,7 @@ class Saved(PageCase):
             self.click("Make practice book")
             self.wait_for(f"practice-{start}.book: accepted")
             self.check(start, self.saved("Book") == (f"practice-{start}.book", self.command(
-                "practice", start, "-o", "out")))
+                "practice", start, "-o", "-")))
         for start, words in (("0", "refused 32"), ("-1", "'-1' is not a whole number of at most"),
                              ("18446744073709551616", "is not a whole number of at most 64 bits")):
             self.browser.value(f"(document.getElementById('start-number').value = '{start}')")
@@ -166,16 +166,16 @@ class Compared(PageCase):
         self.browser.choose("#other", sample("last_year"))
         self.wait_for("Age classes: every class looks one too high")
         words = ("compare", sample("last_year"), sample("this_year_slipped"))
-        self.check("page", self.saved("Page") == ("this_year_slipped.compare.html", self.command(
-            *words, "-o", "out")))
+        self.check("page", self.saved("Page") == ("this_year_slipped.compare.html",
+                                                  self.written(*words)))
         self.check("text", self.saved("Text") == ("this_year_slipped.compare.txt",
                                                   self.command(*words)))
 
     def test_two_books_are_put_in_the_order_of_their_years(self):
         self.browser.drop(sample("this_year"), sample("last_year"))
         self.wait_for("Age classes: as expected")
-        self.check("page", self.saved("Page")[1] == self.command(
-            "compare", sample("last_year"), sample("this_year"), "-o", "out"))
+        self.check("page", self.saved("Page")[1] == self.written(
+            "compare", sample("last_year"), sample("this_year")))
 
     def test_a_refused_book_is_not_compared(self):
         self.open_book("this_year")

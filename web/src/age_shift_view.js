@@ -9,8 +9,8 @@ import { swiss } from "./number_format.js";
 /** @typedef {import("./age_shift.js").Move} Move */
 
 const [, , ...COLUMNS] = CLI_PORTFOLIO.HEADING.split(",");
-const PROVED = "In centimes. The totals of each moved book come from the proved call; the moves are "
-  + "the program's own: tested, not proved.";
+const PROVED = "In centimes. The totals of each moved book come from the proved call; the moves "
+  + "are the program's own: tested, not proved.";
 
 /**
  * The page.

@@ -4,10 +4,10 @@ import { button, group, settingButton } from "./actions.js";
 import { ageShift } from "./age_shift.js";
 import { ageShiftPage } from "./age_shift_view.js";
 import * as answers from "./answers.js";
+import { comparisonLines } from "./cli_compare.js";
 import { ageShiftText } from "./cli_portfolio.js";
 import { compare } from "./compare.js";
 import { comparePage } from "./compare_page.js";
-import { comparisonLines } from "./comparison_lines.js";
 import {
   bringMarkIntoView, focusResult, report, setView, showActions, showPage,
 } from "./frame.js";

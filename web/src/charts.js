@@ -1,7 +1,7 @@
 // Charts as SVG: lines, bars and steps, with axes, units and a legend that shows the line's style.
 //
-// No text is cut off: margins follow the longest label. Lines and fills differ in grey print too. As
-// python/xaropinto/charts.py.
+// No text is cut off: margins follow the longest label. Lines and fills differ in grey print too.
+// As python/xaropinto/charts.py.
 
 import { CHARTS } from "../../target/web/tables.js";
 import { text } from "./html_parts.js";

@@ -69,10 +69,10 @@ export function showActions(actions) {
 
 /** Move a table that is wider than the page so far sideways that its marked cell is seen. */
 export function bringMarkIntoView() {
-  const mark = /** @type {HTMLElement | null} */ (part("result").querySelector(".scroll mark"));
-  const table = mark?.closest(".scroll");
+  const mark = part("result").querySelector(".scroll mark"), table = mark?.closest(".scroll");
   if (!mark || !table) return;
-  table.scrollLeft = mark.offsetLeft - (table.clientWidth - mark.offsetWidth) / 2;
+  const cell = mark.getBoundingClientRect(), window = table.getBoundingClientRect();
+  table.scrollLeft += cell.left + cell.width / 2 - window.left - window.width / 2;
 }
 
 /** Move the focus to the result: what had it is gone. */

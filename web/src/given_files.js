@@ -25,22 +25,42 @@ const isTable = (name) => /\.csv$/i.test(name);
 
 /**
  * The files of a drop, those of a folder included. A browser forgets what was dropped as soon as
- * the event has ended: entries are taken before anything is awaited.
+ * the event has ended: what leads to a folder is taken before anything is awaited.
  * @param {DataTransfer} dropped
  * @returns {Promise<Given>}
  */
 export async function droppedFiles(dropped) {
-  const entries = Array.from(dropped.items).map((item) => item.webkitGetAsEntry?.() ?? null);
-  const files = Array.from(dropped.files);
-  const folders = entries.filter((entry) => entry?.isDirectory);
-  if (!folders.length) return { folder: "", files };
-  if (entries.length > 1) throw new GivenError("drop one folder, and nothing beside it");
-  const folder = /** @type {FileSystemDirectoryEntry} */ (folders[0]);
-  return { folder: folder.name, files: await filesIn(folder) };
+  const files = Array.from(dropped.files), items = Array.from(dropped.items);
+  const item = items.find((each) => each.webkitGetAsEntry?.()?.isDirectory);
+  if (!item) return { folder: "", files };
+  if (items.length > 1) throw new GivenError("drop one folder, and nothing beside it");
+  const entry = /** @type {FileSystemDirectoryEntry} */ (item.webkitGetAsEntry());
+  // Chromium reads no entries in a page that is opened from a file; other browsers have no handles.
+  const handle = /** @type {any} */ (item).getAsFileSystemHandle?.();
+  try {
+    const inside = handle ? await filesBelow(await handle) : await filesIn(entry);
+    return { folder: entry.name, files: inside };
+  } catch (error) {
+    throw new GivenError(`${entry.name}: this browser does not read a dropped folder; drop the `
+      + "five files themselves, or choose the folder");
+  }
 }
 
 /**
- * The files of a folder, none of the folders in it. A reader gives some at a time, at last none.
+ * The files of a folder, none of the folders in it.
+ * @param {any} handle
+ */
+async function filesBelow(handle) {
+  /** @type {File[]} */
+  const files = [];
+  for await (const each of handle.values()) {
+    if (each.kind === "file") files.push(await each.getFile());
+  }
+  return files;
+}
+
+/**
+ * The same by an entry. A reader gives some at a time, at last none.
  * @param {FileSystemDirectoryEntry} folder
  */
 async function filesIn(folder) {

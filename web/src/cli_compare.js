@@ -1,12 +1,33 @@
 // What the command prints of two years' books. As python/xaropinto/cli/compare.py.
 
 import { CLI_COMPARE } from "../../target/web/tables.js";
+import * as answers from "./answers.js";
+import { compare } from "./compare.js";
+import { comparePage } from "./compare_page.js";
 import { SETTINGS } from "./layout.js";
 import { fixed } from "./python_text.js";
 
 const { DIFFERENCES } = CLI_COMPARE;
 
 /** @typedef {import("./compare.js").Comparison} Comparison */
+/** @typedef {import("./compare_page.js").Book} Book */
+
+/**
+ * The comparison as text, and its page; `RefusedError` where a book is refused, `YearsError` where
+ * the years do not fit.
+ * @param {Book} last
+ * @param {Book} current
+ * @param {import("./page.js").Imprint} imprint
+ * @returns {{text: string, page: string, comparison: Comparison}}
+ */
+export function shownComparison(last, current, imprint) {
+  for (const book of [last, current]) answers.check(book.held);
+  const comparison = compare(last.held, current.held, imprint.today);
+  return {
+    text: [...comparisonLines(comparison), ""].join("\n"),
+    page: comparePage(last, current, comparison, imprint), comparison,
+  };
+}
 
 /**
  * The verdict first, then the analysis of change, what changed, and chain by chain.
