@@ -282,6 +282,15 @@ class Missing(Case):
             self.assertEqual((code, said.count("\n"), folder.exists()), (1, 1, False), said)
             self.assertIn("target/targets/none.dll is missing", said)
 
+    def test_libraries_of_another_archive(self):
+        contents.need_one_build()
+        with tempfile.TemporaryDirectory() as name:
+            stamp = Path(name) / "module.archive"
+            stamp.write_text("0" * 64, encoding="ascii")
+            named = patch.object(contents, "STAMP", ROOT / os.path.relpath(stamp, ROOT))
+            with named, self.assertRaisesRegex(contents.MissingError, "of another archive"):
+                contents.need_one_build()
+
     def test_a_pattern_that_fits_nothing(self):
         with self.assertRaises(contents.MissingError):
             contents.sources("samples/*.nothing")

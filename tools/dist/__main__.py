@@ -11,7 +11,7 @@ from pathlib import Path
 from tools.dist import identity
 from tools.dist.archives import (LIST, install_files, list_of_sums, sum_of, tar_bytes, zip_bytes)
 from tools.dist.contents import (PLATFORMS, WINDOWS, X86_64, File, MissingError, archive_files,
-                                 installed_files)
+                                 installed_files, need_one_build)
 from tools.dist.wheel import TagError, name_of, wheel_bytes
 
 SUMS = "SHA256SUMS"
@@ -28,6 +28,7 @@ def built(platform, seconds):
 
 def build(folder, platforms):
     """Write all archives and wheels into a folder that holds nothing else then."""
+    need_one_build()
     seconds, made = identity.seconds(), {}
     for platform in platforms:
         made |= built(platform, seconds)

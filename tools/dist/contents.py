@@ -1,11 +1,13 @@
 """The one list of what goes where, for each platform; archives, wheels and `make install` are made
 from it."""
 
+import hashlib
 import sys
 from typing import Callable, NamedTuple, Optional
 
 from tools.dist import identity
 from tools.dist.identity import ROOT, VERSION
+from tools.targets.capture import STAMP
 
 sys.path.insert(0, str(ROOT / "python"))
 
@@ -13,7 +15,8 @@ from xaropinto.library import BUILDS  # noqa: E402
 
 
 class MissingError(Exception):
-    """Something that is packed was not built; the words say what makes it."""
+    """Something that is packed was not built, or of another archive; the words say what makes
+    it."""
 
 
 class Platform(NamedTuple):
@@ -158,6 +161,14 @@ def read(name):
         maker = next((words for top, words in MAKERS.items() if name.startswith(top)), "")
         how = f": {maker} makes it" if maker else ""
         raise MissingError(f"{name} is missing{how}") from None
+
+
+def need_one_build():
+    """Stop where the libraries of the other platforms are not of the archive that is packed."""
+    archive = hashlib.sha256(read("target/lib/libxaropinto.a")).hexdigest()
+    if read(STAMP.relative_to(ROOT).as_posix()).decode("ascii") != archive:
+        raise MissingError("target/targets is of another archive than target/lib has:"
+                           f" {MAKERS['target/targets/']} makes it anew")
 
 
 def files_of_rows(rows, platform):
