@@ -87,7 +87,8 @@ class Installed(unittest.TestCase):
         self.assertEqual((ended.returncode, ended.stdout.decode()), (0, version_lines()))
 
     def test_install(self):
-        ended = run("make", "install", f"DESTDIR={self.folder}", "PREFIX=/usr/it")
+        # The library is built, and not built again: another part may use it meanwhile.
+        ended = run("make", "-o", "lib", "install", f"DESTDIR={self.folder}", "PREFIX=/usr/it")
         self.assertEqual(ended.returncode, 0, ended.stderr)
         self.hold(self.folder / "usr" / "it")
         manual = self.folder / "usr" / "it" / "share" / "man" / "man1" / "xaropinto.1"
