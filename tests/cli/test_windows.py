@@ -56,6 +56,21 @@ def refuse(*paths):
                           " another process", str(paths[0]), None, str(paths[1]))
 os.replace = os.rename = refuse
 """
+# The first attempts to rename fail.
+OPEN_FOR_A_MOMENT = """
+import os
+from xaropinto.cli import files
+files.ON_WINDOWS = True
+left = [2, 2]
+def after_two(at, rename):
+    def attempt(*paths):
+        if left[at]:
+            left[at] -= 1
+            raise PermissionError(13, "Access is denied", *map(str, paths))
+        rename(*paths)
+    return attempt
+os.replace, os.rename = after_two(0, os.replace), after_two(1, os.rename)
+"""
 # A signal comes between the two renames of a folder.
 SIGNAL_BETWEEN = """
 import os, signal
@@ -215,6 +230,14 @@ class Open(InAFolder):
         self.assertIn("is it open in another program?", ended.stderr.decode())
         self.assertEqual(self.names(), ["sheets"])
         self.assertEqual({name: (sheets / name).read_bytes() for name in self.names(sheets)}, held)
+
+    def test_a_file_that_is_open_for_a_moment(self):
+        for words, out in ((("list", ACCEPTED), "out"), (("read", ACCEPTED), "sheets")):
+            ended = by_python(OPEN_FOR_A_MOMENT, *words, "-o", self.folder / out)
+            self.assertEqual((ended.returncode, ended.stdout), (DONE, b""), ended.stderr)
+        self.assertEqual(self.names(), ["out", "sheets"])
+        elsewhere = OPEN_FOR_A_MOMENT.replace("ON_WINDOWS = True", "ON_WINDOWS = False")
+        self.one_line(by_python(elsewhere, "list", ACCEPTED, "-o", self.folder / "out"), TROUBLE)
 
     def test_no_such_question_where_nothing_was(self):
         with patch.object(files, "ON_WINDOWS", True):

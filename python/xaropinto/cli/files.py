@@ -8,9 +8,10 @@ import shutil
 import signal
 import stat
 import sys
+import time
 from pathlib import Path
 from types import FrameType
-from typing import Iterable, Iterator, Mapping, Optional, Sequence
+from typing import Callable, Iterable, Iterator, Mapping, Optional, Sequence
 
 from xaropinto.cli.errors import CommandError, reason_of
 from xaropinto.cli.streams import put_bytes
@@ -28,6 +29,8 @@ ENDING = tuple(
 # Windows neither lets a file that is open be replaced nor lists files by pattern before a command
 # starts.
 ON_WINDOWS = os.name == "nt"
+# Seconds between attempts to rename there: a virus scanner has each new file open for a moment.
+PAUSES = (0.05, 0.1, 0.2, 0.4)
 
 # Of one run: which files it reads, by device and inode, and the paths that it has written.
 _inputs: set[tuple[int, int]] = set()
@@ -141,9 +144,19 @@ def replace_file(target: Path, held: bytes) -> None:
     part = beside(target, "part")
     try:
         put_new(part, held)
-        os.replace(part, target)
+        patiently(os.replace, part, target)
     finally:
         part.unlink(missing_ok=True)
+
+
+def patiently(rename: Callable[[Path, Path], None], old: Path, new: Path) -> None:
+    """Rename; on Windows again after each pause, while the system does not allow it."""
+    for pause in PAUSES if ON_WINDOWS else ():
+        try:
+            return rename(old, new)
+        except PermissionError:
+            time.sleep(pause)
+    return rename(old, new)
 
 
 def put_new(path: Path, held: bytes) -> None:
@@ -195,12 +208,12 @@ def swap_in(part: Path, target: Path) -> None:
     old = beside(target, "old")
     with signals_held():
         if target.exists():
-            os.rename(target, old)
+            patiently(os.rename, target, old)
         try:
-            os.rename(part, target)
+            patiently(os.rename, part, target)
         except OSError:
             if old.exists():
-                os.rename(old, target)
+                patiently(os.rename, old, target)
             raise
         shutil.rmtree(old, ignore_errors=True)
 
