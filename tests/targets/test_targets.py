@@ -6,10 +6,10 @@ import tempfile
 from pathlib import Path
 
 from tests import ROOT
-from tests.targets import wasm_file, windows_file
-from tests.targets.struct_assertions import failing, layouts
 from tests.support.case import Case
 from tests.support.report import run_unit_tests
+from tests.targets import wasm_file, windows_file
+from tests.targets.struct_assertions import failing, layouts
 from tools.targets import FOLDER
 from tools.targets.build import build
 from tools.targets.capture import ARCHIVE, MODULE, captured, words_captured
