@@ -1,10 +1,12 @@
 // A refused book: the verdict, where and why, and what stands around the place.
 import { MESSAGES } from "../../target/web/tables.js";
+import { faultsLine } from "./cli_check.js";
 import { document as page, element, facts, note, section, text } from "./html_parts.js";
 import {
   Field, HEADER_BYTES, RECORD_BYTES, SEXES, SUBGROUPS, headerFields, heads, percentages, recordAt,
   recordCount,
 } from "./layout.js";
+import { counted } from "./number_format.js";
 import { grouped } from "./python_text.js";
 import { refusalOf } from "./refusals.js";
 import { sha256 } from "./sha256.js";
@@ -45,6 +47,19 @@ export function refusalPage(book, refused, call) {
     element("p", `refused ${number} ${place}`, { class: "verdict bad" }),
     element("p", found || rule), facts("The first rule that is broken", rows),
     isLength ? "" : neighbourhood(book.held, place), note(REMARK)]);
+}
+
+/**
+ * The page of every fault of a refused book.
+ * @param {string} name
+ * @param {import("./faults.js").Faults} faults
+ */
+export function faultsPage(name, faults) {
+  const title = `${name}: every fault`;
+  return page(title, [element("h1", title),
+    element("p", counted(faults.found.length, "fault", "faults"), { class: "verdict bad" }),
+    facts(faultsLine(faults), faults.found.map(({ number, place, words }) =>
+      [`${number}, byte ${grouped(place)}`, words]))]);
 }
 
 /**
