@@ -8,7 +8,7 @@ from dataclasses import fields, is_dataclass, replace
 from datetime import date
 from pathlib import Path
 
-from reference.book import (Portfolio, make_book, random_book, random_values,
+from reference.book import (PG2_MEN, Portfolio, make_book, random_book, random_values,
                             slots_in_chain_order)
 from reference.layout import CHAINS, changed, record
 from tests import ROOT
@@ -20,6 +20,7 @@ from tests.fixtures.age_basis_2 import on_basis_2
 from tests.fixtures.book_pairs import mortality
 from tests.fixtures.claims import random_claims
 from tests.fixtures.damage import any_book, damaged
+from tests.fixtures.insurers import LOWEST, flat_values, repeated_book
 from tests.fixtures.risk_models import BY_HAND as MODELS
 from tests.support.case import Case
 from tests.support.differential import Differential
@@ -366,6 +367,15 @@ class OtherRefusals(NodeCase):
                 asked.ask({"number": number, "rule": row.rule, "owner": row.owner},
                           "refusals.refusalOf", number, call)
         self.same("words of 32 refusals and 8 calls", asked)
+
+    def test_a_chain_starts_anew_at_a_record_once(self):
+        book = repeated_book(flat_values(0, 0, 0), PG2_MEN, 113, LOWEST)
+        # The third record leads past the fourth, the seventh back to the second.
+        book = changed(book, (record(3).next, 5), (record(7).next, 2))
+        found, asked = faults.all_faults(book), Asked()
+        self.assertEqual([each.place for each in found.found], [1_318, 1_246, 1_318])
+        asked.ask(as_plain(found), "faults.allFaults", book)
+        self.same("a chain that leads back", asked)
 
     def test_funds(self):
         asked, seen = Asked(), set()
