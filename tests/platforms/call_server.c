@@ -1,4 +1,4 @@
-/* The other side of tests/platforms/bridge.py: answers calls by the library that it is linked with.
+/* The other side of tests/targets/bridge.py: answers calls by the library that it is linked with.
  * Requests come on standard input, answers go to standard output. */
 #include <stdio.h>
 #include <stdlib.h>

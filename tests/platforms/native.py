@@ -6,10 +6,11 @@ They are compiled by the cross compilers of Debian's packages, as a user of the 
 import re
 import shutil
 import subprocess
+import tempfile
 from pathlib import Path
 
 from tests import ROOT
-from tests.platforms import bridged
+from tests.targets import bridged
 from tests.support.command import run
 from tests.support.debian import install
 from tools.targets.adapters import is_struct
@@ -72,25 +73,27 @@ class NativeCase(bridged.BridgedCase):
         """The command that runs a program for the target."""
         raise NotImplementedError
 
-    def compile(self, source, library, work):
-        """Compile and link a program into the work folder; its path."""
+    def compile(self, source, linked, work):
+        """Compile a program into the work folder and link it with these files; its path."""
         (work / "answer.inc").write_text(answer(), encoding="ascii")
-        program = work / f"{Path(source).stem}{self.end}"
+        program = work / f"{source.stem}{self.end}"
         code, text = run([self.compiler, *COMPILED, f"-I{work}", "-o", str(program), str(source),
-                          *self.linked(library)], self.most_seconds)
+                          *linked], self.most_seconds)
         self.assertEqual((code, text), (0, ""))
         return program
 
     def command(self, library, work):
-        return self.started(self.compile(SERVER, library, work))
+        return self.started(self.compile(SERVER, self.linked(library), work))
 
-    def run_caller(self, library, work):
-        """The C tests: they end well, and none fails."""
-        program = self.compile(CALLER, library, work)
-        ended = subprocess.run(
-            self.started(program), env=self.surroundings(work), cwd=work, timeout=self.most_seconds,
-            stdin=subprocess.DEVNULL, capture_output=True, text=True, check=False)
+    def run_caller(self, words, linked):
+        """The C tests, linked with these files: they end well, and none fails."""
+        with tempfile.TemporaryDirectory() as work:
+            program = self.compile(CALLER, linked, Path(work))
+            ended = subprocess.run(
+                self.started(program), env=self.surroundings(), cwd=work, text=True,
+                timeout=self.most_seconds, stdin=subprocess.DEVNULL, capture_output=True,
+                check=False)
         tally = TALLY.search(ended.stdout)
-        self.check("the C tests end well", ended.returncode == 0, ended.stdout + ended.stderr)
-        self.check("none of the C tests fails", tally, ended.stdout[-2_000:])
-        print(f"{self.target.name}: {tally[0] if tally else 'no tally'} in {CALLER.name}")
+        self.check(f"the C tests with the {words} end well", ended.returncode == 0, ended.stderr)
+        self.check(f"none of the C tests with the {words} fails", tally, ended.stdout[-2_000:])
+        print(f"{self.target.name}: {tally[0] if tally else 'no tally'} in {CALLER.name}, {words}")

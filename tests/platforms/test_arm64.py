@@ -1,8 +1,6 @@
 """The library for Linux on arm64, under qemu: the C tests, all suites of the calls, the samples."""
 
 import sys
-import tempfile
-from pathlib import Path
 
 from tests.platforms import native
 from tests.support.report import run_unit_tests
@@ -13,7 +11,7 @@ SYSTEM = "/usr/aarch64-linux-gnu"
 
 
 class Arm64(native.NativeCase):
-    """The shared library answers the suites; the C tests are linked with the archive."""
+    """The shared library answers the suites; the C tests are linked with the archive too."""
 
     target = ARM64
     compiler = "aarch64-linux-gnu-gcc"
@@ -27,17 +25,8 @@ class Arm64(native.NativeCase):
         return ["qemu-aarch64", "-L", SYSTEM, str(program)]
 
     def test_caller_in_c(self):
-        with tempfile.TemporaryDirectory() as work:
-            self.run_caller(self.folder, Path(work))
-
-
-class Arm64Archive(Arm64):
-    """The archive, linked with the target's C library."""
-
-    def linked(self, library):
-        return [str(library / "libxaropinto.a"), "-static"]
-
-    test_suites = test_a_changed_constant_is_noticed = None
+        self.run_caller("shared library", self.linked(self.folder))
+        self.run_caller("archive", [str(self.folder / "libxaropinto.a"), "-static"])
 
 
 if __name__ == "__main__":

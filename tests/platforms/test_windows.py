@@ -35,22 +35,22 @@ class Windows(native.NativeCase):
         cls.addClassCleanup(subprocess.run, ["wineserver", "--kill"], env=cls.env,
                             capture_output=True, check=False)
 
-    def surroundings(self, work):
+    def surroundings(self):
         return self.env
 
     def linked(self, library):
         return [str(library / "xaropinto.lib")]
 
-    def compile(self, source, library, work):
-        shutil.copy(library / "xaropinto.dll", work)
-        return super().compile(source, library, work)
+    def compile(self, source, linked, work):
+        for library in linked:
+            shutil.copy(Path(library).with_suffix(".dll"), work)
+        return super().compile(source, linked, work)
 
     def started(self, program):
         return ["wine", str(program)]
 
     def test_caller_in_c(self):
-        with tempfile.TemporaryDirectory() as work:
-            self.run_caller(self.folder, Path(work))
+        self.run_caller("DLL", self.linked(self.folder))
 
 
 if __name__ == "__main__":

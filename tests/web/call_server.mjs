@@ -1,5 +1,5 @@
 /**
- * The other side of tests/platforms/bridge.py: answers calls by web/src/calls.js over a module.
+ * The other side of tests/targets/bridge.py: answers calls by web/src/calls.js over a module.
  *
  *     node tests/web/call_server.mjs MODULE.wasm
  */

@@ -5,8 +5,8 @@ import sys
 import tempfile
 from pathlib import Path
 
-from tests.platforms import wasm_file, windows_file
-from tests.platforms.struct_assertions import failing, layouts
+from tests.targets import wasm_file, windows_file
+from tests.targets.struct_assertions import failing, layouts
 from tests.support.case import Case
 from tests.support.report import run_unit_tests
 from tools.targets import FOLDER

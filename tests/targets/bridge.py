@@ -12,6 +12,7 @@ arguments there are, the name, and the arguments. An argument is a letter and wh
 
 import contextlib
 import ctypes
+import importlib
 import io
 import os
 import struct
@@ -22,6 +23,7 @@ from typing import NamedTuple
 from unittest import mock
 
 from tests import ROOT
+from tests.support.differential import Differential
 from tests.support.report import NUMBER, Counted
 
 sys.path.insert(0, str(ROOT / "python"))
@@ -125,12 +127,27 @@ def answered_by(side):
         yield
 
 
+@contextlib.contextmanager
+def random_inputs(module, number):
+    """Let the classes of a module draw so many inputs, or as many as they do by themselves."""
+    classes = [each for each in vars(module).values()
+               if isinstance(each, type) and issubclass(each, Differential)]
+    # A class keeps the number that it was once told.
+    held = {each: each.number for each in classes}
+    try:
+        with mock.patch.dict(os.environ, {NUMBER: str(number or "")}):
+            yield
+    finally:
+        for each in classes:
+            each.number = held[each]
+
+
 def run_suite(name, side, number=None):
     """Run a suite with so many random inputs, or as many as it has by itself; its outcome."""
-    suite = unittest.defaultTestLoader.loadTestsFromName(name)
+    module = importlib.import_module(name)
+    suite = unittest.defaultTestLoader.loadTestsFromModule(module)
     text, before = io.StringIO(), side.count
-    with (mock.patch.dict(os.environ, {NUMBER: str(number or "")}), answered_by(side),
-          contextlib.redirect_stdout(text)):
+    with (random_inputs(module, number), answered_by(side), contextlib.redirect_stdout(text)):
         runner = unittest.TextTestRunner(stream=text, verbosity=0, resultclass=Counted)
         result = runner.run(suite)
         failed = result.failed()

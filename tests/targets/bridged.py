@@ -6,7 +6,7 @@ import tempfile
 from pathlib import Path
 
 from tests import ROOT
-from tests.platforms.bridge import SUITES, OtherSide, answered_by, calls, run_suite
+from tests.targets.bridge import SUITES, OtherSide, answered_by, calls, run_suite
 from tests.support.case import Case
 from tools.targets import FOLDER
 from tools.targets.build import build, build_target
@@ -51,10 +51,10 @@ class BridgedCase(Case):
     def side(self, library):
         """A process with the library of a folder, until the end."""
         with tempfile.TemporaryDirectory() as work:
-            with OtherSide(self.command(library, Path(work)), self.surroundings(Path(work))) as one:
+            with OtherSide(self.command(library, Path(work)), self.surroundings()) as one:
                 yield one
 
-    def surroundings(self, work):
+    def surroundings(self):
         """The environment of that process; None: this one's."""
         return None
 
