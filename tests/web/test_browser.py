@@ -89,7 +89,7 @@ class Opened(PageCase):
     def test_what_is_no_book_is_refused_in_words(self):
         with tempfile.TemporaryDirectory() as folder:
             for name, held, words in (("empty.book", b"", "it looks like an empty file"),
-                                      ("sheet.xlsx", b"PK\3\4" + bytes(2_000), "a spreadsheet")):
+                                      ("sheet.xlsx", b"PK\3\4" + bytes(2_000), "as CSV files")):
                 path = Path(folder) / name
                 path.write_bytes(held)
                 self.browser.choose("#files", path)
