@@ -19,7 +19,7 @@ from typing import NamedTuple
 from tests import ROOT
 from tools.targets import BuildError
 from tools.targets.build import build
-from tools.web_tables import TABLES, tables_text
+from tools.web_tables import TABLES, in_javascript, tables_text
 
 sys.path.insert(0, str(ROOT / "python"))
 
@@ -38,6 +38,7 @@ EXPORTED_PARTS = re.compile(r"^export\s+const\s*\{([^{}]*)\}\s*=", re.MULTILINE)
 EXPORTED_NAMES = re.compile(r"^export\s*\{([^{}]*)\};$", re.MULTILINE)
 LEFT = re.compile(r"^(?:import|export)\b.*", re.MULTILINE)
 COMMENT = re.compile(r"^[ \t]*(?://[^\n]*|/\*(?:(?!\*/).)*\*/[ \t]*)\n", re.MULTILINE | re.DOTALL)
+FIRST_STYLE = 'globalThis.document?.querySelector("style")?.textContent'
 HEADING = """"use strict";
 // Put together by tools/web_page.py from web/src, where the comments are.
 """
@@ -135,9 +136,17 @@ def in_a_function(module):
             f"return Object.freeze({{ {given} }});\n}})();\n")
 
 
+def page_tables():
+    """The tables without the style of pages, which is in the page already: its first style."""
+    before, found, after = tables_text().partition(in_javascript(STYLE))
+    if not found:
+        raise BundleError("the tables have no style of pages")
+    return f"{before}{FIRST_STYLE}{after}"
+
+
 def bundle(main=MAIN):
     """All modules as one text, in which each is a constant with the exports of the module."""
-    modules = modules_from(main, {TABLES: tables_text()})
+    modules = modules_from(main, {TABLES: page_tables()})
     return HEADING + "".join(map(in_a_function, modules))
 
 

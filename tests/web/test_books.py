@@ -4,20 +4,23 @@ import random
 import re
 import sys
 import tempfile
-from dataclasses import fields, is_dataclass
+from dataclasses import fields, is_dataclass, replace
 from datetime import date
 from pathlib import Path
 
-from reference.book import (Portfolio, make_book, random_book, random_values,
+from reference.book import (PG2_MEN, Portfolio, make_book, random_book, random_values,
                             slots_in_chain_order)
 from reference.layout import CHAINS, changed, record
 from tests import ROOT
 from tests.api.funds_cases import CASES as FUNDS_CASES
+from tests.cli import test_plausibility as cases
 from tests.cli.run import SAMPLES, sample, without_warnings, xaropinto
 from tests.fixtures.accounts import random_accounts
 from tests.fixtures.age_basis_2 import on_basis_2
+from tests.fixtures.book_pairs import mortality
 from tests.fixtures.claims import random_claims
 from tests.fixtures.damage import any_book, damaged
+from tests.fixtures.insurers import LOWEST, flat_values, repeated_book
 from tests.fixtures.risk_models import BY_HAND as MODELS
 from tests.support.case import Case
 from tests.support.differential import Differential
@@ -49,6 +52,12 @@ SHEET_RULES = (
     "the separator is", "begins with its mark", "or Windows-1252 is due", "unexpected end of data",
     "expected after", "there are")
 RULES = [rule.name for rule in plausibility.RULES]
+# Parts of sequences of UTF-8 and UTF-16, whole and broken.
+PARTS = (*(bytes([first]) for first in (0x41, 0x7F, 0x80, 0x81, 0x8F, 0x90, 0x9F, 0xA0, 0xBF, 0xC1,
+                                        0xC2, 0xDF, 0xE0, 0xE1, 0xEC, 0xED, 0xEF, 0xF0, 0xF3, 0xF4,
+                                        0xF5, 0xFF)),
+         b"ab", b"\xc3\xa9", b"\xe2\x82\xac", b"\xf0\x9f\x98\x80", b"\x00\xd8", b"\x00\xdc",
+         b"\xd8\x3d", b"\xde\x00", b"\x3d\xd8\x00\xde", b"\xd8\x3d\xde\x00")
 node = None
 
 
@@ -272,6 +281,40 @@ class Accepted(Drawn, Differential):
         self.check_seen({name: 2 for name in (*RULES, "accepted")})
 
 
+class Thresholds(NodeCase):
+    """Warnings on both sides of their thresholds."""
+
+    def test_both_sides(self):
+        asked, seen = Asked(), set()
+        cells = [{"premium": premium, "claims": 4_000} for premium in (4_999, 5_000)]
+        cells += [{"premium": premium, "claims": 4_000_000} for premium in (5_000_000, 5_000_001)]
+        cells += [{"claims": claims} for claims in (39_999, 40_000, 1_000_000, 1_000_001)]
+        cells += [{"lapse": lapse} for lapse in (0, 1, 500_000, 500_001)]
+        held = [cases.with_cells(**amounts) for amounts in cells]
+        held += [replace(cases.plain_values(), cost_rates=[rate] * 5)
+                 for rate in (500_000, 500_001)]
+        held += [cases.with_mortality(sex, 100, mortality()[sex][90] + more)
+                 for sex in range(2) for more in range(2)]
+        held += [cases.with_mortality(0, age, mortality()[0][50]) for age in (39, 40)]
+        held += [cases.with_women_above(classes) for classes in (60, 61)]
+        held += [replace(cases.plain_values(), curve=[0] * 48 + [rate]) for rate in range(2)]
+        held += [cases.with_old_contracts(count) for count in (10, 11)]
+        held += [replace(cases.plain_values(), sst_year=year) for year in range(2024, 2029)]
+        for book in map(make_book, held):
+            notes = plausibility.notes_of(book, cases.TODAY)
+            seen.update(note.name for note in notes)
+            asked.ask(as_plain(notes), "plausibility.notesOf", book, cases.TODAY.isoformat())
+        self.covers("warnings", set(RULES) - {"unlinked-contracts", "one-sex"}, seen)
+        self.same("warnings at their thresholds", asked)
+
+    def test_today_is_the_clock(self):
+        book = make_book(replace(cases.plain_values(), sst_year=2100))
+        before = as_plain(plausibility.notes_of(book))
+        given = node.call("plausibility.notesOf", book)
+        self.assertIn(given, (before, as_plain(plausibility.notes_of(book))))
+        self.assertEqual([note["name"] for note in given], ["sst-year"])
+
+
 def read_saved(files):
     """The book of saved files, as the command writes it."""
     def table(kind):
@@ -303,6 +346,17 @@ class SavedSheets(Drawn, Differential):
 class OtherRefusals(NodeCase):
     """Refusals of every number and call, in words; those of calls that read no book."""
 
+    def test_lengths_and_kinds_of_files(self):
+        asked, longest = Asked(), sample("full").read_bytes()
+        for book in (longest + bytes(24), longest[:-24], longest + bytes(1),
+                     b"a" * 512, b"a" * 511 + b"\0", b"a" * 512 + b"\0", b"a" * 513,
+                     b"a" * 1_220, b"a" * 511 + b"\0" * 800, b"a" * 512 + b"\0" * 800):
+            asked.ask(outcome(answers.check, book), "answers.check", book)
+        for number in range(256):
+            book = bytes([number]) * 20
+            asked.ask(messages.kind_of(book), "messages.kindOf", book)
+        self.same("lengths and kinds of files", asked)
+
     def test_every_number_and_call(self):
         asked = Asked()
         for number in refusals.refusals():
@@ -313,6 +367,15 @@ class OtherRefusals(NodeCase):
                 asked.ask({"number": number, "rule": row.rule, "owner": row.owner},
                           "refusals.refusalOf", number, call)
         self.same("words of 32 refusals and 8 calls", asked)
+
+    def test_a_chain_starts_anew_at_a_record_once(self):
+        book = repeated_book(flat_values(0, 0, 0), PG2_MEN, 113, LOWEST)
+        # The third record leads past the fourth, the seventh back to the second.
+        book = changed(book, (record(3).next, 5), (record(7).next, 2))
+        found, asked = faults.all_faults(book), Asked()
+        self.assertEqual([each.place for each in found.found], [1_318, 1_246, 1_318])
+        asked.ask(as_plain(found), "faults.allFaults", book)
+        self.same("a chain that leads back", asked)
 
     def test_funds(self):
         asked, seen = Asked(), set()
@@ -552,6 +615,28 @@ class Commands(NodeCase):
             run = xaropinto("write", folder, "-o", Path(folder) / "book")
             given = node.outcomes([("sheets.readSheets", request("sheets.folderTables", files))])[0]
             self.assertEqual(re.sub(r".*/", "", run.errors), given.message + "\n")
+
+
+class Encodings(NodeCase):
+    """Texts of every encoding, and where the first bytes are that are none."""
+
+    def test_where_a_text_ends(self):
+        asked, chooser, seen = Asked(), random.Random(37), set()
+        for _ in range(4_000):
+            encoding = chooser.choice(("utf-8", "utf-8-sig", "utf-16", "cp1252"))
+            raw = b"".join(chooser.choice(PARTS) for _ in range(chooser.randint(0, 6)))
+            if encoding == "utf-16":
+                raw = chooser.choice((b"\xff\xfe", b"\xfe\xff")) + raw
+            elif encoding == "utf-8-sig":
+                raw = b"\xef\xbb\xbf" + raw
+            try:
+                due = {"text": raw.decode(encoding)}
+            except UnicodeDecodeError as wrong:
+                due = {"wrong": wrong.start}
+            seen.add((encoding, *due))
+            asked.ask(due, "encodings.decode", raw, encoding)
+        self.assertEqual(len(seen), 8)
+        self.same("bytes in four encodings", asked)
 
 
 class LongCells(NodeCase):

@@ -68,10 +68,28 @@ class Opened(PageCase):
         self.check("mark", self.text_of("#result mark") == "1,000,001")
         self.check("field", self.text_of("#result tr.fault").startswith("cost rate of PG1"))
 
+    def test_every_fault_is_shown_and_saved_as_the_command_prints_it(self):
+        book = bytearray(sample("small_insurer").read_bytes())
+        book[36:40] = (1_000_001).to_bytes(4, "little")
+        book[1_220 + 12:1_220 + 16] = (1_000_002).to_bytes(4, "little")
+        with tempfile.TemporaryDirectory() as folder:
+            path = Path(folder) / "two.book"
+            path.write_bytes(book)
+            self.browser.choose("#files", path)
+            self.wait_for("two.book: refused 6 36")
+            self.click("Every fault")
+            self.wait_for("two.book: 2 faults")
+            due = xaropinto("check", "--all", path).out.decode().replace(str(path), path.name)
+        self.check("shown", all(line.split(": ", 2)[2] in self.text_of()
+                                for line in due.splitlines()[1:]))
+        self.check("saved", self.saved("Text") == ("two.faults.txt", due.encode()))
+        self.click("Back to two.book")
+        self.wait_for("two.book: refused 6 36")
+
     def test_what_is_no_book_is_refused_in_words(self):
         with tempfile.TemporaryDirectory() as folder:
             for name, held, words in (("empty.book", b"", "it looks like an empty file"),
-                                      ("sheet.xlsx", b"PK\3\4" + bytes(2_000), "a spreadsheet")):
+                                      ("sheet.xlsx", b"PK\3\4" + bytes(2_000), "as CSV files")):
                 path = Path(folder) / name
                 path.write_bytes(held)
                 self.browser.choose("#files", path)

@@ -9,11 +9,12 @@ from decimal import Context, Decimal
 
 from tests import ROOT
 from tests.support.report import run_unit_tests
-from tests.web.page_case import NodeCase
+from tests.web.node_case import NodeCase
 
 sys.path.insert(0, str(ROOT / "python"))
 
 from xaropinto import age_alignment, charts, html_parts  # noqa: E402
+from xaropinto.compare_page import signal_words, times  # noqa: E402
 
 NUMBERS, CHARTS = 3_000, 100
 CODES = 0x110000
@@ -82,6 +83,20 @@ class Parts(NodeCase):
             self.same(f"{name} charts",
                       self.node.calls([(f"charts.{name}Chart", *each) for each in drawn]),
                       [python_chart(name, each) for each in drawn])
+
+    def test_decimals_at_their_halves(self):
+        quarters = [number / 4 for number in range(200)]
+        rows = [(1, ("name", "value"), left, (left, 3 * left + 0.5), 0) for left in quarters]
+        self.same("rows of a chart",
+                  map("".join, self.node.calls([("charts.stepRow", *each) for each in rows])),
+                  ["".join(charts.step_row(*each)) for each in rows])
+        leads = [{"shift": 1, "errors": each} for each in quarters]
+        self.same("leads of a signal",
+                  self.node.calls([("compare_page.signalWords", each) for each in leads]),
+                  [signal_words(age_alignment.Signal(**each)) for each in leads])
+        ratios = [number / 16 for number in range(200)]
+        self.same("ratios", self.node.calls([("compare_page.times", each) for each in ratios]),
+                  [times(each) for each in ratios])
 
 
 def drawn_chart(chooser, name):

@@ -14,6 +14,7 @@ VIEWS = {
     "start": lambda case: None,
     "accepted": lambda case: case.open_book("full"),
     "refused": lambda case: case.open_book("lapse_too_large"),
+    "faults": lambda case: (case.open_book("lapse_too_large"), case.click("Every fault")),
     "age-shift": lambda case: (case.open_book("full"), case.click("Age shift")),
     "comparison": lambda case: (case.browser.choose("#files", sample("last_year"),
                                                     sample("this_year_slipped")),

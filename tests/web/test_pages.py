@@ -11,7 +11,7 @@ from tests import ROOT
 from tests.cli.run import sample
 from tests.support.report import run_unit_tests
 from tests.web.node import MODULE, VARIABLE, node_path
-from tests.web.page_case import NodeCase
+from tests.web.node_case import NodeCase
 from tests.web.page_inputs import Pair, Titled, drawn_books, drawn_pairs
 from tools.sample_books import PAGES
 from tools.sample_pages import DAY, FOLDER, WORDS
@@ -24,6 +24,7 @@ from xaropinto.cli.compare import comparison_lines  # noqa: E402
 from xaropinto.compare import YearsError, compare  # noqa: E402
 from xaropinto.compare_page import Book, compare_page  # noqa: E402
 from xaropinto.json_data import json_fields  # noqa: E402
+from xaropinto.layout import YEARS  # noqa: E402
 from xaropinto.page import Imprint, page_of  # noqa: E402
 
 REFUSED_STEPS = ROOT / "tests" / "web" / "refused_steps.mjs"
@@ -147,7 +148,7 @@ class RandomComparisons(PageCase):
 
     def test_years_that_do_not_fit(self):
         this, last = (sample(name).read_bytes() for name in ("this_year", "last_year"))
-        later = this[:2] + (2100).to_bytes(2, "little") + this[4:]
+        later = this[:2] + (answers.read(last).year + YEARS).to_bytes(2, "little") + this[4:]
         for name, pair in (("order", (this, last)), ("too far apart", (last, later))):
             with self.assertRaises(YearsError) as due:
                 compare(*pair, date.fromisoformat(DAY))

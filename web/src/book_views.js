@@ -1,4 +1,5 @@
-// What is shown of a book: the command's page and what can be saved, a refusal, two books compared.
+// What is shown of accepted books: the command's page and what can be saved, the age shift, two
+// books compared.
 import { CLI_FIGURES, CLI_PAGES, COMPARE_PAGE } from "../../target/web/tables.js";
 import { button, group, settingButton } from "./actions.js";
 import { ageShift } from "./age_shift.js";
@@ -8,47 +9,22 @@ import { comparisonLines } from "./cli_compare.js";
 import { ageShiftText } from "./cli_portfolio.js";
 import { compare } from "./compare.js";
 import { comparePage } from "./compare_page.js";
-import {
-  bringMarkIntoView, focusResult, report, setView, showActions, showPage,
-} from "./frame.js";
-import { CONVERT } from "./messages.js";
+import { focusResult, report, setView, showActions, showPage } from "./frame.js";
 import { counted } from "./number_format.js";
 import { pageOf } from "./page.js";
 import { notesOf } from "./plausibility.js";
 import { BOOK } from "./refusals.js";
-import { badLinePage, refusalPage } from "./refusal_view.js";
-import { saveFile, stemOf } from "./saving.js";
+import { showRefused } from "./refused_views.js";
+import { stemOf } from "./saving.js";
 import { csvFiles } from "./sheets.js";
+import { backTo, save } from "./view_parts.js";
 import { zipOf } from "./zip_file.js";
 
-/**
- * A book by its name, and what was done to make it where it was made here.
- * @typedef {{name: string, held: Uint8Array, made?: string}} Book
- */
-/**
- * What the views need of the page: what is said at the top of a page, another book to be chosen,
- * and that it remembers how to draw the view anew.
- * @typedef {object} Surroundings
- * @property {() => import("./page.js").Imprint} imprint
- * @property {() => void} chooseOther
- * @property {(draw: () => void) => void} remember
- */
+/** @typedef {import("./view_parts.js").Book} Book */
+/** @typedef {import("./view_parts.js").Surroundings} Surroundings */
 
 const AGE_SHIFT_FILE = ".age-shift.txt", TABLES_FILE = ".zip";
 const COMPARE_FILE = ".compare.html", COMPARE_TEXT_FILE = ".compare.txt";
-const CONVERTED = ".basis-1.book";
-// The byte of a book that has its age basis, and the one that can be converted.
-const AGE_BASIS_AT = 1, NEWER_BASIS = 2;
-
-/**
- * Save what a view offers.
- * @param {string} name
- * @param {string | Uint8Array} held
- */
-function save(name, held) {
-  saveFile(name, held);
-  report(`${name}: passed to the browser, which puts it where it puts downloads`);
-}
 
 /**
  * Show a book by its verdict.
@@ -105,55 +81,6 @@ function savings(book, page) {
 }
 
 /**
- * A refusal, with the way out where there is one.
- * @param {Book} book
- * @param {answers.RefusedError} refused
- * @param {string} call
- * @param {Surroundings} around
- */
-function showRefused(book, refused, call, around) {
-  showPage(refusalPage(book, refused, call));
-  bringMarkIntoView();
-  setView("refused", book.name);
-  const newer = call === BOOK && book.held[AGE_BASIS_AT] === NEWER_BASIS
-    && refused.place === AGE_BASIS_AT;
-  showActions(newer ? [button("Convert to age basis 1", () => convert(book, around),
-    true)] : []);
-  const { number, place, owner } = refused;
-  report(`${book.name}: refused ${number} ${place}; owner: ${owner}`, "bad");
-}
-
-/**
- * A fault in the tables of a book.
- * @param {string} name
- * @param {import("./tables.js").BadLineError} bad
- * @param {Surroundings} around
- */
-export function showBadLine(name, bad, around) {
-  around.remember(() => showBadLine(name, bad, around));
-  showPage(badLinePage(name, bad));
-  setView("refused", name);
-  showActions([]);
-  report(`${name}: refused: ${bad.place}`, "bad");
-}
-
-/**
- * Show a book of age basis 2 as one of basis 1.
- * @param {Book} book
- * @param {Surroundings} around
- */
-function convert(book, around) {
-  try {
-    const name = stemOf(book.name) + CONVERTED, held = answers.convert(book.held);
-    showBook({ name, held, made: "Converted, not saved yet: " }, around);
-  } catch (error) {
-    if (!(error instanceof answers.RefusedError)) throw error;
-    showRefused(book, error, CONVERT, around);
-  }
-  focusResult();
-}
-
-/**
  * The totals one age class lower and higher.
  * @param {Book} book
  * @param {Surroundings} around
@@ -189,16 +116,4 @@ export function showComparison(last, current, around) {
   report([comparison.verdict(), ...comparison.exceptions()].join("; "),
     COMPARE_PAGE.COLOURS[comparison.alignment.overall.verdict] ?? "bad");
   focusResult();
-}
-
-/**
- * The button that leads back to a book.
- * @param {Book} book
- * @param {Surroundings} around
- */
-function backTo(book, around) {
-  return button(`Back to ${book.name}`, () => {
-    showBook(book, around);
-    focusResult();
-  });
 }

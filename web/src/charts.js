@@ -9,7 +9,8 @@ import { swiss } from "./number_format.js";
 import { fixed } from "./python_text.js";
 
 const { WIDTH, HEIGHT, TOP, BOTTOM, RIGHT, PLOT_HEIGHT, LETTER, GAP, SAMPLE, SQUARE } = CHARTS;
-const { STEPS, MOST_STEPS, MARK_EVERY, ROW, UNITS, MOST_ON_AN_AXIS } = CHARTS;
+const { STEPS, MOST_STEPS, MARK_EVERY, ROW, MOST_ON_AN_AXIS } = CHARTS;
+const UNITS = /** @type {[number, string][]} */ (CHARTS.UNITS);
 
 /**
  * What one line or one kind of bar shows.
@@ -69,9 +70,8 @@ export function unitOf(highest, most = MOST_ON_AN_AXIS) {
 export function axisStep(highest) {
   for (let power = 1; ; power *= 10) {
     for (const each of STEPS) {
-      // The remainder is exact where a quotient may be rounded to a whole number.
-      const rest = highest % (each * power);
-      const steps = (highest - rest) / (each * power) + (rest > 0 ? 1 : 0);
+      // A quotient above a whole number is never rounded down to it.
+      const steps = Math.ceil(highest / (each * power));
       if (steps <= MOST_STEPS) return [each * power, Math.max(steps, 1)];
     }
   }

@@ -68,11 +68,13 @@ export function changeLines(comparison) {
   lines.push("group,what,last,this,ratio");
   for (const each of changes.groups) {
     const { group, contracts, premium, claims, lapse } = each.last;
-    lines.push(`${group},contracts,${contracts},${each.this.contracts},`,
-      ...[["premium_centimes", premium, each.this.premium, each.premiumRatio],
-        ["claims_centimes", claims, each.this.claims, each.claimsRatio],
-        ["lapse_millionths", lapse, each.this.lapse, each.lapseRatio],
-      ].map(([what, ...numbers]) => [group, what, ...numbers.map(rounded)].join(",")));
+    lines.push(`${group},contracts,${contracts},${each.this.contracts},`);
+    for (const { what, numbers } of [
+      { what: "premium_centimes", numbers: [premium, each.this.premium, each.premiumRatio] },
+      { what: "claims_centimes", numbers: [claims, each.this.claims, each.claimsRatio] },
+      { what: "lapse_millionths", numbers: [lapse, each.this.lapse, each.lapseRatio] }]) {
+      lines.push([group, what, ...numbers.map(rounded)].join(","));
+    }
   }
   for (const { what, numbers } of [{ what: "cost_rate_millionths", numbers: changes.costRates },
     { what: "mortality_percentage", numbers: changes.percentages },

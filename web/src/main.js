@@ -1,15 +1,16 @@
 // The web page: a book is dropped, chosen or made, and everything about it is computed here.
 import { attempt, trouble } from "./actions.js";
 import * as answers from "./answers.js";
-import { showBadLine, showBook, showComparison } from "./book_views.js";
+import { showBook, showComparison } from "./book_views.js";
 import { openCalls } from "./calls.js";
 import { part, report } from "./frame.js";
 import { GivenError, bytesOf, chosenFiles, droppedFiles, tableFiles } from "./given_files.js";
 import { quoted } from "./python_text.js";
+import { showBadLine } from "./refused_views.js";
 import { folderTables, readSheets } from "./sheets.js";
 import { BadLineError } from "./tables.js";
 
-/** @typedef {import("./book_views.js").Book} Book */
+/** @typedef {import("./view_parts.js").Book} Book */
 /** @typedef {import("./given_files.js").Given} Given */
 
 const MOST_START = 2n ** 64n;
@@ -22,9 +23,10 @@ const NO_FOLDER = "written";
  */
 const state = { book: null, draw: () => {} };
 
-/** @type {import("./book_views.js").Surroundings} */
+/** @type {import("./view_parts.js").Surroundings} */
 const around = {
   imprint: () => ({ today: today(), insurer: input("insurer").value.trim() }),
+  open: openBook,
   chooseOther: () => input("other").click(),
   remember: (draw) => { state.draw = draw; },
 };

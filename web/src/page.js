@@ -148,8 +148,10 @@ export function yearChart(name, group) {
   const highest = [...premium, ...outgo].reduce((most, each) => (each > most ? each : most));
   if (!highest) return captioned(name, element("p", "No premium and no outgo in any year."));
   const [divisor, unit] = unitOf(highest);
-  const series = [["premium after cap", premium], ["outgo", outgo]].map(([words, amounts]) =>
-    ({ name: words, values: amounts.map((amount) => quotient(amount, divisor)) }));
+  const [premiums, outgoes] = [premium, outgo].map((amounts) =>
+    amounts.map((amount) => quotient(amount, divisor)));
+  const series = [{ name: "premium after cap", values: premiums },
+    { name: "outgo", values: outgoes }];
   return captioned(`${name}: liability ${millionFrancs(group.liability)} million francs`,
     lineChart(`${name}: premium after the cap and outgo by year`, unit, "year", series));
 }

@@ -1,5 +1,6 @@
 // A refused book: the verdict, where and why, and what stands around the place.
 import { MESSAGES } from "../../target/web/tables.js";
+import { faultsLine } from "./cli_check.js";
 import { document as page, element, facts, note, section, text } from "./html_parts.js";
 import {
   Field, HEADER_BYTES, RECORD_BYTES, SEXES, SUBGROUPS, headerFields, heads, percentages, recordAt,
@@ -20,9 +21,12 @@ const { SHORT, BAD_LENGTH, SST_YEAR } = MESSAGES;
  * @type {[string, number, number][]}
  */
 const START_FIELDS = [["code", 0, 1], ["sex", 1, 1], ["class", 2, 1], ["next", 4, 2]];
-const CAPTION = "As the bytes stand, not checked";
-const REMARK = "Nothing is computed for a refused book. Only its first fault is reported: there "
-  + "may be more behind it.";
+const REMARK = "Nothing is computed for a refused book. This is its first fault: there may be more "
+  + "behind it.";
+const NO_WORKBOOKS = "This page reads no workbooks: save the five sheets of one as CSV files, "
+  + "and open these.";
+// How a workbook begins.
+const WORKBOOK = "PK";
 
 /**
  * The page of a refused book.
@@ -36,6 +40,7 @@ export function refusalPage(book, refused, call) {
   const found = words.slice(0, words.lastIndexOf(`rule: ${rule}`)).replace(/; $/, "");
   // The place of these is the length of the file.
   const isLength = number === SHORT || number === BAD_LENGTH;
+  const isWorkbook = String.fromCharCode(...book.held.subarray(0, 2)) === WORKBOOK;
   /** @type {[string, string][]} */
   const rows = [["Refusal", String(number)],
     ...(isLength ? [] : [/** @type {[string, string]} */ (["Place", `byte ${grouped(place)}`])]),
@@ -44,7 +49,20 @@ export function refusalPage(book, refused, call) {
   return page(book.name, [element("h1", book.name),
     element("p", `refused ${number} ${place}`, { class: "verdict bad" }),
     element("p", found || rule), facts("The first rule that is broken", rows),
-    isLength ? "" : neighbourhood(book.held, place), note(REMARK)]);
+    isLength ? "" : neighbourhood(book.held, place), note(isWorkbook ? NO_WORKBOOKS : REMARK)]);
+}
+
+/**
+ * The page of every fault of a refused book.
+ * @param {string} name
+ * @param {import("./faults.js").Faults} faults
+ */
+export function faultsPage(name, faults) {
+  const title = `${name}: every fault`, [{ number: first, place: start }] = faults.found;
+  return page(title, [element("h1", title),
+    element("p", `refused ${first} ${start}`, { class: "verdict bad" }),
+    facts(faultsLine(faults), faults.found.map(({ number, place, words }) =>
+      [`${number}, byte ${grouped(place)}`, words]))]);
 }
 
 /**
@@ -171,7 +189,7 @@ function tableRow(name, cells, marked, fault = marked >= 0) {
 function around(title, headings, rows) {
   const top = headings.map((each, at) =>
     element("th", each, { scope: "col", class: at ? "number" : "" })).join("");
-  return section(title, `<div class="scroll" tabindex="0" role="region" aria-label="${title}">`,
-    "<table>", element("caption", CAPTION), `<thead><tr>${top}</tr></thead>`, "<tbody>", ...rows,
-    "</tbody></table></div>");
+  return section(title, note("As the bytes stand, not checked. Marked is the field at fault."),
+    `<div class="scroll" tabindex="0" role="region" aria-label="${title}">`, "<table>",
+    `<thead><tr>${top}</tr></thead>`, "<tbody>", ...rows, "</tbody></table></div>");
 }
