@@ -41,11 +41,11 @@ def need(*words):
 def arm64_system():
     """The folder with Debian's Python for arm64; its packages are fetched and unpacked, none is
     installed on this machine."""
-    if not (ARM64 / "usr" / "bin" / "python3.11").exists():
-        shutil.rmtree(ARM64, ignore_errors=True)
-        with tempfile.TemporaryDirectory() as name:
+    if not ARM64.exists():
+        ARM64.parent.mkdir(parents=True, exist_ok=True)
+        with tempfile.TemporaryDirectory(dir=ARM64.parent) as name:
             folder = Path(name)
-            for each in ("state/lists/partial", "cache/archives/partial"):
+            for each in ("state/lists/partial", "cache/archives/partial", "system"):
                 (folder / each).mkdir(parents=True)
             (folder / "status").touch()
             settings = (f"Dir::State={folder}/state", f"Dir::State::status={folder}/status",
@@ -55,7 +55,8 @@ def arm64_system():
             need(*apt, "update")
             need(*apt, "install", "--download-only", "-y", "--no-install-recommends", *PACKAGES)
             for path in sorted((folder / "cache" / "archives").glob("*.deb")):
-                need("dpkg-deb", "--extract", path, ARM64)
+                need("dpkg-deb", "--extract", path, folder / "system")
+            os.replace(folder / "system", ARM64)
     return ARM64
 
 
