@@ -2,7 +2,7 @@
 # library and what calls it, g++, cargo and valgrind for the callers' tests, openpyxl
 # (Debian's python3-openpyxl) for those of workbooks.
 .DEFAULT_GOAL := help
-.PHONY: help test quick check list report convert practice fuzz streams samples lib install dist callers bench clean test-platforms FORCE
+.PHONY: help test quick check list report convert practice fuzz streams samples lib install dist web callers bench clean test-platforms FORCE
 
 SAMPLE := samples/one_record.book
 SETTING ?= 0
@@ -12,10 +12,8 @@ SEED ?= 1
 PREFIX ?= /usr/local
 # Of the program that times: in each the functions stand in another order.
 LINKS ?= 1 2 3 4 5
-VERSION := $(shell cat VERSION)
 # The name by which programs ask for the shared library: it changes where an old caller would break.
 SHARED := libxaropinto.so.2
-DIST := xaropinto-$(VERSION)-linux-x86_64
 # Paths reach the shell through the environment and as they were given: quotes and dollar signs stay what they are.
 export BOOK_PATH := $(if $(value BOOK),$(value BOOK),$(SAMPLE))
 export OUT_PATH := $(if $(value OUT),$(value OUT),target/converted.book)
@@ -75,10 +73,14 @@ lib: ## prove the C boundary and put its archive and shared library under target
 	@mv -f target/lib.new/* target/lib/
 
 install: lib target/bin/listing_main target/bin/year_report_main target/bin/age_basis_main ## install under PREFIX, by default /usr/local, below DESTDIR
-	@sh packaging/install.sh "$(DESTDIR)$(PREFIX)" $(SHARED) $(VERSION)
+	@python3 -m tools.dist install "$(DESTDIR)$(PREFIX)"
 
-dist: lib target/bin/listing_main target/bin/year_report_main target/bin/age_basis_main ## an archive for machines without the toolchain, under target/dist
-	@sh packaging/dist.sh target/dist $(DIST) $(SHARED) $(VERSION)
+# With the page the proved code is built for all targets.
+dist: web lib target/bin/listing_main target/bin/year_report_main target/bin/age_basis_main ## archives and wheels for machines without the toolchain, under target/dist
+	@python3 -m tools.dist build target/dist
+
+web: lib ## the web page, one file with the proved code inside: target/web/xaropinto.html
+	@python3 -m tools.web_page
 
 callers: ## run the tests of the callers in C, Rust and Python
 	@python3 -m tests.gate callers

@@ -1,7 +1,8 @@
-/* Xaropinto: the SST long-term health liability valuation, for C and C++ on x86-64 (System V).
- * Link with libxaropinto.a or libxaropinto.so. Each function is documented at its declaration;
- * docs/API.md has memory, threads and stack in full, docs/FILE_FORMAT.md the format of a book,
- * docs/METHOD.md the figures.
+/* Xaropinto: the SST long-term health liability valuation, for C (from C99) and C++ (from C++11).
+ * Linux on x86-64 and arm64: link with libxaropinto.a or libxaropinto.so. Windows on x86-64: link
+ * with xaropinto.lib, the import library of xaropinto.dll. Each function is documented at its
+ * declaration; docs/API.md has memory, threads and stack in full, docs/FILE_FORMAT.md the format of
+ * a book, docs/METHOD.md the figures.
  *
  * No call has a precondition beyond these rules for memory:
  * - A pointer is valid for the length passed with it, and may be null if that is 0. Tables, lists
@@ -86,6 +87,21 @@
  * and the third. */
 #define XAROPINTO_VERSION "2.1.0"
 #define XAROPINTO_VERSION_NUMBER 20100
+
+/* Calls are made by the target's C calling convention: System V on x86-64, AAPCS64 on arm64, on
+ * Windows the one of Microsoft's x64 (not __vectorcall: where /Gv makes that the default, this
+ * header's functions are not found when the program is linked).
+ *
+ * On Windows they are imported from xaropinto.dll. A program that is linked with the calls
+ * themselves defines XAROPINTO_STATIC before this header. */
+#if defined(_WIN32) && !defined(_WIN64)
+#error "xaropinto needs a 64-bit target"
+#endif
+#if defined(_WIN32) && !defined(XAROPINTO_STATIC)
+#define XAROPINTO_API __declspec(dllimport) /* MSVC, clang-cl and MinGW know it */
+#else
+#define XAROPINTO_API
+#endif
 
 #ifdef __cplusplus
 extern "C" {
@@ -224,9 +240,11 @@ typedef struct {
 
 /* The version of the library that runs, as one number: XAROPINTO_VERSION_NUMBER where it is that of
  * this header. */
+XAROPINTO_API
 uint64_t xaropinto_version(void);
 
 /* Check: whether the bytes are a valid book. Refusals: the book's. */
+XAROPINTO_API
 xaropinto_verdict xaropinto_check(const uint8_t *book, size_t length);
 
 /* Group: the liability of one product group, 1 to 5, in one setting, 0 to 7. Refusals 14, 15, 16
@@ -236,27 +254,32 @@ xaropinto_verdict xaropinto_check(const uint8_t *book, size_t length);
  * after the cap, outgo, discounted premium, discounted outgo. Later numbers are unchanged.
  *
  * The distance of the liability from its exact, unrounded value is bounded: docs/ERROR_BOUND.md. */
+XAROPINTO_API
 xaropinto_group_reply xaropinto_group(const uint8_t *book, size_t length, size_t setting,
                                       size_t group, uint64_t *table, size_t numbers);
 
 /* Totals: the liabilities of the five product groups added, in each of the eight settings.
  * Refusals: the book's. The distance of each total from its exact value is bounded:
  * docs/ERROR_BOUND.md. */
+XAROPINTO_API
 xaropinto_totals_reply xaropinto_totals(const uint8_t *book, size_t length);
 
 /* Listing: the text to file, a line for each setting with its number, its total and n. Refusals:
  * the book's, then 20 if `bytes`, the length of `out`, is less than the text's.
  *
  * XAROPINTO_MOST_LISTING_BYTES are always enough. Bytes after the text are unchanged. */
+XAROPINTO_API
 xaropinto_report_reply xaropinto_listing(const uint8_t *book, size_t length, uint8_t *out,
                                          size_t bytes);
 
 /* Record: the position of record `number`, counted from 1, linked or not. Refusals: the book's;
  * then 9 with place 0 if the number is 0 or above the number of records. */
+XAROPINTO_API
 xaropinto_record_reply xaropinto_record(const uint8_t *book, size_t length, size_t number);
 
 /* Cost rates: those of the five product groups, from three years of accounts. Refusals 17 (tested
  * on all figures first), 18, 19, with place 0. */
+XAROPINTO_API
 xaropinto_cost_rates_reply xaropinto_cost_rates(xaropinto_accounts accounts);
 
 /* Report: the fifty years of all product groups in one setting, as text. Refusals 14, the book's,
@@ -265,11 +288,13 @@ xaropinto_cost_rates_reply xaropinto_cost_rates(xaropinto_accounts accounts);
  * The text is the line "group,year,premium,outgo" and 250 lines of these four numbers with commas
  * between: groups 1 to 5, in each the years 0 to 49, the premium after the cap. Byte 10 ends every
  * line. Bytes after the text are unchanged. */
+XAROPINTO_API
 xaropinto_report_reply xaropinto_report(const uint8_t *book, size_t length, size_t setting,
                                         uint8_t *out, size_t bytes);
 
 /* Report length: that of the report of this book and setting, to the byte, at most
  * XAROPINTO_MOST_REPORT_BYTES. Nothing is written. Refusals 14, then the book's. */
+XAROPINTO_API
 xaropinto_report_reply xaropinto_report_room(const uint8_t *book, size_t length, size_t setting);
 
 /* Convert: a book on age basis 2 converted to basis 1. Refusals 16 if `room`, the length of `out`,
@@ -279,6 +304,7 @@ xaropinto_report_reply xaropinto_report_room(const uint8_t *book, size_t length,
  * The first `length` bytes of `out` become the converted book: byte 1 is 1, the class of every
  * linked record is one less, all else is copied. Later bytes are unchanged. Check accepts the
  * result with the same n. */
+XAROPINTO_API
 xaropinto_verdict xaropinto_convert(const uint8_t *book, size_t length, uint8_t *out, size_t room);
 
 /* Write: the book of these values and lists, into the first bytes of `out`, which has `room` bytes.
@@ -288,6 +314,7 @@ xaropinto_verdict xaropinto_convert(const uint8_t *book, size_t length, uint8_t 
  * Each list holds the chains one after the other, in the order of the heads, by rising class: 121
  * less its first class numbers for a chain. 22 if a list is shorter or longer, or if `out` is
  * shorter than the book: 1,220 bytes and 24 for each record. Lists may be the same memory. */
+XAROPINTO_API
 xaropinto_write_reply xaropinto_write(xaropinto_values values, const uint64_t *counts,
                                       size_t counts_length, const uint64_t *lapses,
                                       size_t lapses_length, const uint64_t *premiums,
@@ -298,6 +325,7 @@ xaropinto_write_reply xaropinto_write(xaropinto_values values, const uint64_t *c
  * Refusals: the book's; then 22 if a list has fewer numbers than the book has linked records.
  * XAROPINTO_MOST_RECORDS are always enough. Write makes the same bytes from what Read returns of a
  * book in order. Later numbers of a list are unchanged. */
+XAROPINTO_API
 xaropinto_read_reply xaropinto_read(const uint8_t *book, size_t length, uint64_t *counts,
                                     size_t counts_length, uint64_t *lapses, size_t lapses_length,
                                     uint64_t *premiums, size_t premiums_length, uint64_t *claims,
@@ -313,6 +341,7 @@ xaropinto_read_reply xaropinto_read(const uint8_t *book, size_t length, uint64_t
  * book by setting if it is accepted, 8 to 15 those of the second. All others are unchanged, a
  * refused fund's among them. Neither file affects the other fund. The error bound is that of Totals
  * with the fund's n. The files may be the same memory. */
+XAROPINTO_API
 xaropinto_funds_reply xaropinto_funds(const uint8_t *table, size_t table_length,
                                       const uint8_t *first, size_t first_length,
                                       const uint8_t *second, size_t second_length, int64_t *numbers,
@@ -324,6 +353,7 @@ xaropinto_funds_reply xaropinto_funds(const uint8_t *table, size_t table_length,
  * The cell is the linked record of a subgroup code (1 to 7), a sex (0 men, 1 women) and a class;
  * `numbers` is the length of `out`. The first 50 numbers become what is in force at k = 0 to 49 in
  * the setting, in billionths of a contract. Later numbers are unchanged. */
+XAROPINTO_API
 xaropinto_in_force_reply xaropinto_in_force(const uint8_t *book, size_t length, size_t setting,
                                             size_t code, size_t sex, size_t age_class,
                                             uint64_t *out, size_t numbers);
@@ -337,6 +367,7 @@ xaropinto_in_force_reply xaropinto_in_force(const uint8_t *book, size_t length, 
  *
  * The thread has the floating-point state of a process's start: rounding to nearest, ties to even,
  * no traps. */
+XAROPINTO_API
 xaropinto_spread_reply xaropinto_spread(xaropinto_summary claims, double xi, double eta);
 
 /* Deviation: one standard deviation of the four risk factors of a book, from the differences of
@@ -346,6 +377,7 @@ xaropinto_spread_reply xaropinto_spread(xaropinto_summary claims, double xi, dou
  * span (400, 600, 400, 50); both divisions round towards zero. The factors' quadratic form with the
  * correlation is divided by 1,000, rounded down; the deviation is the largest whole number whose
  * square is at most that. */
+XAROPINTO_API
 xaropinto_deviation_reply xaropinto_deviation(const uint8_t *book, size_t length,
                                               xaropinto_risk_model model);
 
@@ -356,6 +388,7 @@ xaropinto_deviation_reply xaropinto_deviation(const uint8_t *book, size_t length
  * The book has SST year 2021, edition 1 and 14 full chains in order: XAROPINTO_LONGEST_BOOK bytes.
  * Later bytes are unchanged. All rates and records are drawn: docs/METHOD.md. Check accepts every
  * such book, and equal start numbers give equal bytes. */
+XAROPINTO_API
 xaropinto_write_reply xaropinto_practice(uint64_t start, uint8_t *out, size_t room);
 
 /* The broken rule of a refusal, its place and its owner; "accepted" for 0, "" for any other

@@ -1,15 +1,32 @@
 """Makes the wheel one of a platform: it holds the shared library, and runs on any Python 3."""
 
+import sys
 from pathlib import Path
 
 from setuptools import setup
+from setuptools.command.build_py import build_py
 
 try:
     from setuptools.command.bdist_wheel import bdist_wheel
 except ImportError:  # setuptools before 70.1
     from wheel.bdist_wheel import bdist_wheel
 
-LIBRARY = Path(__file__).resolve().parent / "xaropinto" / "libxaropinto.so"
+HERE = Path(__file__).resolve().parent
+PACKAGE = HERE / "xaropinto"
+LIBRARY = PACKAGE / ("xaropinto.dll" if sys.platform == "win32" else "libxaropinto.so")
+IDENTITY = HERE.parent / "tools" / "dist" / "identity.py"
+
+
+class PackageBuild(build_py):
+    """In the repository the package also gets what `xaropinto --version` prints."""
+
+    def run(self):
+        super().run()
+        if IDENTITY.is_file():
+            sys.path.insert(0, str(HERE.parent))
+            from tools.dist.identity import build_json
+
+            (Path(self.build_lib) / "xaropinto" / "build.json").write_bytes(build_json())
 
 
 class PlatformWheel(bdist_wheel):
@@ -25,4 +42,4 @@ class PlatformWheel(bdist_wheel):
         return "py3", "none", super().get_tag()[2]
 
 
-setup(cmdclass={"bdist_wheel": PlatformWheel})
+setup(cmdclass={"bdist_wheel": PlatformWheel, "build_py": PackageBuild})

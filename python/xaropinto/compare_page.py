@@ -26,6 +26,12 @@ LAST, THIS = "last year's book", "this year's book"
 PROVED = ("Every total and difference comes from proved calls, also those of the steps between the "
           "two books. Whether the classes follow is decided by a statistical rule that is tested "
           "and not proved; it compares, so a fault that both books have is not seen.")
+STRUCTURE_NOTE = ("Last year's contracts are those that the assumptions of last year's book leave "
+                  "in force. Where the classes follow, the ups and downs of both lines are at the "
+                  "same classes in the first chart; where they slipped, in the second.")
+SIGNALS_NOTE = ("Counts: do the ups and downs of the contracts grow older with them? Curves: do "
+                "those of premium, claims and lapse stay at their class? A verdict takes a lead of "
+                "three standard errors.")
 
 
 class Book(NamedTuple):
@@ -89,11 +95,7 @@ def structure_section(last: bytes, this: bytes, comparison: Comparison) -> str:
              for title, name, shown in (
                  ("As the books have them", "this year's", counts),
                  (f"This year's moved one class {way}", f"this year's, one {way}", moved))]
-    return section("Contracts by age class", charts(parts),
-                   note("Last year's contracts are those that the assumptions of last year's book "
-                        "leave in force. Where the classes follow, the ups and downs of both lines "
-                        "are at the same classes in the first chart; where they slipped, in the "
-                        "second."))
+    return section("Contracts by age class", charts(parts), note(STRUCTURE_NOTE))
 
 
 def class_lines(title: str, series: Sequence[Series]) -> str:
@@ -144,9 +146,7 @@ def chains_section(last: bytes, this: bytes, comparison: Comparison) -> str:
                    table("The likeliest shift of each signal, and its lead in standard errors",
                          ("chain", "last year", "this year", "counts", "curves", "verdict"), rows,
                          "stack"),
-                   note("Counts: do the ups and downs of the contracts grow older with them? "
-                        "Curves: do those of premium, claims and lapse stay at their class? A "
-                        "verdict takes a lead of three standard errors."))
+                   note(SIGNALS_NOTE))
 
 
 def signal_cells(found: Optional[ChainFinding]) -> tuple[str, str, str]:

@@ -22,6 +22,9 @@ AMOUNTS = ("centimes", "million francs")
 PROVED = ("Verdict, n, totals, differences, liabilities and years come from proved calls. The "
           "counts, means, warnings, charts and the formula of the distance are the program's own: "
           "tested, not proved.")
+WARNING_NOTE = "A warning is no refusal: the figures are those of the book as it is."
+TOTALS_NOTE = ("A total below zero is a credit. The exact value follows the same steps in "
+               "unrounded fractions; that no total is further from it is proved.")
 
 
 @dataclass(frozen=True)
@@ -67,7 +70,7 @@ def warnings_section(notes: Sequence[Note]) -> str:
     if not notes:
         return section("Warnings", element("p", "None."))
     return section("Warnings", items([f"{each.text} ({each.name})" for each in notes]),
-                   note("A warning is no refusal: the figures are those of the book as it is."))
+                   note(WARNING_NOTE))
 
 
 def totals_section(totals: answers.Totals, values: BookValues) -> str:
@@ -78,8 +81,7 @@ def totals_section(totals: answers.Totals, values: BookValues) -> str:
     return section(
         "Totals", table(f"Total by setting, each within ± {distance} centimes of its exact value",
                         ("setting", *AMOUNTS), rows),
-        note("A total below zero is a credit. The exact value follows the same steps in unrounded "
-             "fractions; that no total is further from it is proved."))
+        note(TOTALS_NOTE))
 
 
 def differences_section(totals: answers.Totals) -> str:

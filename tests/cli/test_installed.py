@@ -12,8 +12,10 @@ from pathlib import Path
 
 from tests import ROOT
 from tests.cli.run import sample, without_warnings, xaropinto
+from tests.cli.test_package import unpacked
 from tests.support.debian import install
 from tests.support.report import run_unit_tests
+from tools.dist import identity
 
 MOST_SECONDS = 600
 WHEELS = Path("/usr/share/python-wheels")
@@ -45,8 +47,14 @@ def wheel_path():
     return str(found[-1])
 
 
+def version_lines():
+    """What `--version` prints where it is installed from this tree."""
+    return (f"xaropinto {VERSION}\ncommit {identity.commit()}\n"
+            f"checker {identity.checker()}\n")
+
+
 class Installed(unittest.TestCase):
-    """`make install`, `make dist` and pip."""
+    """`make install`, the archive and pip."""
 
     def setUp(self):
         held = tempfile.TemporaryDirectory()
@@ -73,23 +81,28 @@ class Installed(unittest.TestCase):
             ended = run(self.folder / "example", sample(book),
                         env={"LD_LIBRARY_PATH": str(root / "lib")})
             self.assertEqual((ended.returncode, ended.stdout), (code, b"" if code else LISTING))
+        # Nothing of the repository on the path: neither git nor the checker is asked.
+        ended = run(sys.executable, root / "bin" / "xaropinto", "--version", folder=self.folder,
+                    env={"PATH": "/nowhere"})
+        self.assertEqual((ended.returncode, ended.stdout.decode()), (0, version_lines()))
 
     def test_install(self):
-        ended = run("make", "install", f"DESTDIR={self.folder}", "PREFIX=/usr/it")
+        # The library is built, and not built again: another part may use it meanwhile.
+        ended = run("make", "-o", "lib", "install", f"DESTDIR={self.folder}", "PREFIX=/usr/it")
         self.assertEqual(ended.returncode, 0, ended.stderr)
         self.hold(self.folder / "usr" / "it")
         manual = self.folder / "usr" / "it" / "share" / "man" / "man1" / "xaropinto.1"
         self.assertIn(f"xaropinto {VERSION}", manual.read_text(encoding="ascii"))
 
-    def test_dist(self):
-        ended = run("make", "dist")
-        self.assertEqual(ended.returncode, 0, ended.stderr)
-        archive = ROOT / ended.stdout.decode().split()[-1]
-        self.assertEqual(run("tar", "-xzf", archive, "-C", self.folder).returncode, 0)
-        self.hold(self.folder / archive.name.removesuffix(".tar.gz"))
+    def test_archive(self):
+        self.hold(unpacked(self.folder))
 
     def test_pip(self):
         shutil.copytree(ROOT / "python", self.folder / "python")
+        # In place of the repository's: what the package is of.
+        (self.folder / "tools" / "dist").mkdir(parents=True)
+        (self.folder / "tools" / "dist" / "identity.py").write_text(
+            """build_json = lambda: b'{"commit": "abc", "checker": "kit logic 1"}'""")
         ended = run(sys.executable, "-m", "pip", "install", "--quiet", "--no-build-isolation",
                     "--no-deps", "--no-index", "--disable-pip-version-check", "--target",
                     self.folder / "there", self.folder / "python",
@@ -103,6 +116,10 @@ class Installed(unittest.TestCase):
         self.assertEqual((ended.returncode, ended.stdout), (0, LISTING), ended.stderr)
         self.assertEqual(without_warnings(ended.stderr.decode()), [])
         self.assertTrue((self.folder / "there" / "xaropinto" / "schema.json").is_file())
+        ended = run(self.folder / "there" / "bin" / "xaropinto", "--version", folder=self.folder,
+                    env={"PYTHONPATH": str(self.folder / "there")})
+        self.assertEqual(ended.stdout.decode(),
+                         f"xaropinto {VERSION}\ncommit abc\nchecker kit logic 1\n")
         ended = run(sys.executable, "-c",
                     "import xaropinto, sys; print(xaropinto.__version__, xaropinto.check("
                     "open(sys.argv[1], 'rb').read()))", sample("small_insurer"), folder=self.folder,

@@ -1,7 +1,9 @@
-"""The archive of `make dist`, the Rust crate in it, and the types of the package."""
+"""The archive for this machine: a program in C, by CMake and in Rust against it; and the types of
+the package."""
 
 import ast
 import os
+import re
 import shutil
 import subprocess
 import sys
@@ -43,33 +45,33 @@ def run(*words, folder=ROOT, **more):
     )
 
 
+def unpacked(folder):
+    """The archive for this machine, built and unpacked in a folder; the folder that it holds."""
+    built = folder / "dist"
+    ended = run(sys.executable, "-m", "tools.dist", "build", built, "--only", "linux-x86_64")
+    if ended.returncode:
+        raise AssertionError(ended.stderr.decode())
+    [archive] = built.glob("*.tar.gz")
+    run("tar", "-xzf", archive, "-C", folder)
+    return folder / archive.name.removesuffix(".tar.gz")
+
+
+def shown(text, heading):
+    """The lines that a page shows below a heading."""
+    part = re.split(r"(?m)^## ", text.partition(f"## {heading}\n")[2])[0]
+    return [line.strip() for line in part.splitlines() if line.startswith("    ")]
+
+
 class Archive(unittest.TestCase):
     """What a machine without the toolchain gets."""
 
     @classmethod
     def setUpClass(cls):
+        install([] if shutil.which("cmake") else ["cmake"])
         held = tempfile.TemporaryDirectory()
         cls.addClassCleanup(held.cleanup)
         cls.folder = Path(held.name)
-        ended = run("make", "dist")
-        archive = ROOT / ended.stdout.decode().split()[-1]
-        run("tar", "-xzf", archive, "-C", cls.folder)
-        cls.top = cls.folder / archive.name.removesuffix(".tar.gz")
-
-    def test_contents(self):
-        for name in (
-            "README.md",
-            "INSTALL.md",
-            "docs/FILE_FORMAT.md",
-            "docs/USER_GUIDE.md",
-            "samples/small_insurer.book",
-            "bindings/c/examples/example.c",
-            "bindings/rust/Cargo.toml",
-            "bindings/rust/src/lib.rs",
-            "include/xaropinto.h",
-            "share/xaropinto/python/xaropinto/schema.json",
-        ):
-            self.assertTrue((self.top / name).is_file(), name)
+        cls.top = unpacked(cls.folder)
 
     def test_rust_crate(self):
         program = self.folder / "program"
@@ -108,15 +110,48 @@ class Archive(unittest.TestCase):
     def test_linking_as_described(self):
         text = (self.top / "INSTALL.md").read_text(encoding="utf-8")
         self.assertIn("LD_LIBRARY_PATH", text)
-        commands = [
-            line.strip()
-            for line in text.partition("## C\n")[2].partition("## Rust")[0].splitlines()
-            if line.startswith("    ")
-        ]
-        ended = run("sh", "-euc", "\n".join(commands), folder=self.top)
+        ended = run("sh", "-euc", "\n".join(shown(text, "C")), folder=self.top)
         self.assertEqual((ended.returncode, ended.stdout), (0, 2 * LISTING), ended.stderr)
         ended = run("./example", "samples/small_insurer.book", folder=self.top)
         self.assertIn(b"libxaropinto.so.2: cannot open shared object file", ended.stderr)
+
+    def cmake(self, *lines, **settings):
+        """A project of these lines beside the C example, configured and built; how the first step
+        that failed, or the last, ended."""
+        project = self.folder / "project"
+        project.mkdir(exist_ok=True)
+        shutil.copy(self.top / "bindings" / "c" / "examples" / "example.c", project)
+        head = ["cmake_minimum_required(VERSION 3.15)", "project(example C)"]
+        (project / "CMakeLists.txt").write_text("\n".join([*head, *lines]) + "\n")
+        shutil.rmtree(project / "build", ignore_errors=True)
+        defined = {"CMAKE_PREFIX_PATH": self.top, **settings}
+        ended = run("cmake", "-B", "build", *(f"-D{key}={value}" for key, value in defined.items()),
+                    folder=project)
+        return ended if ended.returncode else run("cmake", "--build", "build", folder=project)
+
+    def test_cmake_as_described(self):
+        lines = shown((self.top / "INSTALL.md").read_text(encoding="utf-8"), "CMake")
+        self.assertIn("xaropinto::xaropinto)", lines[-1])
+        for target in ("xaropinto::xaropinto", "xaropinto::static"):
+            with self.subTest(target=target):
+                chosen = lines[-1].replace("xaropinto::xaropinto", target)
+                ended = self.cmake(*lines[:-1], chosen)
+                self.assertEqual(ended.returncode, 0, ended.stderr)
+                program = self.folder / "project" / "build" / "example"
+                ended = run(program, sample("small_insurer"))
+                self.assertEqual((ended.returncode, ended.stdout), (0, LISTING), ended.stderr)
+                needed = run("readelf", "--dynamic", program).stdout
+                self.assertEqual(b"libxaropinto.so.2" in needed, "static" not in target)
+
+    def test_cmake_versions(self):
+        version = (ROOT / "VERSION").read_text(encoding="ascii").strip()
+        first, second, _ = version.split(".")
+        for asked, served in ((version, True), (first, True), (f"{first}.0", True),
+                              (f"{first}.{int(second) + 1}", False), (f"{int(first) + 1}", False),
+                              ("1.0", False)):
+            with self.subTest(asked=asked):
+                ended = self.cmake(f"find_package(xaropinto {asked} CONFIG REQUIRED)")
+                self.assertEqual(ended.returncode == 0, served, ended.stderr)
 
 
 class Types(unittest.TestCase):

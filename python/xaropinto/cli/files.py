@@ -1,13 +1,17 @@
 """The files that the command reads and writes. An output appears whole or not at all, and is never
 an input."""
 
+import contextlib
+import glob
 import os
 import shutil
 import signal
 import stat
 import sys
+import time
 from pathlib import Path
-from typing import Iterable, Mapping
+from types import FrameType
+from typing import Callable, Iterable, Iterator, Mapping, Optional, Sequence
 
 from xaropinto.cli.errors import CommandError, reason_of
 from xaropinto.cli.streams import put_bytes
@@ -15,8 +19,18 @@ from xaropinto.cli.streams import put_bytes
 STANDARD = "-"
 # No book is a thousandth as long; a file beyond it is not read at all.
 MOST_BYTES = 64 * 1024 * 1024
-# The signals that a person or a system ends a run with.
-ENDING = (signal.SIGINT, signal.SIGTERM, signal.SIGHUP)
+# The signals that a person or a system ends a run with, as far as the system has them: only Windows
+# has SIGBREAK (Ctrl-Break, or the console is closed), and it has no SIGHUP.
+ENDING = tuple(
+    getattr(signal, name)
+    for name in ("SIGINT", "SIGTERM", "SIGHUP", "SIGBREAK")
+    if hasattr(signal, name)
+)
+# Windows neither lets a file that is open be replaced nor lists files by pattern before a command
+# starts.
+ON_WINDOWS = os.name == "nt"
+# Seconds between attempts to rename there: a virus scanner has each new file open for a moment.
+PAUSES = (0.05, 0.1, 0.2, 0.4)
 
 # Of one run: which files it reads, by device and inode, and the paths that it has written.
 _inputs: set[tuple[int, int]] = set()
@@ -52,6 +66,18 @@ def need_no_input(path: str) -> None:
     """Stop where an output is what is read."""
     if path != STANDARD and identity_of(path) in _inputs:
         raise CommandError(f"{path}: this is an input; it is left as it was")
+
+
+def listed_files(words: Sequence[str]) -> list[str]:
+    """The files that words name. On Windows, where no name has * or ?, a pattern names all that it
+    fits, in order; one that fits none is left, so that it is reported as a name."""
+    if not ON_WINDOWS:
+        return list(words)
+    paths: list[str] = []
+    for word in words:
+        found = sorted(glob.glob(word)) if "*" in word or "?" in word else []
+        paths += found or [word]
+    return paths
 
 
 def take_written() -> list[str]:
@@ -95,8 +121,17 @@ def write_file(path: str, held: bytes) -> None:
         else:
             replace_file(target, held)
     except (OSError, ValueError) as error:
-        raise CommandError(f"{path}: {reason_of(error)}") from error
+        raise not_written(path, error) from error
     _written.append(path)
+
+
+def not_written(path: str, error: Exception) -> CommandError:
+    """What is said of a file or folder that cannot be written. The reason that Windows gives does
+    not name the usual one: a spreadsheet program that has the old one open."""
+    words = f"{path}: {reason_of(error)}"
+    if ON_WINDOWS and isinstance(error, PermissionError) and os.path.exists(path):
+        words += "; it is left as it was: is it open in another program?"
+    return CommandError(words)
 
 
 def beside(target: Path, kind: str) -> Path:
@@ -109,9 +144,19 @@ def replace_file(target: Path, held: bytes) -> None:
     part = beside(target, "part")
     try:
         put_new(part, held)
-        os.replace(part, target)
+        patiently(os.replace, part, target)
     finally:
         part.unlink(missing_ok=True)
+
+
+def patiently(rename: Callable[[Path, Path], None], old: Path, new: Path) -> None:
+    """Rename; on Windows again after each pause, while the system does not allow it."""
+    for pause in PAUSES if ON_WINDOWS else ():
+        try:
+            return rename(old, new)
+        except PermissionError:
+            time.sleep(pause)
+    return rename(old, new)
 
 
 def put_new(path: Path, held: bytes) -> None:
@@ -137,7 +182,7 @@ def write_folder(path: str, files: Mapping[str, bytes], replace: bool = False) -
             put_new(part / name, held)
         swap_in(part, target)
     except (OSError, ValueError) as error:
-        raise CommandError(f"{path}: {reason_of(error)}") from error
+        raise not_written(path, error) from error
     finally:
         shutil.rmtree(part, ignore_errors=True)
     _written.append(path)
@@ -161,16 +206,32 @@ def need_free(path: str, target: Path, files: Mapping[str, bytes], replace: bool
 def swap_in(part: Path, target: Path) -> None:
     """Put a folder in another's place; an interrupt waits until both renames are done."""
     old = beside(target, "old")
-    mask = signal.pthread_sigmask(signal.SIG_BLOCK, ENDING)
-    try:
+    with signals_held():
         if target.exists():
-            os.rename(target, old)
+            patiently(os.rename, target, old)
         try:
-            os.rename(part, target)
+            patiently(os.rename, part, target)
         except OSError:
             if old.exists():
-                os.rename(old, target)
+                patiently(os.rename, old, target)
             raise
         shutil.rmtree(old, ignore_errors=True)
+
+
+@contextlib.contextmanager
+def signals_held() -> Iterator[None]:
+    """The first signal that comes meanwhile takes effect when this is over. Windows cannot block
+    signals, so a handler keeps them here."""
+    came: list[int] = []
+
+    def keep(number: int, _: Optional[FrameType]) -> None:
+        came.append(number)
+
+    before = {each: signal.signal(each, keep) for each in ENDING}
+    try:
+        yield
     finally:
-        signal.pthread_sigmask(signal.SIG_SETMASK, mask)
+        for each, handler in before.items():
+            signal.signal(each, handler or signal.SIG_DFL)
+        for number in came[:1]:
+            signal.raise_signal(number)

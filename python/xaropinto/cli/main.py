@@ -9,10 +9,10 @@ from typing import Any, NoReturn, Optional, Sequence
 
 from xaropinto.cli import books, compare, figures, pages, portfolio, tools
 from xaropinto.cli.errors import DONE, INTERRUPTED, TERMINATED, TROUBLE, CommandError, StoppedError
-from xaropinto.cli.files import ENDING, STANDARD, note_inputs
+from xaropinto.cli.files import ENDING, STANDARD, listed_files, note_inputs
 from xaropinto.cli.outcome import attempt, begin_run, end_run, report_error
-from xaropinto.cli.streams import stderr_failed, to_stderr
-from xaropinto.version import VERSION
+from xaropinto.cli.streams import put_bytes, stderr_failed, to_stderr, use_utf8
+from xaropinto.version import version_text
 
 ENDS = (
     "Exit codes: 0 done; 1 refused; 2 wrong use, or a file that cannot be read or written; "
@@ -46,10 +46,23 @@ class Parser(argparse.ArgumentParser):
         self.exit(TROUBLE, f"{self.prog}: {message}\n")
 
 
+class ShowVersion(argparse.Action):
+    """Prints the version, the commit and the checker line by line, and ends the run."""
+
+    def __call__(self, parser: argparse.ArgumentParser, *_: object) -> NoReturn:
+        put_bytes(version_text().encode())
+        parser.exit(DONE)
+
+
 def all_verbs() -> argparse.ArgumentParser:
     """The parser of the whole command."""
     parser = Parser(prog="xaropinto", epilog=ENDS, description=PURPOSE)
-    parser.add_argument("--version", action="version", version=f"xaropinto {VERSION}")
+    parser.add_argument(
+        "--version",
+        action=ShowVersion,
+        nargs=0,
+        help="the version, the commit that was built and the checker that proved it",
+    )
     verbs = parser.add_subparsers(metavar="VERB", dest="verb", required=True)
     for module in (figures, portfolio, compare, pages, books, tools):
         module.add_verbs(verbs)
@@ -81,8 +94,12 @@ def main(words: Optional[Sequence[str]] = None) -> int:
     """Run one verb; its exit code."""
     try:
         stop_on_signals()
+        use_utf8()
         chosen = all_verbs().parse_args(words)
         code = run_verb(chosen)
+    except CommandError as error:
+        to_stderr(f"xaropinto: {error}")
+        return TROUBLE
     except KeyboardInterrupt:
         to_stderr("xaropinto: interrupted")
         return INTERRUPTED
@@ -98,6 +115,8 @@ def main(words: Optional[Sequence[str]] = None) -> int:
 def run_verb(chosen: argparse.Namespace) -> int:
     """The verb's exit code, once all is written."""
     begin_run(chosen.json, getattr(chosen, "separator", None) or ",")
+    if hasattr(chosen, "files"):
+        chosen.files = listed_files(chosen.files)
     note_inputs(input_paths(chosen))
     try:
         code = run_one(chosen)

@@ -1,5 +1,6 @@
 """Standard output and standard error. A failed write to either is never silent."""
 
+import io
 import os
 import sys
 from typing import TextIO
@@ -7,6 +8,14 @@ from typing import TextIO
 from xaropinto.cli.errors import CommandError, reason_of
 
 _failed: list[str] = []
+
+
+def use_utf8() -> None:
+    """UTF-8 and single line feeds on both streams, whatever the code page of a console or the
+    system's encoding is; the answer is written as bytes and has them anyway."""
+    for stream in (sys.stdout, sys.stderr):
+        if isinstance(stream, io.TextIOWrapper):
+            stream.reconfigure(encoding="utf-8", errors="backslashreplace", newline="\n")
 
 
 def put_bytes(held: bytes) -> None:

@@ -1,0 +1,1 @@
+"""What machines without the toolchain get: archives, wheels and the header."""

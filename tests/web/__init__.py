@@ -1,0 +1,1 @@
+"""The web page's modules under node, compared with the Python package."""

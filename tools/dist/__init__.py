@@ -1,0 +1,1 @@
+"""What machines without the toolchain get: archives and wheels, all from one proved build."""
