@@ -2,6 +2,7 @@
 refuses or does otherwise. This is simulated: in place of Windows, functions are taken away or
 changed."""
 
+import ntpath
 import os
 import signal
 import sys
@@ -19,7 +20,7 @@ from tests.support.report import run_unit_tests
 sys.path.insert(0, str(ROOT / "python"))
 
 from xaropinto import library, version  # noqa: E402
-from xaropinto.cli import files  # noqa: E402
+from xaropinto.cli import batch, files  # noqa: E402
 from xaropinto.cli.errors import CommandError  # noqa: E402
 
 ACCEPTED, BROKEN = sample("worked_example"), sample("lapse_too_large")
@@ -80,6 +81,18 @@ def rename_and_signal(*paths):
     os.kill(os.getpid(), signal.SIGTERM)
 os.rename = rename_and_signal
 """
+
+
+
+class OutputNames(unittest.TestCase):
+    """Two files are never written to one place."""
+
+    def test_names_that_differ_in_capitals_alone(self):
+        given = ["a.book", "A.book"]
+        self.assertEqual(len(batch.places_in("out", given, ".listing")), 2)
+        with patch("os.path.normcase", ntpath.normcase), self.assertRaises(CommandError) as raised:
+            batch.places_in("out", given, ".listing")
+        self.assertIn("a.book and A.book would both be written to", str(raised.exception))
 
 
 class Library(unittest.TestCase):

@@ -66,15 +66,17 @@ def made(path: str, book: bytes, place: Optional[str], make: Make) -> Answer:
 
 
 def places_in(into: str, files: Sequence[str], ending: str) -> list[Optional[str]]:
-    """A path in the folder for each file; no two files may share one."""
-    places: dict[str, str] = {}
+    """A path in the folder for each file; no two files may share one. On Windows two names that
+    differ in capitals alone are one."""
+    places: dict[str, tuple[str, str]] = {}
     for path in files:
         name = "standard_input" if path == STANDARD else Path(path).name.removesuffix(".book")
         place = os.path.join(into, name + ending)
-        if place in places:
-            raise CommandError(f"{places[place]} and {path} would both be written to {place}")
-        places[place] = path
-    return list(places)
+        key = os.path.normcase(place)
+        if key in places:
+            raise CommandError(f"{places[key][0]} and {path} would both be written to {place}")
+        places[key] = (path, place)
+    return [place for _, place in places.values()]
 
 
 def make_folder(path: str) -> None:
