@@ -83,7 +83,6 @@ os.rename = rename_and_signal
 """
 
 
-
 class OutputNames(unittest.TestCase):
     """Two files are never written to one place."""
 
