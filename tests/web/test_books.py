@@ -28,7 +28,7 @@ from tests.support.differential import Differential
 from tests.support.report import run_unit_tests
 from tests.web.node import Node, NodeError, request
 from tests.web.sheet_inputs import Saved, drawn_sheets
-from tools.web_tables import TABLES, in_camel_case, tables_text
+from tools.web_tables import in_camel_case, write_tables
 
 sys.path.insert(0, str(ROOT / "python"))
 
@@ -65,8 +65,7 @@ node = None
 def setUpModule():
     """One process for all tests, on the tables as the package has them now."""
     global node
-    TABLES.parent.mkdir(parents=True, exist_ok=True)
-    TABLES.write_text(tables_text(), encoding="utf-8")
+    write_tables()
     node = Node()
 
 
