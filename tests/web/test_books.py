@@ -13,7 +13,7 @@ from reference.book import (PG2_MEN, Portfolio, make_book, random_book, random_v
 from reference.layout import CHAINS, changed, record
 from tests import ROOT
 from tests.api.funds_cases import CASES as FUNDS_CASES
-from tests.api.funds_cases import WOMEN_BOOK
+from tests.api.funds_cases import TABLE, WOMEN_BOOK
 from tests.cli import test_plausibility as cases
 from tests.cli.run import SAMPLES, sample, without_warnings, xaropinto
 from tests.fixtures.accounts import random_accounts
@@ -380,8 +380,9 @@ class OtherRefusals(NodeCase):
 
     def test_funds(self):
         asked, seen = Asked(), set()
-        for pair in FUNDS_CASES:
-            held = pair.table, pair.first, pair.second
+        files = [(pair.table, pair.first, pair.second) for pair in FUNDS_CASES]
+        files += [(TABLE, b"text", b"text " * 40), (b"text", b"", b"%PDF" + bytes(100))]
+        for held in files:
             replies = answers.funds(*held)
             asked.ask([refused_fields(reply) for reply in replies], "answers.funds", *held)
             for reply, fund in zip(replies, held[1:]):
