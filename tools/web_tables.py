@@ -32,8 +32,9 @@ MODULES = (
     "compare_page", "cli.books", "cli.check", "cli.compare", "cli.figures", "cli.files",
     "cli.pages", "cli.portfolio",
 )
-# What is made of LAYOUT's fields, and what only the command has.
-LEFT_OUT = {("sheets", "RANGES"), ("cli.files", "ENDING")}
+# What is made of other constants, and what only the command has.
+LEFT_OUT = {("sheets", "RANGES"), ("sheets", "KINDS"), ("cell_numbers", "THOUSANDS"),
+            ("cli.files", "ENDING"), ("cli.files", "STANDARD")}
 # Whole numbers beyond this are no numbers of JavaScript.
 EXACT = 2**53
 # A field's name that ends with a number.
