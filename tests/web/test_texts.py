@@ -131,7 +131,8 @@ class Encodings(NodeCase):
             try:
                 due = {"text": raw.decode(encoding)}
             except UnicodeDecodeError as wrong:
-                due = {"wrong": wrong.start}
+                # Python counts a place behind the mark of UTF-8 from there.
+                due = {"wrong": wrong.start + len(raw) - len(wrong.object)}
             seen.add((encoding, *due))
             asked.ask(due, "encodings.decode", raw, encoding)
         self.assertEqual(len(seen), 8)
