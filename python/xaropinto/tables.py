@@ -135,7 +135,9 @@ def decoded(file: str, raw: bytes) -> str:
         try:
             text = raw.decode(encoding)
         except UnicodeDecodeError as wrong:
-            line, byte = raw[:wrong.start].count(b"\n") + 1, raw[wrong.start:wrong.start + 1]
+            # A place is counted in what was decoded, which may be the text behind its mark.
+            held, at = wrong.object, wrong.start
+            line, byte = held[:at].count(b"\n") + 1, held[at:at + 1]
             continue
         if "\0" in text:
             raise BadLineError(

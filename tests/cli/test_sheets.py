@@ -162,6 +162,10 @@ class Saved(Sheets):
         run = self.write({**PLAIN, "header.csv": "sep=|\nfield|value\n"})
         self.assertIn("separator", run.errors)
 
+    def test_where_a_text_behind_its_mark_ends(self):
+        run = self.write({**PLAIN, "header.csv": MARK + b"field,value\n\xffedition,1\n"})
+        self.assertIn("refused: header.csv, line 2: \"b'\\\\xff'\"; UTF-8, UTF-16", run.errors)
+
 
 class Numbers(Sheets):
     """Units by heading, and words that are no number."""

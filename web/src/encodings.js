@@ -20,8 +20,7 @@ const HIGH_SURROGATES = 0xd800, LOW_SURROGATES = 0xdc00, SURROGATES_END = 0xe000
  */
 
 /**
- * Bytes in an encoding by Python's name of it; the mark of one that has it is left out. As in
- * Python, a place in `utf-8-sig` is counted from behind the mark.
+ * Bytes in an encoding by Python's name of it; the mark of one that has it is left out of the text.
  * @param {Uint8Array} raw
  * @param {string} encoding
  * @returns {Decoded}
@@ -36,8 +35,8 @@ export function decode(raw, encoding) {
     const held = raw.subarray(MARK_BYTES["utf-16"]);
     return decodeWhere(held, wrong, isLittle ? "utf-16le" : "utf-16be");
   }
-  const held = encoding === "utf-8-sig" ? raw.subarray(MARK_BYTES["utf-8-sig"]) : raw;
-  return decodeWhere(held, firstWrongByte(held), "utf-8");
+  const mark = encoding === "utf-8-sig" ? MARK_BYTES["utf-8-sig"] : 0;
+  return decodeWhere(raw.subarray(mark), firstWrongByte(raw, mark), "utf-8");
 }
 
 /**
@@ -63,12 +62,13 @@ function decodeWhere(held, wrong, label) {
 }
 
 /**
- * Where the first bytes start that are no UTF-8; -1 where there are none.
+ * Where the first bytes start, from a place on, that are no UTF-8; -1 where there are none.
  * @param {Uint8Array} held
+ * @param {number} from
  * @returns {number}
  */
-function firstWrongByte(held) {
-  for (let at = 0; at < held.length;) {
+function firstWrongByte(held, from) {
+  for (let at = from; at < held.length;) {
     const first = held[at];
     const [, least, greatest, length] =
       /** @type {number[]} */ (SEQUENCES.find(([last]) => first <= last));
