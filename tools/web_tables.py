@@ -1,9 +1,9 @@
 """Writes target/web/tables.js: the tables and words of the Python package, for the web page.
 
 For each module an object by its name in capitals, with the module's constants under their own
-names; LAYOUT has the fields of a book as well, REFUSALS the lines of the one table. Fields of
-records are in camelCase, an enum is its value, bytes are numbers, a set of numbers is the first and
-last number of each of its ranges, a pattern is its source.
+names; LAYOUT has the fields of a book as well, REFUSALS the lines of the one table, TABLES letters
+of an encoding. Fields of records are in camelCase, an enum is its value, bytes are numbers, a set
+of numbers is the first and last number of each of its ranges, a pattern is its source.
 """
 
 import argparse
@@ -150,9 +150,15 @@ def refusal_lines():
                       for number, call, rule, _, owner, _ in refusals.table_lines()]}
 
 
+def windows_letters():
+    """What bytes 128 to 159 are in Windows-1252, which not every JavaScript knows; a mark stands
+    for those that it does not assign."""
+    return {"windows1252": bytes(range(0x80, 0xA0)).decode("cp1252", "replace")}
+
+
 def tables_text():
     """The module's text."""
-    more = {"layout": layout_fields(), "refusals": refusal_lines()}
+    more = {"layout": layout_fields(), "refusals": refusal_lines(), "tables": windows_letters()}
     parts = [HEADING]
     for name in MODULES:
         held = {**constants_of(name), **more.get(name, {})}

@@ -2,6 +2,7 @@
 
 import base64
 import json
+import math
 import os
 import shutil
 import subprocess
@@ -42,6 +43,8 @@ def sent(held):
         return [sent(each) for each in held]
     if isinstance(held, int) and not isinstance(held, bool) and abs(held) > EXACT:
         return {"bigint": str(held)}
+    if isinstance(held, float) and not math.isfinite(held):
+        return {"double": "NaN" if math.isnan(held) else f"{'-' * (held < 0)}Infinity"}
     return held
 
 
@@ -55,6 +58,8 @@ def received(held):
         return base64.b64decode(held["base64"])
     if set(held) == {"bigint"}:
         return int(held["bigint"])
+    if set(held) == {"double"}:
+        return float(held["double"])
     return {name: received(each) for name, each in held.items()}
 
 

@@ -1,11 +1,12 @@
 // Answers calls of functions of web/src, one to a line of standard input, each as a line of JSON.
 //
-// A request is {"function": "messages.explain", "arguments": [...]}: the module of web/src, which is
-// loaded when it is first named, and its function. An argument that is itself a request is what
+// A request is {"function": "messages.explain", "arguments": [...]}: the module of web/src, which
+// is loaded when it is first named, and its function. An argument that is itself a request is what
 // that gives. Bytes are {"base64": "..."}, whole numbers that may be beyond 2^53 {"bigint": "..."},
-// both ways. The reply is {"value": ...}, or {"error": ...} with the error's name, message and own
-// fields. The first argument of the command is the WebAssembly module; web/src/answers.js has its
-// calls from there.
+// doubles that JSON has no number for, or the digits of another, {"double": "..."}, both ways. The
+// reply is {"value": ...}, or {"error": ...} with the error's name, message and own fields. The
+// first argument of the command is the WebAssembly module; web/src/answers.js has its calls from
+// there.
 import { readFileSync } from "node:fs";
 import { createInterface } from "node:readline";
 
@@ -26,6 +27,7 @@ async function taken(held) {
   if (held === null || typeof held !== "object") return held;
   if (typeof held.base64 === "string") return new Uint8Array(Buffer.from(held.base64, "base64"));
   if (typeof held.bigint === "string") return BigInt(held.bigint);
+  if (typeof held.double === "string") return Number(held.double);
   if (typeof held.function === "string") return called(held);
   const names = Object.keys(held), values = await taken(Object.values(held));
   return Object.fromEntries(names.map((name, at) => [name, values[at]]));
@@ -38,10 +40,19 @@ async function called(request) {
   return functions[name](...await taken(request.arguments));
 }
 
+/** Is a double whole and beyond 2^53? Its digits in JSON are those of another whole number.
+ * @param {number} held */
+function isBeyond(held) {
+  return Number.isInteger(held) && !Number.isSafeInteger(held);
+}
+
 /** A value as a reply has it: a map as a list of pairs, other objects by their own fields.
  * @param {any} held @returns {any} */
 function given(held) {
   if (typeof held === "bigint") return { bigint: String(held) };
+  if (typeof held === "number" && (!Number.isFinite(held) || isBeyond(held))) {
+    return { double: String(held) };
+  }
   if (typeof held === "function" || held === undefined) return null;
   if (held instanceof Uint8Array) return { base64: Buffer.from(held).toString("base64") };
   if (held instanceof Map) return given([...held]);

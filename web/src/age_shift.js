@@ -1,5 +1,5 @@
-// What a slip of the age class does to a filing: the totals with every class one lower or higher. As
-// python/xaropinto/age_shift.py.
+// What a slip of the age class does to a filing: the totals with every class one lower or higher.
+// As python/xaropinto/age_shift.py.
 //
 // The totals of each moved book are those of the proved call; the moves and the differences are not
 // proved. A book of age basis 2 that is read as basis 1 is one class too high, so its own figures
@@ -14,7 +14,10 @@ import { MOST_CONTRACTS } from "./plausibility.js";
 /** @typedef {import("./book_values.js").BookValues} BookValues */
 /** @typedef {import("./book_values.js").Chain} Chain */
 
-/** A chain without records. @type {Chain} */
+/**
+ * A chain without records.
+ * @type {Chain}
+ */
 const EMPTY = AGE_SHIFT.EMPTY;
 
 /**

@@ -30,7 +30,10 @@ export class CorrectedCopy {
   constructor(book) {
     this.bytes = book.slice();
     this.newer = false;
-    /** Chains and the records that they were moved to. @type {Set<string>} */
+    /**
+     * Chains and the records that they were moved to.
+     * @type {Set<string>}
+     */
     this.movedTo = new Set();
   }
 

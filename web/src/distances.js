@@ -1,5 +1,5 @@
-// The promised distance of a figure from its exact value, in centimes, as the contracts of Group and
-// Totals have it. As python/xaropinto/distances.py.
+// The promised distance of a figure from its exact value, in centimes, as the contracts of Group
+// and Totals have it. As python/xaropinto/distances.py.
 
 import { DISTANCES } from "../../target/web/tables.js";
 

@@ -1,14 +1,16 @@
 // The encodings of saved tables: which bytes are a text, or where the first is that is none, as
 // Python's decoders find it.
 
+import { TABLES } from "../../target/web/tables.js";
+
 /** Of UTF-8 by the first byte: up to which one, the least and greatest second byte, the length. */
 const SEQUENCES = [
   [0x7f, 0, 0xff, 1], [0xc1, 1, 0, 0], [0xdf, 0x80, 0xbf, 2], [0xe0, 0xa0, 0xbf, 3],
   [0xec, 0x80, 0xbf, 3], [0xed, 0x80, 0x9f, 3], [0xef, 0x80, 0xbf, 3], [0xf0, 0x90, 0xbf, 4],
   [0xf3, 0x80, 0xbf, 4], [0xf4, 0x80, 0x8f, 4], [0xff, 1, 0, 0],
 ];
-/** Bytes that Windows-1252 does not assign. */
-const UNASSIGNED = [0x81, 0x8d, 0x8f, 0x90, 0x9d];
+/** The bytes that Windows-1252 has in place of controls, and the mark for unassigned ones. */
+const CONTROLS = 0x80, CONTROLS_END = 0xa0, UNASSIGNED = "\ufffd";
 const MARK_BYTES = { "utf-8-sig": 3, "utf-16": 2 };
 const HIGH_SURROGATES = 0xd800, LOW_SURROGATES = 0xdc00, SURROGATES_END = 0xe000;
 
@@ -26,7 +28,8 @@ const HIGH_SURROGATES = 0xd800, LOW_SURROGATES = 0xdc00, SURROGATES_END = 0xe000
  */
 export function decode(raw, encoding) {
   if (encoding === "cp1252") {
-    return decodeWhere(raw, raw.findIndex((byte) => UNASSIGNED.includes(byte)), "windows-1252");
+    const wrong = raw.findIndex((byte) => windowsLetter(byte) === UNASSIGNED);
+    return wrong < 0 ? { text: Array.from(raw, windowsLetter).join("") } : { wrong };
   }
   if (encoding === "utf-16") {
     const isLittle = raw[0] === 0xff, wrong = firstWrongUnit(raw, isLittle);
@@ -35,6 +38,16 @@ export function decode(raw, encoding) {
   }
   const held = encoding === "utf-8-sig" ? raw.subarray(MARK_BYTES["utf-8-sig"]) : raw;
   return decodeWhere(held, firstWrongByte(held), "utf-8");
+}
+
+/**
+ * The letter of a byte in Windows-1252. Node's own decoder takes it for Latin-1.
+ * @param {number} byte
+ * @returns {string}
+ */
+function windowsLetter(byte) {
+  return CONTROLS <= byte && byte < CONTROLS_END
+    ? TABLES.windows1252[byte - CONTROLS] : String.fromCharCode(byte);
 }
 
 /**

@@ -1,5 +1,5 @@
-// Where the fields of a book stand, so that a refusal's place can be put into words. No figure comes
-// from it. As python/xaropinto/layout.py, whose fields and ranges are in tables.js.
+// Where the fields of a book stand, so that a refusal's place can be put into words. No figure
+// comes from it. As python/xaropinto/layout.py, whose fields and ranges are in tables.js.
 
 import { LAYOUT } from "../../target/web/tables.js";
 

@@ -277,7 +277,10 @@ function findYear(facts) {
   return Math.abs(year - thisYear) > 1 ? [`SST year ${year}; today is ${facts.today}`] : [];
 }
 
-/** How each warning is found, by its name. @type {{[name: string]: (facts: Facts) => string[]}} */
+/**
+ * How each warning is found, by its name.
+ * @type {{[name: string]: (facts: Facts) => string[]}}
+ */
 const FINDERS = {
   "unlinked-contracts": findUnlinked,
   "premium-unit": findPremium,

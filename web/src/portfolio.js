@@ -5,7 +5,10 @@ import { LAST_CLASS, SEXES, SUBGROUPS } from "./layout.js";
 
 /** @typedef {import("./book_values.js").BookValues} BookValues */
 
-/** The product group of each subgroup. @type {{[subgroup: string]: string}} */
+/**
+ * The product group of each subgroup.
+ * @type {{[subgroup: string]: string}}
+ */
 export const GROUP_OF = PORTFOLIO.GROUP_OF;
 
 /**

@@ -14,9 +14,15 @@ export const { BOOK } = REFUSALS;
  * @property {string} owner
  */
 
-/** Each in the words that hold for all calls. @type {Map<number, Refusal>} */
+/**
+ * Each in the words that hold for all calls.
+ * @type {Map<number, Refusal>}
+ */
 const refusals = new Map();
-/** Each that a call words for itself, by number and call. @type {Map<string, Refusal>} */
+/**
+ * Each that a call words for itself, by number and call.
+ * @type {Map<string, Refusal>}
+ */
 const ownWords = new Map();
 
 for (const line of REFUSALS.lines) {

@@ -1,0 +1,656 @@
+"""Books in the web page's modules: values, words, warnings, sheets and shifts as the package's."""
+
+import random
+import re
+import sys
+import tempfile
+from dataclasses import fields, is_dataclass, replace
+from datetime import date
+from pathlib import Path
+
+from reference.book import (PG2_MEN, Portfolio, make_book, random_book, random_values,
+                            slots_in_chain_order)
+from reference.layout import CHAINS, changed, record
+from tests import ROOT
+from tests.api.funds_cases import CASES as FUNDS_CASES
+from tests.cli import test_plausibility as cases
+from tests.cli.run import SAMPLES, sample, without_warnings, xaropinto
+from tests.fixtures.accounts import random_accounts
+from tests.fixtures.age_basis_2 import on_basis_2
+from tests.fixtures.book_pairs import mortality
+from tests.fixtures.claims import random_claims
+from tests.fixtures.damage import any_book, damaged
+from tests.fixtures.insurers import LOWEST, flat_values, repeated_book
+from tests.fixtures.risk_models import BY_HAND as MODELS
+from tests.support.case import Case
+from tests.support.differential import Differential
+from tests.support.report import run_unit_tests
+from tests.web.node import Node, NodeError, request
+from tests.web.sheet_inputs import Saved, drawn_sheets
+from tools.web_tables import TABLES, in_camel_case, tables_text
+
+sys.path.insert(0, str(ROOT / "python"))
+
+from xaropinto import (answers, cell_numbers, distances, faults, layout, messages,  # noqa: E402
+                       number_format, plausibility, portfolio, refusals, sheets, tables)
+from xaropinto.age_shift import age_shift  # noqa: E402
+from xaropinto.cli.check import faults_line, means_line  # noqa: E402
+from xaropinto.cli.portfolio import age_shift_text  # noqa: E402
+
+CALLS = (refusals.BOOK, messages.CONVERT, messages.WRITE, messages.READ, messages.RECORD,
+         messages.GROUP, messages.FUNDS, messages.PRACTICE)
+BOOK_REFUSALS = (*range(1, 14), 21, 23)
+# How files begin that are no books.
+FOREIGN = (b"%PDF-1.7", b"PK\x03\x04", b"\xd0\xcf\x11\xe0", b"\x1f\x8b", b"\x89PNG",
+           b"\xef\xbb\xbf", b"\xff\xfe", b"{\\rtf1", b"group,premium\n",
+           "Pr\xe4mie;".encode("cp1252"), b"a\x00b", b"")
+# What is said of sheets, but for places, values and numbers.
+SHEET_RULES = (
+    "the heading is", "columns are due", "is due here", "a whole number from", "a number from",
+    "this is no whole number of", "read in two ways", "one of men, women", "one of PG1a",
+    "of this chain is missing", "stands in line", "on age basis 1", "on age basis 2",
+    "the separator is", "begins with its mark", "or Windows-1252 is due", "unexpected end of data",
+    "expected after", "there are")
+RULES = [rule.name for rule in plausibility.RULES]
+# Parts of sequences of UTF-8 and UTF-16, whole and broken.
+PARTS = (*(bytes([first]) for first in (0x41, 0x7F, 0x80, 0x81, 0x8F, 0x90, 0x9F, 0xA0, 0xBF, 0xC1,
+                                        0xC2, 0xDF, 0xE0, 0xE1, 0xEC, 0xED, 0xEF, 0xF0, 0xF3, 0xF4,
+                                        0xF5, 0xFF)),
+         b"ab", b"\xc3\xa9", b"\xe2\x82\xac", b"\xf0\x9f\x98\x80", b"\x00\xd8", b"\x00\xdc",
+         b"\xd8\x3d", b"\xde\x00", b"\x3d\xd8\x00\xde", b"\xd8\x3d\xde\x00")
+node = None
+
+
+def setUpModule():
+    """One process for all tests, on the tables as the package has them now."""
+    global node
+    TABLES.parent.mkdir(parents=True, exist_ok=True)
+    TABLES.write_text(tables_text(), encoding="utf-8")
+    node = Node()
+
+
+def tearDownModule():
+    """End it."""
+    node.close()
+
+
+def as_plain(held):
+    """A result of the package as the modules give it."""
+    if isinstance(held, answers.RefusedError):
+        return ("RefusedError", held.number, held.place, held.words, held.owner)
+    if isinstance(held, tables.BadLineError):
+        return ("BadLineError", str(held))
+    if hasattr(held, "_fields") or is_dataclass(held):
+        names = getattr(held, "_fields", None) or [each.name for each in fields(held)]
+        return {in_camel_case(name): as_plain(getattr(held, name)) for name in names}
+    if isinstance(held, dict):
+        return {name: as_plain(each) for name, each in held.items()}
+    return [as_plain(each) for each in held] if isinstance(held, (tuple, list)) else held
+
+
+def outcome(function, *arguments):
+    """What a function of the package gives, or the error that it ends with."""
+    try:
+        return as_plain(function(*arguments))
+    except (answers.RefusedError, tables.BadLineError) as error:
+        return as_plain(error)
+
+
+def in_node(reply):
+    """What a function of the modules gave, or the error that it ended with."""
+    if not isinstance(reply, NodeError):
+        return reply
+    if reply.name == "RefusedError":
+        held = reply.fields
+        return (reply.name, held["number"], held["place"], held["words"], held["owner"])
+    return (reply.name, reply.message)
+
+
+class Asked:
+    """Requests to the modules, each with what is due of it."""
+
+    def __init__(self):
+        self.requests, self.due = [], []
+
+    def ask(self, due, *asked):
+        """One more: what is due, the function and its arguments."""
+        self.requests.append(asked)
+        self.due.append(due)
+
+    def replies(self):
+        """The function asked, what it gave, what is due, and its arguments."""
+        for asked, due, given in zip(self.requests, self.due, node.outcomes(self.requests)):
+            yield asked[0], in_node(given), due, asked[1:]
+
+
+class NodeCase(Case):
+    """Tests of which every reply counts for its function."""
+
+    def same(self, name, asked):
+        """A check that all replies are as due."""
+        differing = [reply for reply in asked.replies() if reply[1] != reply[2]]
+        self.assertTrue(asked.requests)
+        detail = f"{len(differing)} differ, the first: {str(differing[:1])[:1_500]}"
+        self.check(name, not differing, detail)
+
+
+class Drawn:
+    """Random inputs, all of which are asked for at once."""
+
+    @classmethod
+    def draw(cls, chooser):
+        asked = Asked()
+        for number in range(cls.number):
+            cls.ask(asked, number, chooser)
+        for function, given, due, arguments in asked.replies():
+            cls.tally.compare(function, given, due, f"gives {given!r:.600}, due is {due!r:.600}",
+                              cls.kept(arguments))
+
+    @classmethod
+    def kept(cls, arguments):
+        """A number and the book of a request that differs."""
+        book = arguments[0] if isinstance(arguments[0], bytes) else b""
+        return (sum(cls.tally.replies.values()), book)
+
+    def test_agreement(self):
+        self.check_agreement()
+
+
+class Refusals(Drawn, Differential):
+    """Damaged books of both age bases, and files that are no books: verdict, words, every fault."""
+
+    number, seed, for_coverage, kept_as = 500, 31, 500, "web-refusal"
+
+    @classmethod
+    def ask(cls, asked, number, chooser):
+        book, function, name = cls.drawn(number, chooser)
+        due = outcome(function, book)
+        cls.tally.seen[due[1] if isinstance(due, tuple) else 0] += 1
+        asked.ask(due, f"answers.{name}", book)
+        found = faults.all_faults(book)
+        asked.ask(as_plain(found), "faults.allFaults", book)
+        asked.ask(faults_line(found), "cli_check.faultsLine", as_plain(found))
+        record = chooser.randint(0, 4)
+        asked.ask(outcome(answers.record, book, record), "answers.record", book, record)
+
+    @classmethod
+    def drawn(cls, number, chooser):
+        """A book, and the call that reads it, in both languages."""
+        if number % 10 == 0:
+            start = chooser.choice(FOREIGN)
+            filling = chooser.choice((b"", bytes(2_000), b"text " * 400, bytes([9, 11, 200]) * 700))
+            return start + filling[:chooser.choice((0, 100, 2_000))], answers.check, "check"
+        if number % 10 < 7:
+            return any_book(chooser), answers.check, "check"
+        older = random_book(chooser, chooser.choice((100, 117)), chooser.choice((1, 4)), 2)
+        newer = on_basis_2(older)
+        heads = [chain.head.read(newer) for chain in CHAINS if chain.head.read(newer)]
+        if number % 10 == 9 and heads:
+            newer = changed(newer, (record(heads[0]).age_class, 0))
+        else:
+            newer = damaged(newer, chooser)
+        return newer, answers.convert, "convert"
+
+    def test_every_refusal_is_seen(self):
+        self.require_coverage()
+        self.check_seen({number: 3 for number in BOOK_REFUSALS})
+
+
+def unusual_values(chooser):
+    """Values of an accepted book of which something may be unusual."""
+    values = random_values(chooser, chooser.randint(0, 6), chooser.choice((0, 60, 105, 117)),
+                           chooser.random() < 0.1)
+    change = chooser.choice(("none", "curve", "men", "mortality", "rising", "lapse", "premium"))
+    if change == "curve":
+        values.curve = [0] * len(values.curve)
+    elif change == "men":
+        values.portfolios = {chain: held for chain, held in values.portfolios.items()
+                             if chain % 2 == 0}
+    elif change == "mortality":
+        values.mortality = [values.mortality[1], [rate + 1 for rate in values.mortality[0]]]
+        values.mortality[1] = [min(1_000_000, rate) for rate in values.mortality[1]]
+    elif change == "rising":
+        values.mortality = [[min(1_000_000, 40 * age * age) for age in range(121)]] * 2
+    elif change in ("lapse", "premium"):
+        part = chooser.choice((0, 1, 200))
+        values.portfolios = {
+            chain: Portfolio(held.first_class, tuple(
+                cell._replace(**{change: getattr(cell, change) * part // 100_000})
+                for cell in held.cells))
+            for chain, held in values.portfolios.items()}
+    return values
+
+
+def with_strays(values, chooser):
+    """The book of these values, with a few records that no chain links."""
+    counts = [chooser.choice((0, 1, 100_000, 100_001)) for _ in range(chooser.randint(0, 2))]
+    strays = [bytes(8) + count.to_bytes(4, "little") + bytes(12) for count in counts]
+    return make_book(values, [*slots_in_chain_order(values), *strays])
+
+
+class Accepted(Drawn, Differential):
+    """Accepted books: values, figures, warnings, sheets, classes and shifts."""
+
+    number, seed, for_coverage, kept_as = 220, 32, 220, "web-accepted"
+
+    @classmethod
+    def ask(cls, asked, number, chooser):
+        values = unusual_values(chooser)
+        book = with_strays(values, chooser) if number % 4 else any_book(chooser)
+        day = date(chooser.randint(2015, 2101), chooser.randint(1, 12), chooser.randint(1, 28))
+        due = outcome(answers.read, book)
+        asked.ask(due, "answers.read", book)
+        if isinstance(due, tuple):
+            return
+        cls.tally.seen["accepted"] += 1
+        notes = plausibility.notes_of(book, day)
+        cls.tally.seen.update(each.name for each in notes)
+        asked.ask(as_plain(notes), "plausibility.notesOf", book, day.isoformat())
+        asked.ask(as_plain(plausibility.unlinked_of(book)), "plausibility.unlinkedOf", book)
+        asked.ask(age_shift_text(age_shift(book)), "cli_portfolio.ageShiftText",
+                  request("age_shift.ageShift", book))
+        cls.ask_of_values(asked, due, answers.read(book), chooser)
+        cls.ask_figures(asked, book, chooser)
+
+    @classmethod
+    def ask_of_values(cls, asked, passed, values, chooser):
+        """What is made of the values alone."""
+        means = plausibility.group_means(values)
+        asked.ask(as_plain(means), "plausibility.groupMeans", passed)
+        for each in means:
+            asked.ask(means_line(each), "cli_check.meansLine", as_plain(each))
+        asked.ask(answers.write(values), "answers.write", passed)
+        asked.ask(sheets.csv_files(values), "sheets.csvFiles", passed)
+        group, sex = chooser.choice(("", *layout.GROUPS)), chooser.choice(("", *layout.SEXES))
+        asked.ask(portfolio.contracts_by_class(values, group, sex), "portfolio.contractsByClass",
+                  passed, group, sex)
+
+    @classmethod
+    def ask_figures(cls, asked, book, chooser):
+        """What the calls answer, with settings, groups and cells that there are and are not."""
+        setting, group = chooser.randint(0, 8), chooser.randint(0, 6)
+        cell = (setting % 8, chooser.randint(0, 8), chooser.randint(0, 2), chooser.randint(60, 121))
+        for function, name, arguments in (
+                (answers.totals, "totals", ()), (answers.listing, "listing", ()),
+                (answers.report, "report", (setting,)), (answers.group, "group", (setting, group)),
+                (answers.cell, "cell", cell)):
+            asked.ask(outcome(function, book, *arguments), f"answers.{name}", book, *arguments)
+
+    def test_every_warning_is_seen(self):
+        self.require_coverage()
+        self.check_seen({name: 2 for name in (*RULES, "accepted")})
+
+
+class Thresholds(NodeCase):
+    """Warnings on both sides of their thresholds."""
+
+    def test_both_sides(self):
+        asked, seen = Asked(), set()
+        cells = [{"premium": premium, "claims": 4_000} for premium in (4_999, 5_000)]
+        cells += [{"premium": premium, "claims": 4_000_000} for premium in (5_000_000, 5_000_001)]
+        cells += [{"claims": claims} for claims in (39_999, 40_000, 1_000_000, 1_000_001)]
+        cells += [{"lapse": lapse} for lapse in (0, 1, 500_000, 500_001)]
+        held = [cases.with_cells(**amounts) for amounts in cells]
+        held += [replace(cases.plain_values(), cost_rates=[rate] * 5)
+                 for rate in (500_000, 500_001)]
+        held += [cases.with_mortality(sex, 100, mortality()[sex][90] + more)
+                 for sex in range(2) for more in range(2)]
+        held += [cases.with_mortality(0, age, mortality()[0][50]) for age in (39, 40)]
+        held += [cases.with_women_above(classes) for classes in (60, 61)]
+        held += [replace(cases.plain_values(), curve=[0] * 48 + [rate]) for rate in range(2)]
+        held += [cases.with_old_contracts(count) for count in (10, 11)]
+        held += [replace(cases.plain_values(), sst_year=year) for year in range(2024, 2029)]
+        for book in map(make_book, held):
+            notes = plausibility.notes_of(book, cases.TODAY)
+            seen.update(note.name for note in notes)
+            asked.ask(as_plain(notes), "plausibility.notesOf", book, cases.TODAY.isoformat())
+        self.covers("warnings", set(RULES) - {"unlinked-contracts", "one-sex"}, seen)
+        self.same("warnings at their thresholds", asked)
+
+    def test_today_is_the_clock(self):
+        book = make_book(replace(cases.plain_values(), sst_year=2100))
+        before = as_plain(plausibility.notes_of(book))
+        given = node.call("plausibility.notesOf", book)
+        self.assertIn(given, (before, as_plain(plausibility.notes_of(book))))
+        self.assertEqual([note["name"] for note in given], ["sst-year"])
+
+
+def read_saved(files):
+    """The book of saved files, as the command writes it."""
+    def table(kind):
+        name = sheets.csv_file(kind)
+        return tables.saved_table(Saved(name, files[name]))
+
+    return answers.write(sheets.read_sheets(table))
+
+
+class SavedSheets(Drawn, Differential):
+    """Files as spreadsheets save them, whole and with faults: the book, or the first fault."""
+
+    number, seed, for_coverage, kept_as = 500, 33, 500, "web-sheets"
+
+    @classmethod
+    def ask(cls, asked, number, chooser):
+        files = drawn_sheets(chooser)
+        due = outcome(read_saved, files)
+        said = due[1] if isinstance(due, tuple) else "a book"
+        cls.tally.seen.update(rule for rule in (*SHEET_RULES, "a book") if rule in said)
+        tables_of_files = request("sheets.folderTables", files)
+        asked.ask(due, "answers.write", request("sheets.readSheets", tables_of_files))
+
+    def test_every_rule_is_seen(self):
+        self.require_coverage()
+        self.check_seen({**dict.fromkeys(SHEET_RULES, 1), "a book": 100})
+
+
+class OtherRefusals(NodeCase):
+    """Refusals of every number and call, in words; those of calls that read no book."""
+
+    def test_lengths_and_kinds_of_files(self):
+        asked, longest = Asked(), sample("full").read_bytes()
+        for book in (longest + bytes(24), longest[:-24], longest + bytes(1),
+                     b"a" * 512, b"a" * 511 + b"\0", b"a" * 512 + b"\0", b"a" * 513,
+                     b"a" * 1_220, b"a" * 511 + b"\0" * 800, b"a" * 512 + b"\0" * 800):
+            asked.ask(outcome(answers.check, book), "answers.check", book)
+        for number in range(256):
+            book = bytes([number]) * 20
+            asked.ask(messages.kind_of(book), "messages.kindOf", book)
+        self.same("lengths and kinds of files", asked)
+
+    def test_every_number_and_call(self):
+        asked = Asked()
+        for number in refusals.refusals():
+            for call in CALLS:
+                asked.ask(messages.explain(number, 0, None, call), "messages.explain", number, 0,
+                          None, call)
+                row = refusals.refusal_of(number, call)
+                asked.ask({"number": number, "rule": row.rule, "owner": row.owner},
+                          "refusals.refusalOf", number, call)
+        self.same("words of 32 refusals and 8 calls", asked)
+
+    def test_a_chain_starts_anew_at_a_record_once(self):
+        book = repeated_book(flat_values(0, 0, 0), PG2_MEN, 113, LOWEST)
+        # The third record leads past the fourth, the seventh back to the second.
+        book = changed(book, (record(3).next, 5), (record(7).next, 2))
+        found, asked = faults.all_faults(book), Asked()
+        self.assertEqual([each.place for each in found.found], [1_318, 1_246, 1_318])
+        asked.ask(as_plain(found), "faults.allFaults", book)
+        self.same("a chain that leads back", asked)
+
+    def test_funds(self):
+        asked, seen = Asked(), set()
+        for pair in FUNDS_CASES:
+            held = pair.table, pair.first, pair.second
+            replies = answers.funds(*held)
+            asked.ask([refused_fields(reply) for reply in replies], "answers.funds", *held)
+            for reply, fund in zip(replies, held[1:]):
+                if isinstance(reply, answers.RefusedError):
+                    seen.add(reply.number)
+                    at = reply.number, reply.place, fund
+                    asked.ask(list(messages.refused_file(*at)), "messages.refusedFile", *at)
+        self.covers("refusals of funds", (1, 2, 4, 5, 6, 9, 10, 12, 24), seen)
+        self.same("two funds", asked)
+
+    def test_write(self):
+        asked, values = Asked(), answers.read(sample("worked_example").read_bytes())
+        far = values.chains[0]._replace(first_class=122)
+        longer = values.chains[6]._replace(counts=(*values.chains[6].counts, 1))
+        high = values.chains[6]._replace(claims=(10_000_001,) * 3)
+        for number, changes in (
+                (2, {"edition": 3}), (4, {"year": 2016}), (4, {"percentages": (1, 0)}),
+                (23, {"edition": 2, "percentages": (0, 1)}), (6, {"cost_rates": (1_000_001,) * 5}),
+                (7, {"curve": (-10_001,) * 49}), (8, {"mortality": (1_000_001,) * 242}),
+                (11, {"chains": (far, *values.chains[1:])}),
+                (22, {"chains": (*values.chains[:6], longer, *values.chains[7:])}),
+                (12, {"chains": (*values.chains[:6], high, *values.chains[7:])})):
+            broken = values._replace(**changes)
+            due = outcome(answers.write, broken)
+            self.assertEqual(due[1], number)
+            asked.ask(due, "answers.write", as_plain(broken))
+        self.same("values that are refused", asked)
+
+    def test_calls_that_read_no_book(self):
+        asked, chooser, seen = Asked(), random.Random(34), set()
+        for _ in range(60):
+            accounts = random_accounts(chooser)
+            five = random_claims(chooser)
+            for function, name, given, passed in (
+                    (answers.cost_rates, "costRates", accounts, accounts),
+                    (answers.spread, "spread", five, (five[:5], *five[5:]))):
+                due = outcome(function, *given)
+                seen.add(due[1] if isinstance(due, tuple) else name)
+                asked.ask(due, f"answers.{name}", *passed)
+        for start in (0, 1, 2**64 - 1):
+            asked.ask(outcome(answers.practice, start), "answers.practice", start)
+        self.covers("refusals and figures", (17, 18, 19, 27, 28, "costRates", "spread"), seen)
+        self.same("accounts, claims and practice books", asked)
+
+    def test_deviation(self):
+        asked, seen = Asked(), set()
+        for _, book, held, (number, *_) in MODELS:
+            seen.add(number)
+            asked.ask(outcome(answers.deviation, book, *held), "answers.deviation", book, *held)
+        self.covers("refusals of models", (0, 29, 30, 31), seen)
+        self.same("risk models", asked)
+
+
+def refused_fields(reply):
+    """A fund's reply as the modules give it: an error by its fields."""
+    if not isinstance(reply, answers.RefusedError):
+        return as_plain(reply)
+    return {"name": "RefusedError", "number": reply.number, "place": reply.place,
+            "words": reply.words, "owner": reply.owner}
+
+
+class Numbers(NodeCase):
+    """Numbers and texts as Python writes them; ties, signs and ranges."""
+
+    def setUp(self):
+        self.asked, self.chooser = Asked(), random.Random(35)
+
+    def doubles(self, count):
+        """Doubles of every size, and many that are halfway between two numbers of few digits."""
+        for _ in range(count):
+            yield self.chooser.choice((
+                self.chooser.uniform(-1e7, 1e7), self.chooser.randint(-10**6, 10**6) / 8,
+                self.chooser.randint(-999, 999) + 0.5, self.chooser.random() * 10.0 ** -9,
+                self.chooser.randint(-2**60, 2**60) / 2**self.chooser.randint(0, 60), -0.0))
+
+    def test_decimals(self):
+        for number in self.doubles(1_500):
+            decimals = self.chooser.randint(0, 4)
+            self.asked.ask(f"{number:.{decimals}f}", "python_text.fixed", number, decimals)
+            self.asked.ask(f"{number:,.{decimals}f}", "python_text.fixedGrouped", number, decimals)
+            self.asked.ask(number_format.francs(number), "number_format.francs", number)
+            self.asked.ask(number_format.percent(number), "number_format.percent", number)
+        self.same("numbers with decimals", self.asked)
+
+    def test_whole_numbers(self):
+        for _ in range(600):
+            number = self.chooser.choice((1, -1)) * self.chooser.randrange(
+                10**self.chooser.randint(1, 19))
+            for name in ("swiss", "million_francs"):
+                due = getattr(number_format, name)(number)
+                self.asked.ask(due, f"number_format.{in_camel_case(name)}", number)
+            near = self.chooser.randint(-20, 20) * 100_000 + self.chooser.choice((-50_000, 49_999))
+            self.asked.ask(number_format.million_francs(near), "number_format.millionFrancs", near)
+            few = self.chooser.randint(0, 2)
+            self.asked.ask(number_format.counted(few, "one", "many"), "number_format.counted", few,
+                           "one", "many")
+            n, ordinary = self.chooser.randint(0, 1_694), self.chooser.random() < 0.5
+            for name in ("group_distance", "total_distance"):
+                self.asked.ask(getattr(distances, name)(n, ordinary),
+                               f"distances.{in_camel_case(name)}", n, ordinary)
+        self.same("whole numbers", self.asked)
+
+    def test_quotients(self):
+        for _ in range(1_000):
+            one, other = (self.chooser.choice((1, -1)) * self.chooser.randint(
+                1, 2**self.chooser.randint(1, 90)) for _ in range(2))
+            # Numbers of JSON that are whole are no doubles here.
+            due = one / other
+            self.asked.ask(f"{due:.4f}", "python_text.fixed",
+                           request("python_text.quotient", one, other), 4)
+            if abs(due) < 1:
+                self.asked.ask(due, "python_text.quotient", one, other)
+        self.same("quotients of whole numbers", self.asked)
+
+    def test_texts(self):
+        for _ in range(1_000):
+            code = self.chooser.choice((range(0x300), range(128), range(0x2000, 0x2070),
+                                        (39, 34, 92, 10, 0xFEFF, 0x1F600, 0xE000, 0x17F, 0x212A)))
+            text = "".join(chr(self.chooser.choice(code))
+                           for _ in range(self.chooser.randint(0, 5)))
+            self.asked.ask(repr(text), "python_text.quoted", text)
+            self.asked.ask(text.strip(), "python_text.stripped", text)
+        for byte in range(256):
+            self.asked.ask(repr(bytes([byte])), "python_text.quotedByte", byte)
+        self.same("texts in quotes", self.asked)
+
+    def test_folded_to_ascii(self):
+        letters = [chr(code) for code in range(0x110000) if not 0xD800 <= code < 0xE000]
+        ascii_ones = [letter for letter in letters if letter.casefold().isascii()]
+        for letter in ascii_ones:
+            self.asked.ask(letter.casefold(), "python_text.folded", letter)
+        self.same("letters that fold to ASCII", self.asked)
+
+    def test_cells(self):
+        columns = ("count", "lapse_millionths", "premium_centimes", "x_thousandths", "class")
+        for _ in range(2_000):
+            digits = "".join(self.chooser.choice("0123456789.'\u2019,-")
+                             for _ in range(self.chooser.randint(0, 7)))
+            headings = cell_numbers.headings_of(self.chooser.choice(columns))
+            unit = self.chooser.choice(list(headings.values()))
+            low, high = sorted(self.chooser.choice((0, -10_000, 1, 2_017, 2_100, 12_345, 10**6, 7))
+                               for _ in range(2))
+            try:
+                due = cell_numbers.number_of(digits, unit, low, high)
+            except cell_numbers.NoNumberError as wrong:
+                due = ("NoNumberError", str(wrong))
+            self.asked.ask(due, "cell_numbers.numberOf", digits, as_plain(unit), low, high)
+        for column in columns:
+            held = cell_numbers.headings_of(column).items()
+            self.asked.ask([[name, as_plain(unit)] for name, unit in held],
+                           "cell_numbers.headingsOf", column)
+        self.same("cells", self.asked)
+
+
+class Layout(NodeCase):
+    """The fields of a book, from the one place where they are defined."""
+
+    def test_fields(self):
+        asked = Asked()
+        for name in ("header_fields", "percentages", "heads"):
+            due = as_plain(list(getattr(layout, name)()))
+            asked.ask(due, f"layout.{in_camel_case(name)}")
+        self.same("header, percentages and heads", asked)
+
+    def test_records(self):
+        asked, book = Asked(), sample("small_insurer").read_bytes()
+        for place in (1_220, 1_243, 1_244, 5_000):
+            asked.ask(as_plain(layout.record_at(place)), "layout.recordAt", place)
+        asked.ask(layout.record_count(book), "layout.recordCount", book)
+        self.same("records", asked)
+
+
+class Commands(NodeCase):
+    """What the command prints, run as people run it."""
+
+    def printed(self, *words, refused=False):
+        """Lines of standard output, and those of standard error that are no warnings."""
+        run = xaropinto(*words)
+        self.assertEqual(run.code, 1 if refused else 0, run.errors)
+        return run.out.decode().splitlines(), without_warnings(run.errors)
+
+    def test_check(self):
+        chooser = random.Random(36)
+        books = [path.read_bytes() for path in sorted(SAMPLES.glob("*.book"))]
+        books += [any_book(chooser) for _ in range(30)]
+        with tempfile.TemporaryDirectory() as folder:
+            paths = [Path(folder) / f"{number}.book" for number in range(len(books))]
+            for path, book in zip(paths, books):
+                path.write_bytes(book)
+            for every in (True, False):
+                printed, reported = self.printed("check", *paths, *["--all"] * every, refused=True)
+                replies = node.calls([("cli_check.checkFile", str(path), book, every)
+                                      for path, book in zip(paths, books)])
+                self.check(f"verdicts, every fault: {every}",
+                           printed == [line for each in replies for line in each["printed"]])
+                self.check(f"words beside them, every fault: {every}",
+                           reported == [line for each in replies for line in each["reported"]])
+
+    def test_record(self):
+        for name, number, refused in (("worked_example", 2, False), ("newer_basis", 3, True),
+                                      ("lapse_too_large", 1, True)):
+            path = sample(name)
+            printed, _ = self.printed("record", path, number, refused=refused)
+            given = node.call("cli_record.recordLines", str(path), path.read_bytes(), number)
+            self.check(f"record {number} of {name}", given == printed, given)
+
+    def test_no_such_record(self):
+        path = sample("newer_basis")
+        for number in (0, 4):
+            run = xaropinto("record", path, number)
+            with self.assertRaises(NodeError) as caught:
+                node.call("cli_record.recordLines", str(path), path.read_bytes(), number)
+            self.assertEqual(run.errors, f"xaropinto: {caught.exception.message}\n")
+
+    def test_classes_and_age_shift(self):
+        for name in ("small_insurer", "full"):
+            book = sample(name).read_bytes()
+            printed, _ = self.printed("age-shift", sample(name))
+            given = node.call("cli_portfolio.ageShiftText", request("age_shift.ageShift", book))
+            self.check(f"age shift of {name}", given.splitlines() == printed)
+        printed, _ = self.printed("classes", sample("full"), "--group", "PG1", "--sex", "women")
+        given = node.call("cli_portfolio.classesText", request("answers.read", book), "PG1",
+                          "women")
+        self.check("classes", given.splitlines() == printed)
+
+    def test_a_missing_file(self):
+        files = sheets.csv_files(answers.read(sample("worked_example").read_bytes()))
+        del files["curve.csv"]
+        with tempfile.TemporaryDirectory() as folder:
+            for name, held in files.items():
+                (Path(folder) / name).write_bytes(held)
+            run = xaropinto("write", folder, "-o", Path(folder) / "book")
+            given = node.outcomes([("sheets.readSheets", request("sheets.folderTables", files))])[0]
+            self.assertEqual(re.sub(r".*/", "", run.errors), given.message + "\n")
+
+
+class Encodings(NodeCase):
+    """Texts of every encoding, and where the first bytes are that are none."""
+
+    def test_where_a_text_ends(self):
+        asked, chooser, seen = Asked(), random.Random(37), set()
+        for _ in range(4_000):
+            encoding = chooser.choice(("utf-8", "utf-8-sig", "utf-16", "cp1252"))
+            raw = b"".join(chooser.choice(PARTS) for _ in range(chooser.randint(0, 6)))
+            if encoding == "utf-16":
+                raw = chooser.choice((b"\xff\xfe", b"\xfe\xff")) + raw
+            elif encoding == "utf-8-sig":
+                raw = b"\xef\xbb\xbf" + raw
+            try:
+                due = {"text": raw.decode(encoding)}
+            except UnicodeDecodeError as wrong:
+                due = {"wrong": wrong.start}
+            seen.add((encoding, *due))
+            asked.ask(due, "encodings.decode", raw, encoding)
+        self.assertEqual(len(seen), 8)
+        self.same("bytes in four encodings", asked)
+
+
+class LongCells(NodeCase):
+    """A cell that Python's csv module refuses for its length."""
+
+    def test_the_longest_cell(self):
+        asked = Asked()
+        files = sheets.csv_files(answers.read(sample("worked_example").read_bytes()))
+        for letters in (131_072, 131_073):
+            long = {**files, "header.csv": b'field,"' + "é".encode() * letters + b'"\n'}
+            asked.ask(outcome(read_saved, long), "sheets.readSheets",
+                      request("sheets.folderTables", long))
+        self.same("cells of 131,072 letters and of one more", asked)
+
+
+if __name__ == "__main__":
+    sys.exit(run_unit_tests(sys.modules[__name__]))
