@@ -2,7 +2,7 @@
 # library and what calls it, g++, cargo and valgrind for the callers' tests, openpyxl
 # (Debian's python3-openpyxl) for those of workbooks.
 .DEFAULT_GOAL := help
-.PHONY: help test quick check list report convert practice fuzz streams samples lib install dist callers bench clean test-platforms FORCE
+.PHONY: help test quick check list report convert practice fuzz streams samples lib install dist web callers bench clean test-platforms FORCE
 
 SAMPLE := samples/one_record.book
 SETTING ?= 0
@@ -79,6 +79,9 @@ install: lib target/bin/listing_main target/bin/year_report_main target/bin/age_
 
 dist: lib target/bin/listing_main target/bin/year_report_main target/bin/age_basis_main ## an archive for machines without the toolchain, under target/dist
 	@sh packaging/dist.sh target/dist $(DIST) $(SHARED) $(VERSION)
+
+web: lib ## the web page, one file with the proved code inside: target/web/xaropinto.html
+	@python3 -m tools.web_page
 
 callers: ## run the tests of the callers in C, Rust and Python
 	@python3 -m tests.gate callers

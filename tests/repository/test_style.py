@@ -17,16 +17,17 @@ MOST_SHOWN = 40
 RUST = ROOT / "bindings" / "rust"
 CLIPPY = ["--offline", "--locked", "--workspace", "--all-targets", "--", "-D", "warnings"]
 SOURCES = ["python", "reference", "tests", "tools", "packaging/xaropinto"]
-# Tools that a machine with the toolchains may lack; Debian's packages have the same names.
-PACKAGES = ("flake8", "mypy", "shellcheck", "clang-format")
+# Tools that a machine with the toolchains may lack, and Debian's packages that have them.
+PACKAGES = {"flake8": "flake8", "mypy": "mypy", "shellcheck": "shellcheck",
+            "clang-format": "clang-format", "tsc": "node-typescript"}
 # By the end of a file's name: the most characters of a line.
-LONGEST = {".py": 100, ".rs": 100, ".c": 100, ".h": 100, ".sh": 100, ".md": 100}
+LONGEST = dict.fromkeys((".py", ".rs", ".c", ".h", ".sh", ".md", ".js", ".mjs", ".css"), 100)
 # Between these words a file has lines that are written from the table of refusals.
 BEGIN, END = "refusals: begin", "refusals: end"
 # So many lines in a row stand in one place alone; crates have their own kind of text.
 REPEATED = 10
 NOT_COMPARED = ("crates/", "samples/", "docs/")
-COMPARED = (".py", ".rs", ".c", ".h", ".sh")
+COMPARED = (".py", ".rs", ".c", ".h", ".sh", ".js", ".mjs", ".css")
 
 
 class Tool(NamedTuple):
@@ -53,6 +54,9 @@ TOOLS = [
     Tool("mypy --strict", ["mypy"]),
     Tool("shellcheck", ["shellcheck", *files(".sh"), ".ci/run"]),
     Tool("clang-format", ["clang-format", "--dry-run", "-Werror", *files(".c", ".h")]),
+    # The modules of the web page import what is written first.
+    Tool("tables of the web page", [sys.executable, "-m", "tools.web_tables"]),
+    Tool("tsc", ["tsc", "--project", "web/jsconfig.json"]),
 ]
 
 
@@ -78,13 +82,14 @@ class Style(Case):
 
     @classmethod
     def setUpClass(cls):
-        install([each for each in PACKAGES if not shutil.which(each)])
+        install([package for tool, package in PACKAGES.items() if not shutil.which(tool)])
 
     def test_tools(self):
         for name, command, folder in TOOLS:
             tool = command[0]
             if not shutil.which(tool):
-                self.check(name, False, f"{tool} is missing: apt-get install {tool}")
+                package = PACKAGES.get(tool, tool)
+                self.check(name, False, f"{tool} is missing: apt-get install {package}")
                 continue
             code, text = run(command, MOST_SECONDS, folder)
             self.check(name, code == 0, f"ended with {code}: {text.rstrip()[-3_000:]}")

@@ -81,14 +81,14 @@ function aligned(bytes) {
 /** @param {Whole} number @returns {bigint} one that fits, which WebAssembly would cut silently */
 function word(number) {
   const value = BigInt(number);
-  if (BigInt.asUintN(64, value) !== value) throw new RangeError(`${number} does not fit in 64 bits`);
+  if (BigInt.asUintN(64, value) !== value) throw new RangeError(`${number} is beyond 64 bits`);
   return value;
 }
 
 /** @param {Whole} number @returns {bigint} the same of a signed number */
 function signedWord(number) {
   const value = BigInt(number);
-  if (BigInt.asIntN(64, value) !== value) throw new RangeError(`${number} does not fit in 64 bits`);
+  if (BigInt.asIntN(64, value) !== value) throw new RangeError(`${number} is beyond 64 bits`);
   return value;
 }
 
