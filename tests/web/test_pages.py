@@ -1,7 +1,6 @@
 """Pages and comparisons of the web page's modules: letter for letter those of the package."""
 
 import json
-import os
 import subprocess
 import sys
 import unittest.mock
@@ -10,9 +9,10 @@ from datetime import date
 from tests import ROOT
 from tests.cli.run import sample
 from tests.support.report import run_unit_tests
-from tests.web.node import MODULE, VARIABLE, node_path
+from tests.web.node import node_path
 from tests.web.node_case import NodeCase
 from tests.web.page_inputs import Pair, Titled, drawn_books, drawn_pairs
+from tests.web.proved_module import module_path
 from tools.sample_books import PAGES
 from tools.sample_pages import DAY, FOLDER, WORDS
 
@@ -35,11 +35,6 @@ REFUSED = ("lapse_too_large", "newer_basis")
 # Signals of nearly equal likelihoods: beyond so many digits they are not the same.
 SAME = 1e-9
 LARGEST_EXACT = 2**53
-
-
-def module_path():
-    """The compiled module."""
-    return os.environ.get(VARIABLE) or MODULE
 
 
 def imprint_of(titled):
