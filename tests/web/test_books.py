@@ -13,6 +13,7 @@ from reference.book import (PG2_MEN, Portfolio, make_book, random_book, random_v
 from reference.layout import CHAINS, changed, record
 from tests import ROOT
 from tests.api.funds_cases import CASES as FUNDS_CASES
+from tests.api.funds_cases import TABLE, WOMEN_BOOK
 from tests.cli import test_plausibility as cases
 from tests.cli.run import SAMPLES, sample, without_warnings, xaropinto
 from tests.fixtures.accounts import random_accounts
@@ -27,7 +28,7 @@ from tests.support.differential import Differential
 from tests.support.report import run_unit_tests
 from tests.web.node import Node, NodeError, request
 from tests.web.sheet_inputs import Saved, drawn_sheets
-from tools.web_tables import TABLES, in_camel_case, tables_text
+from tools.web_tables import in_camel_case, write_tables
 
 sys.path.insert(0, str(ROOT / "python"))
 
@@ -64,8 +65,7 @@ node = None
 def setUpModule():
     """One process for all tests, on the tables as the package has them now."""
     global node
-    TABLES.parent.mkdir(parents=True, exist_ok=True)
-    TABLES.write_text(tables_text(), encoding="utf-8")
+    write_tables()
     node = Node()
 
 
@@ -296,6 +296,7 @@ class Thresholds(NodeCase):
         held += [cases.with_mortality(sex, 100, mortality()[sex][90] + more)
                  for sex in range(2) for more in range(2)]
         held += [cases.with_mortality(0, age, mortality()[0][50]) for age in (39, 40)]
+        held += [cases.with_mortality(1, 110, mortality()[1][100])]
         held += [cases.with_women_above(classes) for classes in (60, 61)]
         held += [replace(cases.plain_values(), curve=[0] * 48 + [rate]) for rate in range(2)]
         held += [cases.with_old_contracts(count) for count in (10, 11)]
@@ -379,8 +380,9 @@ class OtherRefusals(NodeCase):
 
     def test_funds(self):
         asked, seen = Asked(), set()
-        for pair in FUNDS_CASES:
-            held = pair.table, pair.first, pair.second
+        files = [(pair.table, pair.first, pair.second) for pair in FUNDS_CASES]
+        files += [(TABLE, b"text", b"text " * 40), (b"text", b"", b"%PDF" + bytes(100))]
+        for held in files:
             replies = answers.funds(*held)
             asked.ask([refused_fields(reply) for reply in replies], "answers.funds", *held)
             for reply, fund in zip(replies, held[1:]):
@@ -596,11 +598,14 @@ class Commands(NodeCase):
             self.assertEqual(run.errors, f"xaropinto: {caught.exception.message}\n")
 
     def test_classes_and_age_shift(self):
-        for name in ("small_insurer", "full"):
-            book = sample(name).read_bytes()
-            printed, _ = self.printed("age-shift", sample(name))
-            given = node.call("cli_portfolio.ageShiftText", request("age_shift.ageShift", book))
-            self.check(f"age shift of {name}", given.splitlines() == printed)
+        with tempfile.TemporaryDirectory() as folder:
+            one = Path(folder) / "one_contract.book"
+            one.write_bytes(WOMEN_BOOK)
+            for path in (one, sample("small_insurer"), sample("full")):
+                book = path.read_bytes()
+                printed, _ = self.printed("age-shift", path)
+                given = node.call("cli_portfolio.ageShiftText", request("age_shift.ageShift", book))
+                self.check(f"age shift of {path.name}", given.splitlines() == printed)
         printed, _ = self.printed("classes", sample("full"), "--group", "PG1", "--sex", "women")
         given = node.call("cli_portfolio.classesText", request("answers.read", book), "PG1",
                           "women")
