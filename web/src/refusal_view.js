@@ -23,7 +23,7 @@ const { SHORT, BAD_LENGTH, SST_YEAR } = MESSAGES;
 const START_FIELDS = [["code", 0, 1], ["sex", 1, 1], ["class", 2, 1], ["next", 4, 2]];
 const REMARK = "Nothing is computed for a refused book. This is its first fault: there may be more "
   + "behind it.";
-const NO_WORKBOOKS = "This page reads no workbooks: save the five sheets of a workbook as CSV files, "
+const NO_WORKBOOKS = "This page reads no workbooks: save the five sheets of one as CSV files, "
   + "and open these.";
 // How a workbook begins.
 const WORKBOOK = "PK";
