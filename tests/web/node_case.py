@@ -1,23 +1,8 @@
 """Tests that ask one process of node and compare texts."""
 
-import os
-import tempfile
-from pathlib import Path
-
 from tests.support.case import Case
-from tests.web.node import VARIABLE, Node
-from tests.web.proved_module import module_path
-from tools.web_tables import TABLES, tables_text
-
-
-def write_tables():
-    """Write the tables as the package has them now; another test that reads them finds a whole
-    file."""
-    TABLES.parent.mkdir(parents=True, exist_ok=True)
-    with tempfile.TemporaryDirectory(dir=TABLES.parent) as folder:
-        path = Path(folder) / TABLES.name
-        path.write_text(tables_text(), encoding="utf-8")
-        os.replace(path, TABLES)
+from tests.web.node import Node
+from tools.web_tables import write_tables
 
 
 def first_difference(given, due):
@@ -33,7 +18,6 @@ class NodeCase(Case):
     @classmethod
     def setUpClass(cls):
         write_tables()
-        os.environ[VARIABLE] = str(module_path())
         cls.node = Node()
         cls.addClassCleanup(cls.node.close)
         super().setUpClass()

@@ -9,10 +9,9 @@ from datetime import date
 from tests import ROOT
 from tests.cli.run import sample
 from tests.support.report import run_unit_tests
-from tests.web.node import node_path
+from tests.web.node import module_path, node_path
 from tests.web.node_case import NodeCase
 from tests.web.page_inputs import Pair, Titled, drawn_books, drawn_pairs
-from tests.web.proved_module import module_path
 from tools.sample_books import PAGES
 from tools.sample_pages import DAY, FOLDER, WORDS
 
