@@ -23,7 +23,7 @@ class NodeCase(Case):
         super().setUpClass()
 
     def same(self, name, given, due):
-        """A check that texts are the same, each with the next."""
+        """A check that all texts are as due; where one is not, the first difference is shown."""
         differing = [(at, *pair) for at, pair in enumerate(zip(given, due, strict=True))
                      if pair[0] != pair[1]]
         detail = ""

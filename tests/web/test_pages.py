@@ -31,7 +31,7 @@ BOOKS, PAIRS = 330, 180
 ACCEPTED = ("one_record", "worked_example", "edition_2", "small_insurer", "full", "last_year",
             "this_year", "this_year_slipped")
 REFUSED = ("lapse_too_large", "newer_basis")
-# Signals of nearly equal likelihoods: beyond so many digits they are not the same.
+# The package's logarithms may differ in the last digit; a signal differs by less than this.
 SAME = 1e-9
 LARGEST_EXACT = 2**53
 
