@@ -126,6 +126,10 @@ class Used(PageCase):
             self.check(f"{name}: every control has a name", not unnamed, str(unnamed)[:500])
             self.check(f"{name}: what is new is announced", any(
                 each["role"]["value"] == "status" for each in nodes))
+            names = {each.get("name", {}).get("value") for each in nodes
+                     if each["role"]["value"] == "textbox"}
+            self.check(f"{name}: fields have their labels", names == {"Start number", "Insurer"},
+                       str(names))
         self.check("language", self.browser.value("document.documentElement.lang") == "en")
 
     def test_every_view_fits_every_width(self):
