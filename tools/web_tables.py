@@ -10,8 +10,10 @@ import argparse
 import ast
 import importlib
 import json
+import os
 import re
 import sys
+import tempfile
 from dataclasses import fields, is_dataclass
 from enum import Enum
 from pathlib import Path
@@ -30,8 +32,9 @@ MODULES = (
     "compare_page", "cli.books", "cli.check", "cli.compare", "cli.figures", "cli.files",
     "cli.pages", "cli.portfolio",
 )
-# What is made of LAYOUT's fields, and what only the command has.
-LEFT_OUT = {("sheets", "RANGES"), ("cli.files", "ENDING")}
+# What is made of other constants, and what only the command has.
+LEFT_OUT = {("sheets", "RANGES"), ("sheets", "KINDS"), ("cell_numbers", "THOUSANDS"),
+            ("cli.files", "ENDING"), ("cli.files", "STANDARD")}
 # Whole numbers beyond this are no numbers of JavaScript.
 EXACT = 2**53
 # A field's name that ends with a number.
@@ -167,13 +170,20 @@ def tables_text():
     return "".join(parts)
 
 
+def write_tables(path=TABLES):
+    """Write the file; whoever reads it meanwhile finds a whole one."""
+    path.parent.mkdir(parents=True, exist_ok=True)
+    with tempfile.TemporaryDirectory(dir=path.parent) as folder:
+        part = Path(folder) / path.name
+        part.write_text(tables_text(), encoding="utf-8")
+        os.replace(part, path)
+
+
 def main():
-    """Write the file."""
+    """Write the file, or another that is named."""
     parser = argparse.ArgumentParser(description=__doc__.splitlines()[0])
     parser.add_argument("path", nargs="?", type=Path, default=TABLES)
-    path = parser.parse_args().path
-    path.parent.mkdir(parents=True, exist_ok=True)
-    path.write_text(tables_text(), encoding="utf-8")
+    write_tables(parser.parse_args().path)
 
 
 if __name__ == "__main__":

@@ -10,9 +10,9 @@ import tempfile
 from pathlib import Path
 
 from tests import ROOT
-from tests.targets import bridged
 from tests.support.command import run
 from tests.support.debian import install
+from tests.targets import bridged
 from tools.targets.adapters import is_struct
 from tools.targets.header import calls
 

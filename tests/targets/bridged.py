@@ -6,8 +6,8 @@ import tempfile
 from pathlib import Path
 
 from tests import ROOT
-from tests.targets.bridge import SUITES, OtherSide, answered_by, calls, run_suite
 from tests.support.case import Case
+from tests.targets.bridge import SUITES, OtherSide, answered_by, calls, run_suite
 from tools.targets import FOLDER
 from tools.targets.build import build, build_target
 from tools.targets.capture import captured

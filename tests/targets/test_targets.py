@@ -5,10 +5,11 @@ import sys
 import tempfile
 from pathlib import Path
 
-from tests.targets import wasm_file, windows_file
-from tests.targets.struct_assertions import failing, layouts
+from tests import ROOT
 from tests.support.case import Case
 from tests.support.report import run_unit_tests
+from tests.targets import wasm_file, windows_file
+from tests.targets.struct_assertions import failing, layouts
 from tools.targets import FOLDER
 from tools.targets.build import build
 from tools.targets.capture import ARCHIVE, MODULE, captured, words_captured
@@ -22,6 +23,7 @@ MAY_CHANGE = re.compile(r"target (?:datalayout|triple) = |attributes #0 = |defin
 EXTERNAL = re.compile(r"^define (?!internal).*@(\w+)\(", re.M)
 # Of a function's first line these may change: its own name, and what belongs to the convention.
 OF_CONVENTION = re.compile(r"hidden |x86_64_sysvcc | byval\(\[\d+ x i8\]\)|proved_")
+SHARED_NAME = re.compile(r"^SHARED := (\S+)$", re.M)
 LINUX = "x86_64-unknown-linux-gnu"
 WASM, DLL, SHARED, STATIC = (FOLDER / name for name in (
     "wasm32/xaropinto.wasm", "windows-x86_64/xaropinto.dll", "linux-arm64/libxaropinto.so.2",
@@ -73,9 +75,18 @@ class Targets(Case):
 
     def test_two_builds_have_the_same_bytes(self):
         with tempfile.TemporaryDirectory() as folder:
-            for path in build(folder):
+            paths = build(folder)
+            for path in paths:
                 due = FOLDER / path.relative_to(folder)
                 self.check(due.name, path.read_bytes() == due.read_bytes())
+            paths[-1].unlink()
+            build(folder)
+            self.check("a file that is missing is built again", paths[-1].is_file())
+
+    def test_shared_library_has_the_name_of_make_lib(self):
+        [due] = SHARED_NAME.findall((ROOT / "Makefile").read_text(encoding="utf-8"))
+        printed = run_tool("llvm-readobj", "--dynamic-table", SHARED)
+        self.assertIn(f"SONAME   Library soname: [{due}]", printed)
 
     def test_exported_are_the_headers_calls(self):
         module = WASM.read_bytes()

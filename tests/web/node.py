@@ -10,10 +10,11 @@ from collections import deque
 
 from tests import ROOT
 from tests.support.debian import install
+from tools.targets.build import build
 
 SERVER = ROOT / "tests" / "web" / "node_server.mjs"
-# What `make web` compiles; a path set here is taken in its place.
-MODULE, VARIABLE = ROOT / "target" / "web" / "xaropinto.wasm", "XAROPINTO_WASM"
+# A path of the compiled module that is set here is taken in place of the one that is built.
+VARIABLE = "XAROPINTO_WASM"
 # Numbers of JavaScript are whole up to here.
 EXACT = 2**53
 # Requests that are sent before the first reply is read: fewer than fill both pipes.
@@ -73,12 +74,16 @@ def node_path():
     return found
 
 
+def module_path():
+    """The proved calls in WebAssembly, built where the environment names no others."""
+    return os.environ.get(VARIABLE) or next(path for path in build() if path.suffix == ".wasm")
+
+
 class Node:
-    """The process, until it is closed; with the compiled module the calls can be asked too."""
+    """The process, until it is closed."""
 
     def __init__(self):
-        module = os.environ.get(VARIABLE) or MODULE
-        self.process = subprocess.Popen([node_path(), str(SERVER), str(module)],
+        self.process = subprocess.Popen([node_path(), str(SERVER), str(module_path())],
                                         stdin=subprocess.PIPE, stdout=subprocess.PIPE)
 
     def __enter__(self):

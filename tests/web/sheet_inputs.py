@@ -10,7 +10,8 @@ from tests import ROOT
 sys.path.insert(0, str(ROOT / "python"))
 
 from xaropinto import answers  # noqa: E402
-from xaropinto.sheets import csv_files  # noqa: E402
+from xaropinto.sheets import csv_file, csv_files, read_sheets  # noqa: E402
+from xaropinto.tables import saved_table  # noqa: E402
 
 # What people enter for a number or a name: read, read in one unit only, or turned away.
 WORDS = (
@@ -41,6 +42,15 @@ class Saved(NamedTuple):
     def read_bytes(self):
         """All of it."""
         return self.held
+
+
+def read_saved(files):
+    """The book of saved files, as the command writes it."""
+    def table(kind):
+        name = csv_file(kind)
+        return saved_table(Saved(name, files[name]))
+
+    return answers.write(read_sheets(table))
 
 
 def drawn_sheets(chooser):

@@ -4,7 +4,7 @@ import random
 import re
 import sys
 import tempfile
-from dataclasses import fields, is_dataclass, replace
+from dataclasses import replace
 from datetime import date
 from pathlib import Path
 
@@ -13,6 +13,7 @@ from reference.book import (PG2_MEN, Portfolio, make_book, random_book, random_v
 from reference.layout import CHAINS, changed, record
 from tests import ROOT
 from tests.api.funds_cases import CASES as FUNDS_CASES
+from tests.api.funds_cases import TABLE, WOMEN_BOOK
 from tests.cli import test_plausibility as cases
 from tests.cli.run import SAMPLES, sample, without_warnings, xaropinto
 from tests.fixtures.accounts import random_accounts
@@ -22,17 +23,17 @@ from tests.fixtures.claims import random_claims
 from tests.fixtures.damage import any_book, damaged
 from tests.fixtures.insurers import LOWEST, flat_values, repeated_book
 from tests.fixtures.risk_models import BY_HAND as MODELS
-from tests.support.case import Case
 from tests.support.differential import Differential
 from tests.support.report import run_unit_tests
-from tests.web.node import Node, NodeError, request
-from tests.web.sheet_inputs import Saved, drawn_sheets
-from tools.web_tables import TABLES, in_camel_case, tables_text
+from tests.web.asked import Asked, Drawn, NodeCase, as_plain, node, outcome
+from tests.web.node import NodeError, request
+from tests.web.sheet_inputs import drawn_sheets, read_saved
+from tools.web_tables import in_camel_case
 
 sys.path.insert(0, str(ROOT / "python"))
 
-from xaropinto import (answers, cell_numbers, distances, faults, layout, messages,  # noqa: E402
-                       number_format, plausibility, portfolio, refusals, sheets, tables)
+from xaropinto import (answers, faults, layout, messages, plausibility, portfolio,  # noqa: E402
+                       refusals, sheets)
 from xaropinto.age_shift import age_shift  # noqa: E402
 from xaropinto.cli.check import faults_line, means_line  # noqa: E402
 from xaropinto.cli.portfolio import age_shift_text  # noqa: E402
@@ -52,108 +53,6 @@ SHEET_RULES = (
     "the separator is", "begins with its mark", "or Windows-1252 is due", "unexpected end of data",
     "expected after", "there are")
 RULES = [rule.name for rule in plausibility.RULES]
-# Parts of sequences of UTF-8 and UTF-16, whole and broken.
-PARTS = (*(bytes([first]) for first in (0x41, 0x7F, 0x80, 0x81, 0x8F, 0x90, 0x9F, 0xA0, 0xBF, 0xC1,
-                                        0xC2, 0xDF, 0xE0, 0xE1, 0xEC, 0xED, 0xEF, 0xF0, 0xF3, 0xF4,
-                                        0xF5, 0xFF)),
-         b"ab", b"\xc3\xa9", b"\xe2\x82\xac", b"\xf0\x9f\x98\x80", b"\x00\xd8", b"\x00\xdc",
-         b"\xd8\x3d", b"\xde\x00", b"\x3d\xd8\x00\xde", b"\xd8\x3d\xde\x00")
-node = None
-
-
-def setUpModule():
-    """One process for all tests, on the tables as the package has them now."""
-    global node
-    TABLES.parent.mkdir(parents=True, exist_ok=True)
-    TABLES.write_text(tables_text(), encoding="utf-8")
-    node = Node()
-
-
-def tearDownModule():
-    """End it."""
-    node.close()
-
-
-def as_plain(held):
-    """A result of the package as the modules give it."""
-    if isinstance(held, answers.RefusedError):
-        return ("RefusedError", held.number, held.place, held.words, held.owner)
-    if isinstance(held, tables.BadLineError):
-        return ("BadLineError", str(held))
-    if hasattr(held, "_fields") or is_dataclass(held):
-        names = getattr(held, "_fields", None) or [each.name for each in fields(held)]
-        return {in_camel_case(name): as_plain(getattr(held, name)) for name in names}
-    if isinstance(held, dict):
-        return {name: as_plain(each) for name, each in held.items()}
-    return [as_plain(each) for each in held] if isinstance(held, (tuple, list)) else held
-
-
-def outcome(function, *arguments):
-    """What a function of the package gives, or the error that it ends with."""
-    try:
-        return as_plain(function(*arguments))
-    except (answers.RefusedError, tables.BadLineError) as error:
-        return as_plain(error)
-
-
-def in_node(reply):
-    """What a function of the modules gave, or the error that it ended with."""
-    if not isinstance(reply, NodeError):
-        return reply
-    if reply.name == "RefusedError":
-        held = reply.fields
-        return (reply.name, held["number"], held["place"], held["words"], held["owner"])
-    return (reply.name, reply.message)
-
-
-class Asked:
-    """Requests to the modules, each with what is due of it."""
-
-    def __init__(self):
-        self.requests, self.due = [], []
-
-    def ask(self, due, *asked):
-        """One more: what is due, the function and its arguments."""
-        self.requests.append(asked)
-        self.due.append(due)
-
-    def replies(self):
-        """The function asked, what it gave, what is due, and its arguments."""
-        for asked, due, given in zip(self.requests, self.due, node.outcomes(self.requests)):
-            yield asked[0], in_node(given), due, asked[1:]
-
-
-class NodeCase(Case):
-    """Tests of which every reply counts for its function."""
-
-    def same(self, name, asked):
-        """A check that all replies are as due."""
-        differing = [reply for reply in asked.replies() if reply[1] != reply[2]]
-        self.assertTrue(asked.requests)
-        detail = f"{len(differing)} differ, the first: {str(differing[:1])[:1_500]}"
-        self.check(name, not differing, detail)
-
-
-class Drawn:
-    """Random inputs, all of which are asked for at once."""
-
-    @classmethod
-    def draw(cls, chooser):
-        asked = Asked()
-        for number in range(cls.number):
-            cls.ask(asked, number, chooser)
-        for function, given, due, arguments in asked.replies():
-            cls.tally.compare(function, given, due, f"gives {given!r:.600}, due is {due!r:.600}",
-                              cls.kept(arguments))
-
-    @classmethod
-    def kept(cls, arguments):
-        """A number and the book of a request that differs."""
-        book = arguments[0] if isinstance(arguments[0], bytes) else b""
-        return (sum(cls.tally.replies.values()), book)
-
-    def test_agreement(self):
-        self.check_agreement()
 
 
 class Refusals(Drawn, Differential):
@@ -296,6 +195,7 @@ class Thresholds(NodeCase):
         held += [cases.with_mortality(sex, 100, mortality()[sex][90] + more)
                  for sex in range(2) for more in range(2)]
         held += [cases.with_mortality(0, age, mortality()[0][50]) for age in (39, 40)]
+        held += [cases.with_mortality(1, 110, mortality()[1][100])]
         held += [cases.with_women_above(classes) for classes in (60, 61)]
         held += [replace(cases.plain_values(), curve=[0] * 48 + [rate]) for rate in range(2)]
         held += [cases.with_old_contracts(count) for count in (10, 11)]
@@ -310,18 +210,9 @@ class Thresholds(NodeCase):
     def test_today_is_the_clock(self):
         book = make_book(replace(cases.plain_values(), sst_year=2100))
         before = as_plain(plausibility.notes_of(book))
-        given = node.call("plausibility.notesOf", book)
+        given = node().call("plausibility.notesOf", book)
         self.assertIn(given, (before, as_plain(plausibility.notes_of(book))))
         self.assertEqual([note["name"] for note in given], ["sst-year"])
-
-
-def read_saved(files):
-    """The book of saved files, as the command writes it."""
-    def table(kind):
-        name = sheets.csv_file(kind)
-        return tables.saved_table(Saved(name, files[name]))
-
-    return answers.write(sheets.read_sheets(table))
 
 
 class SavedSheets(Drawn, Differential):
@@ -379,8 +270,9 @@ class OtherRefusals(NodeCase):
 
     def test_funds(self):
         asked, seen = Asked(), set()
-        for pair in FUNDS_CASES:
-            held = pair.table, pair.first, pair.second
+        files = [(pair.table, pair.first, pair.second) for pair in FUNDS_CASES]
+        files += [(TABLE, b"text", b"text " * 40), (b"text", b"", b"%PDF" + bytes(100))]
+        for held in files:
             replies = answers.funds(*held)
             asked.ask([refused_fields(reply) for reply in replies], "answers.funds", *held)
             for reply, fund in zip(replies, held[1:]):
@@ -442,99 +334,6 @@ def refused_fields(reply):
             "words": reply.words, "owner": reply.owner}
 
 
-class Numbers(NodeCase):
-    """Numbers and texts as Python writes them; ties, signs and ranges."""
-
-    def setUp(self):
-        self.asked, self.chooser = Asked(), random.Random(35)
-
-    def doubles(self, count):
-        """Doubles of every size, and many that are halfway between two numbers of few digits."""
-        for _ in range(count):
-            yield self.chooser.choice((
-                self.chooser.uniform(-1e7, 1e7), self.chooser.randint(-10**6, 10**6) / 8,
-                self.chooser.randint(-999, 999) + 0.5, self.chooser.random() * 10.0 ** -9,
-                self.chooser.randint(-2**60, 2**60) / 2**self.chooser.randint(0, 60), -0.0))
-
-    def test_decimals(self):
-        for number in self.doubles(1_500):
-            decimals = self.chooser.randint(0, 4)
-            self.asked.ask(f"{number:.{decimals}f}", "python_text.fixed", number, decimals)
-            self.asked.ask(f"{number:,.{decimals}f}", "python_text.fixedGrouped", number, decimals)
-            self.asked.ask(number_format.francs(number), "number_format.francs", number)
-            self.asked.ask(number_format.percent(number), "number_format.percent", number)
-        self.same("numbers with decimals", self.asked)
-
-    def test_whole_numbers(self):
-        for _ in range(600):
-            number = self.chooser.choice((1, -1)) * self.chooser.randrange(
-                10**self.chooser.randint(1, 19))
-            for name in ("swiss", "million_francs"):
-                due = getattr(number_format, name)(number)
-                self.asked.ask(due, f"number_format.{in_camel_case(name)}", number)
-            near = self.chooser.randint(-20, 20) * 100_000 + self.chooser.choice((-50_000, 49_999))
-            self.asked.ask(number_format.million_francs(near), "number_format.millionFrancs", near)
-            few = self.chooser.randint(0, 2)
-            self.asked.ask(number_format.counted(few, "one", "many"), "number_format.counted", few,
-                           "one", "many")
-            n, ordinary = self.chooser.randint(0, 1_694), self.chooser.random() < 0.5
-            for name in ("group_distance", "total_distance"):
-                self.asked.ask(getattr(distances, name)(n, ordinary),
-                               f"distances.{in_camel_case(name)}", n, ordinary)
-        self.same("whole numbers", self.asked)
-
-    def test_quotients(self):
-        for _ in range(1_000):
-            one, other = (self.chooser.choice((1, -1)) * self.chooser.randint(
-                1, 2**self.chooser.randint(1, 90)) for _ in range(2))
-            # Numbers of JSON that are whole are no doubles here.
-            due = one / other
-            self.asked.ask(f"{due:.4f}", "python_text.fixed",
-                           request("python_text.quotient", one, other), 4)
-            if abs(due) < 1:
-                self.asked.ask(due, "python_text.quotient", one, other)
-        self.same("quotients of whole numbers", self.asked)
-
-    def test_texts(self):
-        for _ in range(1_000):
-            code = self.chooser.choice((range(0x300), range(128), range(0x2000, 0x2070),
-                                        (39, 34, 92, 10, 0xFEFF, 0x1F600, 0xE000, 0x17F, 0x212A)))
-            text = "".join(chr(self.chooser.choice(code))
-                           for _ in range(self.chooser.randint(0, 5)))
-            self.asked.ask(repr(text), "python_text.quoted", text)
-            self.asked.ask(text.strip(), "python_text.stripped", text)
-        for byte in range(256):
-            self.asked.ask(repr(bytes([byte])), "python_text.quotedByte", byte)
-        self.same("texts in quotes", self.asked)
-
-    def test_folded_to_ascii(self):
-        letters = [chr(code) for code in range(0x110000) if not 0xD800 <= code < 0xE000]
-        ascii_ones = [letter for letter in letters if letter.casefold().isascii()]
-        for letter in ascii_ones:
-            self.asked.ask(letter.casefold(), "python_text.folded", letter)
-        self.same("letters that fold to ASCII", self.asked)
-
-    def test_cells(self):
-        columns = ("count", "lapse_millionths", "premium_centimes", "x_thousandths", "class")
-        for _ in range(2_000):
-            digits = "".join(self.chooser.choice("0123456789.'\u2019,-")
-                             for _ in range(self.chooser.randint(0, 7)))
-            headings = cell_numbers.headings_of(self.chooser.choice(columns))
-            unit = self.chooser.choice(list(headings.values()))
-            low, high = sorted(self.chooser.choice((0, -10_000, 1, 2_017, 2_100, 12_345, 10**6, 7))
-                               for _ in range(2))
-            try:
-                due = cell_numbers.number_of(digits, unit, low, high)
-            except cell_numbers.NoNumberError as wrong:
-                due = ("NoNumberError", str(wrong))
-            self.asked.ask(due, "cell_numbers.numberOf", digits, as_plain(unit), low, high)
-        for column in columns:
-            held = cell_numbers.headings_of(column).items()
-            self.asked.ask([[name, as_plain(unit)] for name, unit in held],
-                           "cell_numbers.headingsOf", column)
-        self.same("cells", self.asked)
-
-
 class Layout(NodeCase):
     """The fields of a book, from the one place where they are defined."""
 
@@ -572,8 +371,8 @@ class Commands(NodeCase):
                 path.write_bytes(book)
             for every in (True, False):
                 printed, reported = self.printed("check", *paths, *["--all"] * every, refused=True)
-                replies = node.calls([("cli_check.checkFile", str(path), book, every)
-                                      for path, book in zip(paths, books)])
+                replies = node().calls([("cli_check.checkFile", str(path), book, every)
+                                        for path, book in zip(paths, books)])
                 self.check(f"verdicts, every fault: {every}",
                            printed == [line for each in replies for line in each["printed"]])
                 self.check(f"words beside them, every fault: {every}",
@@ -584,7 +383,7 @@ class Commands(NodeCase):
                                       ("lapse_too_large", 1, True)):
             path = sample(name)
             printed, _ = self.printed("record", path, number, refused=refused)
-            given = node.call("cli_record.recordLines", str(path), path.read_bytes(), number)
+            given = node().call("cli_record.recordLines", str(path), path.read_bytes(), number)
             self.check(f"record {number} of {name}", given == printed, given)
 
     def test_no_such_record(self):
@@ -592,18 +391,22 @@ class Commands(NodeCase):
         for number in (0, 4):
             run = xaropinto("record", path, number)
             with self.assertRaises(NodeError) as caught:
-                node.call("cli_record.recordLines", str(path), path.read_bytes(), number)
+                node().call("cli_record.recordLines", str(path), path.read_bytes(), number)
             self.assertEqual(run.errors, f"xaropinto: {caught.exception.message}\n")
 
     def test_classes_and_age_shift(self):
-        for name in ("small_insurer", "full"):
-            book = sample(name).read_bytes()
-            printed, _ = self.printed("age-shift", sample(name))
-            given = node.call("cli_portfolio.ageShiftText", request("age_shift.ageShift", book))
-            self.check(f"age shift of {name}", given.splitlines() == printed)
+        with tempfile.TemporaryDirectory() as folder:
+            one = Path(folder) / "one_contract.book"
+            one.write_bytes(WOMEN_BOOK)
+            for path in (one, sample("small_insurer"), sample("full")):
+                book = path.read_bytes()
+                printed, _ = self.printed("age-shift", path)
+                given = node().call("cli_portfolio.ageShiftText",
+                                    request("age_shift.ageShift", book))
+                self.check(f"age shift of {path.name}", given.splitlines() == printed)
         printed, _ = self.printed("classes", sample("full"), "--group", "PG1", "--sex", "women")
-        given = node.call("cli_portfolio.classesText", request("answers.read", book), "PG1",
-                          "women")
+        given = node().call("cli_portfolio.classesText", request("answers.read", book), "PG1",
+                            "women")
         self.check("classes", given.splitlines() == printed)
 
     def test_a_missing_file(self):
@@ -613,43 +416,9 @@ class Commands(NodeCase):
             for name, held in files.items():
                 (Path(folder) / name).write_bytes(held)
             run = xaropinto("write", folder, "-o", Path(folder) / "book")
-            given = node.outcomes([("sheets.readSheets", request("sheets.folderTables", files))])[0]
-            self.assertEqual(re.sub(r".*/", "", run.errors), given.message + "\n")
-
-
-class Encodings(NodeCase):
-    """Texts of every encoding, and where the first bytes are that are none."""
-
-    def test_where_a_text_ends(self):
-        asked, chooser, seen = Asked(), random.Random(37), set()
-        for _ in range(4_000):
-            encoding = chooser.choice(("utf-8", "utf-8-sig", "utf-16", "cp1252"))
-            raw = b"".join(chooser.choice(PARTS) for _ in range(chooser.randint(0, 6)))
-            if encoding == "utf-16":
-                raw = chooser.choice((b"\xff\xfe", b"\xfe\xff")) + raw
-            elif encoding == "utf-8-sig":
-                raw = b"\xef\xbb\xbf" + raw
-            try:
-                due = {"text": raw.decode(encoding)}
-            except UnicodeDecodeError as wrong:
-                due = {"wrong": wrong.start}
-            seen.add((encoding, *due))
-            asked.ask(due, "encodings.decode", raw, encoding)
-        self.assertEqual(len(seen), 8)
-        self.same("bytes in four encodings", asked)
-
-
-class LongCells(NodeCase):
-    """A cell that Python's csv module refuses for its length."""
-
-    def test_the_longest_cell(self):
-        asked = Asked()
-        files = sheets.csv_files(answers.read(sample("worked_example").read_bytes()))
-        for letters in (131_072, 131_073):
-            long = {**files, "header.csv": b'field,"' + "é".encode() * letters + b'"\n'}
-            asked.ask(outcome(read_saved, long), "sheets.readSheets",
-                      request("sheets.folderTables", long))
-        self.same("cells of 131,072 letters and of one more", asked)
+            with self.assertRaises(NodeError) as caught:
+                node().call("sheets.readSheets", request("sheets.folderTables", files))
+            self.assertEqual(re.sub(r".*/", "", run.errors), caught.exception.message + "\n")
 
 
 if __name__ == "__main__":

@@ -8,10 +8,10 @@ from pathlib import Path
 from unittest import mock
 
 from tests import ROOT
-from tests.targets import bridged
 from tests.support.command import run
 from tests.support.debian import install
 from tests.support.report import run_unit_tests
+from tests.targets import bridged
 from tools.targets import build
 from tools.targets.capture import captured
 from tools.targets.retarget import WASM32

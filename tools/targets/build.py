@@ -2,6 +2,7 @@
 
 import contextlib
 import fcntl
+import hashlib
 import os
 import tempfile
 from pathlib import Path
@@ -10,10 +11,11 @@ from tools.targets import FOLDER, HEADER, BuildError
 from tools.targets.adapters import adapters
 from tools.targets.capture import captured, words_captured
 from tools.targets.header import calls
-from tools.targets.kit import run_tool
+from tools.targets.kit import home, run_tool
 from tools.targets.retarget import ARM64, TARGETS, WASM32, WINDOWS, retarget, two_word_calls
 
 C_FOLDER = Path(__file__).resolve().parent / "c"
+SOURCES = (".py", ".c", ".h", ".s")
 # Of clang's arguments these belong to the captured target.
 OF_TARGET = ("--target=", "-march=", "--sysroot=", "-O", "-fPIC")
 ASSEMBLED = ("--no-default-config", "-Werror", "-c")
@@ -30,17 +32,39 @@ OPTIMISED = {
 }
 STACK_BYTES = 256 * 1024
 SONAME = "libxaropinto.so.2"
+FILES = {
+    WASM32: ("xaropinto.wasm",),
+    WINDOWS: ("xaropinto.dll", "xaropinto.lib"),
+    ARM64: (SONAME, "libxaropinto.a"),
+}
 
 
 def build(folder=FOLDER):
-    """Build every target into its folder; the paths of all files.
+    """Build every target into its folder, unless it stands there; the paths of all files.
 
     Two builds at once wait for each other, and a file is replaced only by a whole one.
     """
+    folder = Path(folder)
     FOLDER.mkdir(parents=True, exist_ok=True)
+    paths = [folder / target.name / name for target in TARGETS for name in FILES[target]]
     with locked(FOLDER / "lock"):
         module = captured()
-        return [path for target in TARGETS for path in build_target(module, target, folder)]
+        stamp, state = folder / "built", state_of(module)
+        if not (stamp.is_file() and stamp.read_text(encoding="ascii") == state
+                and all(path.is_file() for path in paths)):
+            stamp.unlink(missing_ok=True)
+            for target in TARGETS:
+                build_target(module, target, folder)
+            stamp.write_text(state, encoding="ascii")
+    return paths
+
+
+def state_of(module):
+    """What the files are made of, in one sum: module, kit, header, and what is in this folder."""
+    paths = [home() / "KIT-ID", HEADER,
+             *sorted(path for path in C_FOLDER.parent.rglob("*") if path.suffix in SOURCES)]
+    parts = [module.encode("utf-8"), *(path.read_bytes() for path in paths)]
+    return hashlib.sha256(b"".join(hashlib.sha256(part).digest() for part in parts)).hexdigest()
 
 
 @contextlib.contextmanager
@@ -64,10 +88,10 @@ def build_target(module, target, folder):
             text = adapters(calls(), two_word_calls(module, names))
             (work / "adapters.c").write_text(text, encoding="utf-8")
             compile_c(target, "adapters.c", work)
-        built = LINKED[target](work, names)
-        for path in built:
-            os.replace(path, place / path.name)
-    return [place / path.name for path in built]
+        LINKED[target](work, names)
+        for name in FILES[target]:
+            os.replace(work / name, place / name)
+    return [place / name for name in FILES[target]]
 
 
 def module_words(target):
@@ -95,7 +119,6 @@ def link_wasm(work, names):
              f"stack-size={STACK_BYTES}", "--export=__heap_base", "--strip-all",
              *(f"--export={name}" for name in names), "proved.o", "-o", "xaropinto.wasm",
              folder=work)
-    return [work / "xaropinto.wasm"]
 
 
 def link_windows(work, names):
@@ -105,7 +128,6 @@ def link_windows(work, names):
     run_tool("lld-link", "/dll", "/noentry", "/nodefaultlib", "/machine:x64", "/Brepro",
              "/out:xaropinto.dll", "/implib:xaropinto.lib", *(f"/export:{name}" for name in names),
              "adapters.o", "proved.o", "memory.o", "stack_probe.o", folder=work)
-    return [work / "xaropinto.dll", work / "xaropinto.lib"]
 
 
 def link_arm64(work, names):
@@ -119,7 +141,6 @@ def link_arm64(work, names):
              "exported.ld", "--no-undefined", "--build-id=none", "--strip-all", "-z", "noexecstack",
              "-z", "relro", "-z", "now", "proved.o", "adapters.o", "memory.o", "-o", SONAME,
              folder=work)
-    return [work / SONAME, work / "libxaropinto.a"]
 
 
 LINKED = {WASM32: link_wasm, WINDOWS: link_windows, ARM64: link_arm64}

@@ -36,8 +36,11 @@ def clang():
 
 def run_tool(name, *words, folder=None):
     """Run a tool of the kit's LLVM by its name; what it printed."""
+    program = clang()
+    # Clang looks for itself by its path.
+    called = str(program) if name == program.name else name
     ended = subprocess.run(
-        [name, *map(str, words)], executable=clang(), cwd=folder, stdin=subprocess.DEVNULL,
+        [called, *map(str, words)], executable=program, cwd=folder, stdin=subprocess.DEVNULL,
         capture_output=True, text=True, timeout=MOST_SECONDS, check=False)
     if ended.returncode:
         raise BuildError(f"{name} ended with {ended.returncode}: {ended.stderr or ended.stdout}")
