@@ -2,6 +2,7 @@
 
 from tests.support.case import Case
 from tests.web.node import Node
+from tools.web_tables import write_tables
 
 
 def first_difference(given, due):
@@ -16,12 +17,13 @@ class NodeCase(Case):
 
     @classmethod
     def setUpClass(cls):
+        write_tables()
         cls.node = Node()
         cls.addClassCleanup(cls.node.close)
         super().setUpClass()
 
     def same(self, name, given, due):
-        """A check that texts are the same, each with the next."""
+        """A check that all texts are as due; where one is not, the first difference is shown."""
         differing = [(at, *pair) for at, pair in enumerate(zip(given, due, strict=True))
                      if pair[0] != pair[1]]
         detail = ""

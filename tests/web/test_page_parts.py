@@ -17,8 +17,15 @@ from xaropinto import age_alignment, charts, html_parts  # noqa: E402
 from xaropinto.compare_page import signal_words, times  # noqa: E402
 
 NUMBERS, CHARTS = 3_000, 100
-CODES = 0x110000
+CODES, LATIN_ENDS = 0x110000, 0x2FF
+# What stands for what is no text; categories that no later version of Unicode changes.
+MARK, FIXED = "\ufffd", ("Cc", "Cs")
 MOST_AMOUNT = 10_000_000
+
+
+def is_never_assigned(code):
+    """Whether no version of Unicode has a character for it."""
+    return 0xFDD0 <= code <= 0xFDEF or code & 0xFFFE == 0xFFFE
 
 
 class Parts(NodeCase):
@@ -36,12 +43,14 @@ class Parts(NodeCase):
         # The space itself is shown as two empty words.
         given[32:34] = [" "]
         due = [html_parts.text(chr(code)) for code in range(CODES)]
-        newer = [code for code in range(CODES) if given[code] != due[code]
-                 and given[code] == chr(code) and unicodedata.category(chr(code)) == "Cn"]
-        print(f"characters that are newer than the package's table: {len(newer):,}")
+        # Characters that one of the two tables of Unicode does not have yet.
+        newer = [code for code in range(CODES) if {given[code], due[code]} == {chr(code), MARK}
+                 and unicodedata.category(chr(code)) not in FIXED and not is_never_assigned(code)]
+        self.check("newer characters are of late blocks", min(newer, default=CODES) > LATIN_ENDS,
+                   str(newer[:5]))
         for code in newer:
             given[code] = due[code]
-        self.same("all characters but newer ones", given, due)
+        self.same("all other characters", given, due)
 
     def test_logarithms(self):
         chooser = random.Random(53)

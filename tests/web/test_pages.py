@@ -1,7 +1,6 @@
 """Pages and comparisons of the web page's modules: letter for letter those of the package."""
 
 import json
-import os
 import subprocess
 import sys
 import unittest.mock
@@ -10,7 +9,7 @@ from datetime import date
 from tests import ROOT
 from tests.cli.run import sample
 from tests.support.report import run_unit_tests
-from tests.web.node import MODULE, VARIABLE, node_path
+from tests.web.node import module_path, node_path
 from tests.web.node_case import NodeCase
 from tests.web.page_inputs import Pair, Titled, drawn_books, drawn_pairs
 from tools.sample_books import PAGES
@@ -32,14 +31,9 @@ BOOKS, PAIRS = 330, 180
 ACCEPTED = ("one_record", "worked_example", "edition_2", "small_insurer", "full", "last_year",
             "this_year", "this_year_slipped")
 REFUSED = ("lapse_too_large", "newer_basis")
-# Signals of nearly equal likelihoods: beyond so many digits they are not the same.
+# The package's logarithms may differ in the last digit; a signal differs by less than this.
 SAME = 1e-9
 LARGEST_EXACT = 2**53
-
-
-def module_path():
-    """The compiled module."""
-    return os.environ.get(VARIABLE) or MODULE
 
 
 def imprint_of(titled):

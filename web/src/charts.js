@@ -8,7 +8,7 @@ import { text } from "./html_parts.js";
 import { swiss } from "./number_format.js";
 import { fixed } from "./python_text.js";
 
-const { WIDTH, HEIGHT, TOP, BOTTOM, RIGHT, PLOT_HEIGHT, LETTER, GAP, SAMPLE, SQUARE } = CHARTS;
+const { WIDTH, HEIGHT, TOP, RIGHT, PLOT_HEIGHT, LETTER, GAP, SAMPLE, SQUARE } = CHARTS;
 const { STEPS, MOST_STEPS, MARK_EVERY, ROW, MOST_ON_AN_AXIS } = CHARTS;
 const UNITS = /** @type {[number, string][]} */ (CHARTS.UNITS);
 

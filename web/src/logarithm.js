@@ -7,9 +7,9 @@
 
 // Splits a double into halves of 26 bits.
 const SPLITTER = 2 ** 27 + 1;
-// The logarithm of 2, and its terms of the series below that reach beyond 106 bits.
 /** @type {Pair} */
 const LOG_2 = [Math.LN2, 2.3190468138462996e-17];
+// Of the series below; what is left of it is less than a pair holds.
 const TERMS = 23;
 
 /**

@@ -2,6 +2,7 @@
 // that is opened from a file.
 
 const BLOCK_BYTES = 64, LENGTH_BYTES = 8;
+
 /**
  * The first primes.
  * @param {number} count
