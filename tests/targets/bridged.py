@@ -14,6 +14,8 @@ from tools.targets.capture import captured
 
 SAMPLES = sorted((ROOT / "samples").glob("*.book"))
 MOST_LISTING_BYTES, MOST_REPORT_BYTES = 512, 9_525
+# Of the three parts of a version.
+VERSION_WEIGHTS = (10_000, 100, 1)
 # In the costs of setting 5.
 CONSTANT, CHANGED = "store i64 1200,", "store i64 1201,"
 NOTICED_BY, NOTICED_WITH = "tests.api.test_base_calls", 20
@@ -68,8 +70,11 @@ class BridgedCase(Case):
                 tests, calls_made = tests + ended.passed, calls_made + ended.calls
         print(f"{self.target.name}: {tests} tests of {len(SUITES)} suites, {calls_made} calls")
 
-    def test_samples(self):
+    def test_version_and_samples(self):
+        parts = map(int, (ROOT / "VERSION").read_text(encoding="ascii").split("."))
         with self.side(self.folder) as side, answered_by(side):
+            due = sum(weight * part for weight, part in zip(VERSION_WEIGHTS, parts))
+            self.check("the version", calls.version() == due, calls.version())
             for path in SAMPLES:
                 book = path.read_bytes()
                 listing = text_of(calls.listing, book, most=MOST_LISTING_BYTES)

@@ -1,20 +1,22 @@
 /**
  * What web/src/calls.js itself does with arguments, memory and traps: a line for each test.
  *
- *     node tests/web/call_arguments.mjs MODULE.wasm SMALL_STACK.wasm BOOK
+ *     node tests/web/call_arguments.mjs MODULE.wasm SMALL_STACK.wasm SAMPLES
  */
 import assert from "node:assert/strict";
 import fs from "node:fs";
 import { openCalls } from "../../web/src/calls.js";
 
-const [modulePath, smallStackPath, bookPath] = process.argv.slice(2);
+const [modulePath, smallStackPath, samples] = process.argv.slice(2);
 
 function exportsOf(path) {
   return new WebAssembly.Instance(new WebAssembly.Module(fs.readFileSync(path)), {}).exports;
 }
 
 const calls = openCalls(exportsOf(modulePath));
-const book = new Uint8Array(fs.readFileSync(bookPath));
+const [book, oneRecord] = ["full", "one_record"].map(
+  (name) => new Uint8Array(fs.readFileSync(`${samples}/${name}.book`)),
+);
 const MARK = 7;
 const TABLE_NUMBERS = 200;
 const MEGABYTES = 1 << 20;
@@ -48,6 +50,12 @@ const TESTS = {
       calls.write({ ...values, firstClasses, ...changed }, ...empty, new Uint8Array(1220)).refusal;
     assert.equal(written({ curve }), 7n);
     assert.equal(written({ curve: [...values.curve.slice(1), -10000] }), 0n);
+  },
+  "what is negative in a reply has its sign"() {
+    assert.equal(calls.group(oneRecord, 0, 2, years()).liability, -5000000n);
+    assert.equal(calls.totals(oneRecord).totals[0], -5000000n);
+    assert.equal(calls.totals(book).differences[0], -31455909204664n);
+    assert.equal(calls.read(book, ...lists()).values.curve.some((rate) => rate > 2n ** 32n), false);
   },
   "a row that is too short is a RangeError"() {
     const rows = [1, 2, 3].map(() => [1, 2, 3, 4, 5]);

@@ -19,7 +19,7 @@ from tools.targets.retarget import WASM32
 NODE, PACKAGE = "node", "nodejs"
 SERVER = ROOT / "tests" / "web" / "call_server.mjs"
 ARGUMENTS = ROOT / "tests" / "web" / "call_arguments.mjs"
-BOOK = ROOT / "samples" / "full.book"
+SAMPLES = ROOT / "samples"
 TEST = re.compile(r"^(ok|FAILED) (.*)$", re.M)
 SMALL_STACK_BYTES = 4_096
 MOST_SECONDS = 60
@@ -58,7 +58,7 @@ class WebAssemblyCalls(bridged.BridgedCase):
             with mock.patch.object(build, "STACK_BYTES", SMALL_STACK_BYTES):
                 [small] = build.build_target(captured(), WASM32, folder)
             code, text = run([NODE, str(ARGUMENTS), str(self.folder / "xaropinto.wasm"), str(small),
-                              str(BOOK)], MOST_SECONDS, Path(folder))
+                              str(SAMPLES)], MOST_SECONDS, Path(folder))
         self.assertEqual(code, 0, text)
         for state, name in TEST.findall(text):
             self.check(name, state == "ok", text)
