@@ -183,10 +183,12 @@ function unpacked(module) {
 export async function openPage(module) {
   window.addEventListener("error", (event) => report(trouble(event.error), "bad"));
   window.addEventListener("unhandledrejection", (event) => report(trouble(event.reason), "bad"));
-  await attempt(async () => {
+  try {
     const { instance } = await WebAssembly.instantiate(await unpacked(module), {});
     answers.useCalls(openCalls(instance.exports));
     connect();
     report("No book is open.");
-  });
+  } catch (error) {
+    report(`the page cannot start, perhaps because this browser is too old: ${error}`, "bad");
+  }
 }
