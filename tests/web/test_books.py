@@ -237,16 +237,19 @@ class SavedSheets(Drawn, Differential):
 class OtherRefusals(NodeCase):
     """Refusals of every number and call, in words; those of calls that read no book."""
 
-    def test_lengths_and_kinds_of_files(self):
+    def test_lengths_kinds_and_codes(self):
         asked, longest = Asked(), sample("full").read_bytes()
         for book in (longest + bytes(24), longest[:-24], longest + bytes(1),
                      b"a" * 512, b"a" * 511 + b"\0", b"a" * 512 + b"\0", b"a" * 513,
                      b"a" * 1_220, b"a" * 511 + b"\0" * 800, b"a" * 512 + b"\0" * 800):
             asked.ask(outcome(answers.check, book), "answers.check", book)
+        for code in (0, 1, 7, 8, 255):
+            book = changed(sample("worked_example").read_bytes(), (record(1).code, code))
+            asked.ask(outcome(answers.check, book), "answers.check", book)
         for number in range(256):
             book = bytes([number]) * 20
             asked.ask(messages.kind_of(book), "messages.kindOf", book)
-        self.same("lengths and kinds of files", asked)
+        self.same("lengths, kinds of files and codes of records", asked)
 
     def test_every_number_and_call(self):
         asked = Asked()
