@@ -55,7 +55,9 @@ class OtherSide:
         return self
 
     def __exit__(self, *_):
-        self.process.stdin.close()
+        # What was not taken is still in the pipe where the process has ended.
+        with contextlib.suppress(BrokenPipeError):
+            self.process.stdin.close()
         try:
             self.process.wait(MOST_SECONDS)
         except subprocess.TimeoutExpired:

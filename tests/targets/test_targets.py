@@ -4,13 +4,14 @@ import re
 import sys
 import tempfile
 from pathlib import Path
+from unittest import mock
 
 from tests import ROOT
 from tests.support.case import Case
 from tests.support.report import run_unit_tests
 from tests.targets import wasm_file, windows_file
 from tests.targets.struct_assertions import failing, layouts
-from tools.targets import FOLDER
+from tools.targets import FOLDER, capture
 from tools.targets.build import build
 from tools.targets.capture import ARCHIVE, MODULE, captured, words_captured
 from tools.targets.header import calls
@@ -47,6 +48,18 @@ class Targets(Case):
             compiled, due = ((Path(folder) / name).read_bytes() for name in ("module.o", member))
         self.check("it is an object", due.startswith(b"\x7fELF"))
         self.check("to the byte", compiled == due, f"{len(compiled)} bytes, due are {len(due)}")
+
+    def test_module_is_captured_once_from_an_archive(self):
+        with tempfile.TemporaryDirectory() as folder, mock.patch.object(capture, "capture") as made:
+            captured()
+            self.check("not from the same again", not made.called)
+            other, stamp = Path(folder) / "other.a", Path(folder) / "stamp"
+            other.write_bytes(ARCHIVE.read_bytes() + b"\n")
+            stamp.write_bytes(capture.STAMP.read_bytes())
+            with mock.patch.multiple(capture, ARCHIVE=other, STAMP=stamp):
+                captured()
+                captured()
+            self.check("from another once", made.call_count == 1, made.call_args_list)
 
     def test_module_exports_the_headers_calls(self):
         self.assertEqual(sorted(EXTERNAL.findall(self.module)), sorted(NAMES))
