@@ -99,6 +99,11 @@ class Used(PageCase):
         self.wait_for("one age class lower")
         self.check("the focus is at the result",
                    self.browser.value(f"document.activeElement === {RESULT}"))
+        self.browser.value("document.getElementById('insurer').focus()")
+        self.browser.ask("Input.insertText", text="Example")
+        self.browser.press("Tab")
+        self.check("a view that is drawn anew leaves the focus",
+                   self.browser.value(f"document.activeElement !== {RESULT}"))
         self.browser.ask("Page.setInterceptFileChooserDialog", enabled=False)
 
     def press_until(self, name, condition):
