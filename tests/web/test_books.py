@@ -262,14 +262,23 @@ class OtherRefusals(NodeCase):
                           "refusals.refusalOf", number, call)
         self.same("words of 32 refusals and 8 calls", asked)
 
-    def test_a_chain_starts_anew_at_a_record_once(self):
-        book = repeated_book(flat_values(0, 0, 0), PG2_MEN, 113, LOWEST)
-        # The third record leads past the fourth, the seventh back to the second.
-        book = changed(book, (record(3).next, 5), (record(7).next, 2))
-        found, asked = faults.all_faults(book), Asked()
-        self.assertEqual([each.place for each in found.found], [1_318, 1_246, 1_318])
-        asked.ask(as_plain(found), "faults.allFaults", book)
-        self.same("a chain that leads back", asked)
+    def test_corrections_at_their_edges(self):
+        asked = Asked()
+        plain = repeated_book(flat_values(0, 0, 0), PG2_MEN, 113, LOWEST)
+        two = flat_values(0, 0, 0)
+        two.portfolios = {0: Portfolio(118, (LOWEST,) * 3), PG2_MEN: Portfolio(0, (LOWEST,) * 121)}
+        for book, places in (
+                # The third record leads past the fourth, the seventh back to the second: the chain
+                # starts anew at the fifth once.
+                (changed(plain, (record(3).next, 5), (record(7).next, 2)), [1_318, 1_246, 1_318]),
+                # A first class above 120 before a class of 1 was 0.
+                (changed(make_book(two), (record(4).age_class, 200)), [1_294]),
+                # A head that leads into the first chain.
+                (changed(make_book(two), (CHAINS[PG2_MEN].head, 2)), [1_244])):
+            found = faults.all_faults(book)
+            self.assertEqual([each.place for each in found.found], places)
+            asked.ask(as_plain(found), "faults.allFaults", book)
+        self.same("faults that are corrected in one way alone", asked)
 
     def test_funds(self):
         asked, seen = Asked(), set()
