@@ -9,7 +9,7 @@ from pathlib import Path
 from tests.cli.run import DONE, sample, xaropinto
 from tests.support.case import Case
 from tests.web.chromium import Chromium
-from tests.web.proved_module import module_path
+from tests.web.node import module_path
 from tools.web_page import page_text
 
 NEWS = "document.getElementById('status').textContent"
@@ -25,7 +25,7 @@ def opened():
     folder = tempfile.TemporaryDirectory()
     unittest.addModuleCleanup(folder.cleanup)
     path = Path(folder.name) / "xaropinto.html"
-    path.write_text(page_text(module_path().read_bytes()), encoding="utf-8")
+    path.write_text(page_text(Path(module_path()).read_bytes()), encoding="utf-8")
     browser = Chromium()
     unittest.addModuleCleanup(browser.close)
     return browser, path

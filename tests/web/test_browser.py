@@ -9,6 +9,7 @@ from pathlib import Path
 from tests.cli.run import sample, xaropinto
 from tests.support.report import run_unit_tests
 from tests.web.browser_case import NEWS, RESULT, PageCase, button
+from tools.web_page import page_text
 
 VIEW = "document.body.dataset.view"
 NAMESPACES = '/ xmlns="[^"]*"/g'
@@ -243,6 +244,27 @@ class Tables(PageCase):
     def test_a_missing_file_is_named(self):
         self.browser.choose("#files", *(self.lines / name for name in FILES[:4]))
         self.wait_for("missing: portfolio.csv")
+
+
+class Faults(PageCase):
+    """What goes wrong in the page itself is reported in words."""
+
+    def test_a_fault_is_reported(self):
+        for name, act in (("error", "{ throw new Error('one fault'); }"),
+                          ("promise", "Promise.reject(new Error('one fault'))")):
+            self.browser.value(f"({NEWS} = '', setTimeout(() => {act}), 0)")
+            self.wait_for("this is a fault of the page, please report it: Error: one fault")
+            self.check(name, self.browser.value("document.getElementById('status').className"
+                                                " === 'bad'"))
+        self.browser.events.clear()
+
+    def test_a_page_that_cannot_start_says_so(self):
+        path = self.path.with_name("broken.html")
+        path.write_text(page_text(b"\0asm no module"), encoding="utf-8")
+        self.browser.open(path.as_uri())
+        self.wait_for("the page cannot start, perhaps because this browser is too old: "
+                      "CompileError")
+        self.assertTrue(self.browser.value("document.getElementById('choose').disabled"))
 
 
 class Connections(PageCase):

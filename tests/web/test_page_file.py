@@ -14,8 +14,7 @@ from tests import ROOT
 from tests.support.case import Case
 from tests.support.command import run
 from tests.support.report import run_unit_tests
-from tests.web.node import node_path
-from tests.web.proved_module import module_path
+from tests.web.node import module_path, node_path
 from tools import web_page
 
 MOST_SECONDS = 60
@@ -61,7 +60,8 @@ class PageFile(Case):
 
     @classmethod
     def setUpClass(cls):
-        cls.wasm = module_path().read_bytes()
+        cls.module = Path(module_path())
+        cls.wasm = cls.module.read_bytes()
         cls.text = web_page.page_text(cls.wasm)
         cls.parts = Parts(cls.text)
 
@@ -71,7 +71,7 @@ class PageFile(Case):
         with tempfile.TemporaryDirectory() as folder:
             path = Path(folder) / "page.html"
             code, written = run([sys.executable, "-m", "tools.web_page", "--module",
-                                 str(module_path()), "--page", str(path)], MOST_SECONDS)
+                                 str(self.module), "--page", str(path)], MOST_SECONDS)
             self.check("written", code == 0, written)
             self.check("same bytes", path.read_bytes() == self.text.encode())
 

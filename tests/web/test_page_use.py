@@ -15,7 +15,8 @@ VIEWS = {
     "accepted": lambda case: case.open_book("full"),
     "refused": lambda case: case.open_book("lapse_too_large"),
     "faults": lambda case: (case.open_book("lapse_too_large"), case.click("Every fault")),
-    "age-shift": lambda case: (case.open_book("full"), case.click("Age shift")),
+    "age-shift": lambda case: (case.click("Make practice book"), case.wait_for("accepted"),
+                               case.click("Age shift")),
     "comparison": lambda case: (case.browser.choose("#files", sample("last_year"),
                                                     sample("this_year_slipped")),
                                 case.wait_for("Age classes")),
@@ -98,6 +99,11 @@ class Used(PageCase):
         self.wait_for("one age class lower")
         self.check("the focus is at the result",
                    self.browser.value(f"document.activeElement === {RESULT}"))
+        self.browser.value("document.getElementById('insurer').focus()")
+        self.browser.ask("Input.insertText", text="Example")
+        self.browser.press("Tab")
+        self.check("a view that is drawn anew leaves the focus",
+                   self.browser.value(f"document.activeElement !== {RESULT}"))
         self.browser.ask("Page.setInterceptFileChooserDialog", enabled=False)
 
     def press_until(self, name, condition):
@@ -126,6 +132,10 @@ class Used(PageCase):
             self.check(f"{name}: every control has a name", not unnamed, str(unnamed)[:500])
             self.check(f"{name}: what is new is announced", any(
                 each["role"]["value"] == "status" for each in nodes))
+            names = {each.get("name", {}).get("value") for each in nodes
+                     if each["role"]["value"] == "textbox"}
+            self.check(f"{name}: fields have their labels", names == {"Start number", "Insurer"},
+                       str(names))
         self.check("language", self.browser.value("document.documentElement.lang") == "en")
 
     def test_every_view_fits_every_width(self):

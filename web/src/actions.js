@@ -25,6 +25,10 @@ export function trouble(error) {
   if (!(error instanceof Error)) return `this is a fault of the page, please report it: ${error}`;
   if (error.name === "BadLineError") return `refused: ${error.message}`;
   if (EXPECTED.includes(error.name)) return error.message;
+  // Nothing is known of the module's memory any more.
+  if (error instanceof WebAssembly.RuntimeError) {
+    return `the proved code stopped: ${error.message}; load this page again`;
+  }
   return `this is a fault of the page, please report it: ${error.name}: ${error.message}`;
 }
 

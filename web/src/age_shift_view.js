@@ -35,7 +35,8 @@ function part(title, own, move) {
   const rows = own.map((total, setting) => [`${setting} ${SETTINGS[setting]}`,
     ...figuresOf(move, setting, total).map((figure) => (figure === "" ? "" : swiss(figure)))]);
   const remarks = remarksOf(move).map(inWords);
-  return section(heading, table(words, ["setting", ...COLUMNS.map(inWords)], rows, "stack"),
+  return section(heading, `<div class="wide" tabindex="0" role="region" aria-label="${heading}">`,
+    table(words, ["setting", ...COLUMNS.map(inWords)], rows, "stack"), "</div>",
     remarks.length ? items(remarks) : "");
 }
 

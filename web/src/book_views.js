@@ -9,7 +9,7 @@ import { comparisonLines } from "./cli_compare.js";
 import { ageShiftText } from "./cli_portfolio.js";
 import { compare } from "./compare.js";
 import { comparePage } from "./compare_page.js";
-import { focusResult, report, setView, showActions, showPage } from "./frame.js";
+import { report, setView, showActions, showPage } from "./frame.js";
 import { counted } from "./number_format.js";
 import { pageOf } from "./page.js";
 import { notesOf } from "./plausibility.js";
@@ -17,7 +17,7 @@ import { BOOK } from "./refusals.js";
 import { showRefused } from "./refused_views.js";
 import { stemOf } from "./saving.js";
 import { csvFiles } from "./sheets.js";
-import { backTo, save } from "./view_parts.js";
+import { backTo, leaving, save } from "./view_parts.js";
 import { zipOf } from "./zip_file.js";
 
 /** @typedef {import("./view_parts.js").Book} Book */
@@ -54,7 +54,7 @@ function showAccepted(book, n, around) {
   showPage(page);
   setView("accepted", book.name);
   showActions([group("Save", ...savings(book, page)),
-    group("Show", button("Age shift", () => showAgeShift(book, around)),
+    group("Show", leaving("Age shift", () => showAgeShift(book, around)),
       button("Comparison with…", around.chooseOther))]);
   report(`${book.made ?? ""}${book.name}: accepted ${n}, ${warnings}`, "good");
 }
@@ -93,7 +93,6 @@ function showAgeShift(book, around) {
   showActions([backTo(book, around),
     group("Save", button("Text", () => save(stem + AGE_SHIFT_FILE, ageShiftText(shift))))]);
   report(`${book.name}: totals one age class lower and higher`);
-  focusResult();
 }
 
 /**
@@ -115,5 +114,4 @@ export function showComparison(last, current, around) {
       button("Text", () => save(stem + COMPARE_TEXT_FILE, text)))]);
   report([comparison.verdict(), ...comparison.exceptions()].join("; "),
     COMPARE_PAGE.COLOURS[comparison.alignment.overall.verdict] ?? "bad");
-  focusResult();
 }

@@ -3,7 +3,7 @@ import { attempt, trouble } from "./actions.js";
 import * as answers from "./answers.js";
 import { showBook, showComparison } from "./book_views.js";
 import { openCalls } from "./calls.js";
-import { part, report } from "./frame.js";
+import { focusResult, part, report } from "./frame.js";
 import { GivenError, bytesOf, chosenFiles, droppedFiles, tableFiles } from "./given_files.js";
 import { quoted } from "./python_text.js";
 import { showBadLine } from "./refused_views.js";
@@ -98,12 +98,14 @@ function compareBooks(one, other) {
     try {
       return answers.read(held).year;
     } catch (error) {
-      throw new GivenError(`${name}: ${/** @type {Error} */ (error).message}`);
+      if (!(error instanceof answers.RefusedError)) throw error;
+      throw new GivenError(`${name}: ${error.message}`);
     }
   });
   const [last, current] = second < first ? [other, one] : [one, other];
   state.book = current;
   showComparison(last, current, around);
+  focusResult();
 }
 
 /** The practice book of the start number that is typed. */
@@ -112,8 +114,8 @@ function makePractice() {
   if (!/^[0-9]+$/.test(word) || BigInt(word) >= MOST_START) {
     throw new GivenError(`${quoted(word)} is not a whole number of at most 64 bits`);
   }
-  const held = answers.practice(BigInt(word));
-  openBook({ name: `practice-${word}.book`, held, made: "Made, not saved yet: " });
+  const start = BigInt(word), held = answers.practice(start);
+  openBook({ name: `practice-${start}.book`, held, made: "Made, not saved yet: " });
 }
 
 /**
@@ -183,10 +185,12 @@ function unpacked(module) {
 export async function openPage(module) {
   window.addEventListener("error", (event) => report(trouble(event.error), "bad"));
   window.addEventListener("unhandledrejection", (event) => report(trouble(event.reason), "bad"));
-  await attempt(async () => {
+  try {
     const { instance } = await WebAssembly.instantiate(await unpacked(module), {});
     answers.useCalls(openCalls(instance.exports));
     connect();
     report("No book is open.");
-  });
+  } catch (error) {
+    report(`the page cannot start, perhaps because this browser is too old: ${error}`, "bad");
+  }
 }

@@ -3,13 +3,13 @@ import { button, group } from "./actions.js";
 import * as answers from "./answers.js";
 import { checkFile } from "./cli_check.js";
 import { allFaults } from "./faults.js";
-import { bringMarkIntoView, focusResult, report, setView, showActions, showPage } from "./frame.js";
+import { bringMarkIntoView, report, setView, showActions, showPage } from "./frame.js";
 import { CONVERT } from "./messages.js";
 import { counted } from "./number_format.js";
 import { BOOK } from "./refusals.js";
 import { badLinePage, faultsPage, refusalPage } from "./refusal_view.js";
 import { stemOf } from "./saving.js";
-import { backTo, save } from "./view_parts.js";
+import { backTo, leaving, save } from "./view_parts.js";
 
 /** @typedef {import("./view_parts.js").Book} Book */
 /** @typedef {import("./view_parts.js").Surroundings} Surroundings */
@@ -31,8 +31,8 @@ export function showRefused(book, refused, call, around) {
   setView("refused", book.name);
   const newer = call === BOOK && book.held[AGE_BASIS_AT] === NEWER_BASIS
     && refused.place === AGE_BASIS_AT;
-  const way = newer ? [button("Convert to age basis 1", () => convert(book, around), true)] : [];
-  showActions([group("Show", ...way, button("Every fault", () => showFaults(book, around)))]);
+  const way = newer ? [leaving("Convert to age basis 1", () => convert(book, around), true)] : [];
+  showActions([group("Show", ...way, leaving("Every fault", () => showFaults(book, around)))]);
   const { number, place, owner } = refused;
   report(`${book.name}: refused ${number} ${place}; owner: ${owner}`, "bad");
 }
@@ -50,7 +50,6 @@ function showFaults(book, around) {
   showActions([backTo(book, around), group("Save", button("Text", () =>
     save(stem + FAULTS_FILE, `${checkFile(book.name, book.held, true).printed.join("\n")}\n`)))]);
   report(`${book.name}: ${counted(faults.found.length, "fault", "faults")}`, "bad");
-  focusResult();
 }
 
 /**
@@ -80,5 +79,4 @@ function convert(book, around) {
     if (!(error instanceof answers.RefusedError)) throw error;
     showRefused(book, error, CONVERT, around);
   }
-  focusResult();
 }

@@ -1,4 +1,4 @@
-// What the views share: a book, what they need of the page, and two things that most of them do.
+// What the views share: a book, what they need of the page, and what most of them do.
 import { button } from "./actions.js";
 import { focusResult, report } from "./frame.js";
 import { saveFile } from "./saving.js";
@@ -33,8 +33,18 @@ export function save(name, held) {
  * @param {Surroundings} around
  */
 export function backTo(book, around) {
-  return button(`Back to ${book.name}`, () => {
-    around.open(book);
+  return leaving(`Back to ${book.name}`, () => around.open(book));
+}
+
+/**
+ * A button that leads to another view. It is gone then, so the focus moves to the result.
+ * @param {string} words
+ * @param {() => void} show
+ * @param {boolean} first whether it is the one that most people want
+ */
+export function leaving(words, show, first = false) {
+  return button(words, () => {
+    show();
     focusResult();
-  });
+  }, first);
 }
