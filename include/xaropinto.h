@@ -85,8 +85,8 @@
 
 /* The version of this header, and as one number: 10,000 times the first part, 100 times the second,
  * and the third. */
-#define XAROPINTO_VERSION "2.1.0"
-#define XAROPINTO_VERSION_NUMBER 20100
+#define XAROPINTO_VERSION "2.2.0"
+#define XAROPINTO_VERSION_NUMBER 20200
 
 /* Calls are made by the target's C calling convention: System V on x86-64, AAPCS64 on arm64, on
  * Windows the one of Microsoft's x64 (not __vectorcall: where /Gv makes that the default, this

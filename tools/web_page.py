@@ -19,7 +19,7 @@ from typing import NamedTuple
 from tests import ROOT
 from tools.targets import BuildError
 from tools.targets.build import build
-from tools.web_tables import TABLES, in_javascript, tables_text
+from tools.web_tables import TABLES, in_javascript, tables_text, write_tables
 
 sys.path.insert(0, str(ROOT / "python"))
 
@@ -201,7 +201,7 @@ def main():
         print(f"web_page: {error}", file=sys.stderr)
         return 1
     wanted.page.parent.mkdir(parents=True, exist_ok=True)
-    TABLES.write_text(tables_text(), encoding="utf-8")
+    write_tables()
     wanted.page.write_text(text, encoding="utf-8")
     print(f"{wanted.page}: {len(text.encode()):,} bytes")
     return 0

@@ -35,6 +35,9 @@ ALIKE, FEW = 3.5, 100
 TAIL = 4.0
 # The least scale of residuals: of a Poisson deviation, and of a logarithm.
 COUNT_FLOOR, CURVE_FLOOR = 0.25, 0.001
+# Decimals that are the book's: those behind them come from logarithms and sums, which differ from
+# machine to machine and from one Python to the next.
+DEVIATION_DECIMALS, LEAD_DECIMALS = 9, 6
 BILLIONTHS = 1_000_000_000
 
 Deviations = dict[int, float]
@@ -184,7 +187,8 @@ def curve_deviations(amounts: Sequence[int], first: int) -> Deviations:
     for at in inner(len(amounts)):
         window = amounts[at - REACH:at + REACH + 1]
         if min(window) > 0:
-            found[first + at] = from_neighbours([log(amount) for amount in window])
+            deviation = from_neighbours([log(amount) for amount in window])
+            found[first + at] = round(deviation, DEVIATION_DECIMALS)
     return found
 
 
@@ -238,7 +242,8 @@ def judge(pieces: Iterable[Piece], barred: Optional[int] = None) -> Signal:
 
 def lead(differences: Sequence[float]) -> float:
     """A sum in its standard errors."""
-    return sum(differences) / (sqrt(sum(each * each for each in differences)) or 1.0)
+    errors = sum(differences) / (sqrt(sum(each * each for each in differences)) or 1.0)
+    return round(errors, LEAD_DECIMALS)
 
 
 def spread_evenly(values: BookValues) -> bool:

@@ -317,7 +317,7 @@ _PRACTICE = _Call("xaropinto_practice", _WriteReply, ctypes.c_uint64, *_BYTES)
 
 
 def version() -> int:
-    """The version of the library as one number: 20100 for 2.1.0."""
+    """The version of the library as one number: 20200 for 2.2.0."""
     number: int = _VERSION()
     return number
 

@@ -4,8 +4,8 @@ from html import escape
 from typing import Sequence
 from unicodedata import category
 
-# Control characters, halves of characters, and what is not assigned.
-NO_TEXT = ("Cc", "Cs", "Cn")
+# Control characters and halves of characters.
+NO_TEXT = ("Cc", "Cs")
 STYLE = """
 :root { color-scheme: light; }
 body { font: 15px/1.4 system-ui, sans-serif; color: #1c2430; background: #fff; max-width: 50rem;
@@ -67,8 +67,16 @@ def document(title: str, sections: Sequence[str]) -> str:
 
 def text(words: str) -> str:
     """Words as they may stand in a page: what is no character of a text is marked."""
-    shown = "".join("\ufffd" if category(letter) in NO_TEXT else letter for letter in words)
+    shown = "".join("\ufffd" if is_no_text(letter) else letter for letter in words)
     return escape(shown, quote=False).replace('"', "&quot;")
+
+
+def is_no_text(letter: str) -> bool:
+    """Whether it is no character of a text, in every version of Unicode: what is not assigned in
+    one of them may be in the next."""
+    code = ord(letter)
+    is_never_assigned = 0xFDD0 <= code <= 0xFDEF or code & 0xFFFE == 0xFFFE
+    return is_never_assigned or category(letter) in NO_TEXT
 
 
 def section(title: str, *parts: str) -> str:

@@ -3,7 +3,7 @@
 An older Python must be able to read this file, as `start.py` says.
 """
 
-VERSION = "2.1.0"
+VERSION = "2.2.0"
 # Beside this file where a package is made, with the commit and the checker; in the repository there
 # is none.
 BUILD = "build.json"

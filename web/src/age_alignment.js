@@ -19,9 +19,10 @@ import { AGE_ALIGNMENT } from "../../target/web/tables.js";
 import * as answers from "./answers.js";
 import { CHAINS, LAST_CLASS, YEARS } from "./layout.js";
 import { log } from "./logarithm.js";
+import { fixed } from "./python_text.js";
 
 const { SHIFTS, REACH, SURE, DOUBT, ALIKE, FEW, TAIL, COUNT_FLOOR, CURVE_FLOOR } = AGE_ALIGNMENT;
-const { BILLIONTHS, Verdict, OF_SHIFT } = AGE_ALIGNMENT;
+const { BILLIONTHS, DEVIATION_DECIMALS, LEAD_DECIMALS, Verdict, OF_SHIFT } = AGE_ALIGNMENT;
 // The most people whose chance is computed in whole numbers.
 const FEW_PEOPLE = 100;
 
@@ -198,7 +199,8 @@ export function curveDeviations(amounts, first) {
   for (const at of inner(amounts.length)) {
     const ends = [at - REACH, at + REACH + 1];
     if (Math.min(...amounts.slice(...ends)) > 0) {
-      found.set(first + at, fromNeighbours(logarithms.slice(...ends)));
+      const deviation = fromNeighbours(logarithms.slice(...ends));
+      found.set(first + at, Number(fixed(deviation, DEVIATION_DECIMALS)));
     }
   }
   return found;
@@ -300,7 +302,9 @@ export function judge(pieces, barred = null) {
  * @param {number[]} differences
  */
 export function lead(differences) {
-  return sum(differences) / (Math.sqrt(sum(differences.map((each) => each * each))) || 1);
+  const errors = sum(differences)
+    / (Math.sqrt(sum(differences.map((each) => each * each))) || 1);
+  return Number(fixed(errors, LEAD_DECIMALS));
 }
 
 /**

@@ -309,7 +309,7 @@ class Calls {
     return found;
   }
 
-  /** @returns {bigint} the version of the library as one number: 20100 for 2.1.0 */
+  /** @returns {bigint} the version of the library as one number: 20200 for 2.2.0 */
   version() {
     return BigInt.asUintN(64, this.#exported("version")());
   }

@@ -117,10 +117,7 @@ export function structureSection(last, current, comparison) {
     { title: `This year's moved one class ${way}`, name: `this year's, one ${way}`, values: moved },
   ].map(({ title, name, values }) =>
     classLines(title, [{ name: older, values: expected }, { name, values }]));
-  return section("Contracts by age class", charts(parts),
-    note("Last year's contracts are those that the assumptions of last year's book leave in force. "
-      + "Where the classes follow, the ups and downs of both lines are at the same classes in the "
-      + "first chart; where they slipped, in the second."));
+  return section("Contracts by age class", charts(parts), note(COMPARE_PAGE.STRUCTURE_NOTE));
 }
 
 /**
@@ -202,9 +199,7 @@ export function chainsSection(last, current, comparison) {
   return section("Age classes, chain by chain",
     table("The likeliest shift of each signal, and its lead in standard errors",
       ["chain", "last year", "this year", "counts", "curves", "verdict"], rows, "stack"),
-    note("Counts: do the ups and downs of the contracts grow older with them? Curves: do those of "
-      + "premium, claims and lapse stay at their class? A verdict takes a lead of three standard "
-      + "errors."));
+    note(COMPARE_PAGE.SIGNALS_NOTE));
 }
 
 /**

@@ -3,8 +3,8 @@
 
 import { HTML_PARTS } from "../../target/web/tables.js";
 
-// Control characters, halves of characters, and what is not assigned.
-const NO_TEXT = new RegExp(`[${HTML_PARTS.NO_TEXT.map((each) => `\\p{${each}}`).join("")}]`, "gu");
+// Control characters, halves of characters, and codes that no version of Unicode assigns.
+const NO_TEXT = /[\p{Cc}\p{Cs}\p{Noncharacter_Code_Point}]/gu;
 /** @type {Record<string, string>} */
 const ESCAPES = { "&": "&amp;", "<": "&lt;", ">": "&gt;", '"': "&quot;" };
 // A SHA-256 is known by its length.

@@ -78,7 +78,7 @@ export function identity(name, book, values, imprint) {
 export function warningsSection(notes) {
   if (!notes.length) return section("Warnings", element("p", "None."));
   return section("Warnings", items(notes.map((each) => `${each.text} (${each.name})`)),
-    note("A warning is no refusal: the figures are those of the book as it is."));
+    note(PAGE.WARNING_NOTE));
 }
 
 /**
@@ -93,8 +93,7 @@ export function totalsSection(totals, values) {
   return section("Totals",
     table(`Total by setting, each within ± ${distance} centimes of its exact value`,
       ["setting", ...PAGE.AMOUNTS], rows),
-    note("A total below zero is a credit. The exact value follows the same steps in unrounded "
-      + "fractions; that no total is further from it is proved."));
+    note(PAGE.TOTALS_NOTE));
 }
 
 /**

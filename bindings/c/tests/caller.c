@@ -1481,7 +1481,7 @@ static void test_version(void)
 {
     test("library_and_header_are_of_one_version", xaropinto_version() == XAROPINTO_VERSION_NUMBER);
     test("the_version_is_2_1_0",
-         strcmp(XAROPINTO_VERSION, "2.1.0") == 0 && XAROPINTO_VERSION_NUMBER == 20100);
+         strcmp(XAROPINTO_VERSION, "2.2.0") == 0 && XAROPINTO_VERSION_NUMBER == 20200);
 }
 
 static void test_refusal_texts(void)

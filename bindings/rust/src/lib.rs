@@ -87,7 +87,7 @@ pub enum Spread {
     Level { mean: f64 },
 }
 
-/// The version of the library that is linked, as one number: 20100 for 2.1.0.
+/// The version of the library that is linked, as one number: 20200 for 2.2.0.
 pub fn version() -> u64 {
     // SAFETY: it takes nothing.
     unsafe { xaropinto_version() }
