@@ -180,7 +180,7 @@ class Used(PageCase):
 
 
 class Fast(PageCase):
-    """The order's limits, as medians on this machine."""
+    """The limits of speed, as medians."""
 
     @classmethod
     def setUpClass(cls):
