@@ -2,7 +2,7 @@
 # library and what calls it, g++, cargo and valgrind for the callers' tests, openpyxl
 # (Debian's python3-openpyxl) for those of workbooks.
 .DEFAULT_GOAL := help
-.PHONY: help test quick check list report convert practice fuzz streams samples lib install dist web callers bench clean test-platforms FORCE
+.PHONY: help test quick check list report convert practice fuzz streams samples lib install dist web targets callers bench clean test-platforms FORCE
 
 SAMPLE := samples/one_record.book
 SETTING ?= 0
@@ -92,8 +92,14 @@ bench: lib ## time the calls beside Rust and Python: make bench OPTIONS=--instru
 		cp ../../target/cargo/release/bench ../../target/bench/link_$$link || exit 1; done
 	@target/bench/link_$(firstword $(LINKS)) $(OPTIONS) $(LINKS:%=target/bench/link_%)
 
-test-platforms: ## what needs LibreOffice: a book through a spreadsheet program
+targets: lib ## the proved code for WebAssembly, Windows and arm64, under target/targets
+	@python3 -m tools.targets build
+
+test-platforms: targets web ## what needs LibreOffice, wine or qemu: spreadsheets, Windows, arm64
 	@python3 -m tests.platforms.test_spreadsheet
+	@python3 -m tests.platforms.test_windows
+	@python3 -m tests.platforms.test_arm64
+	@python3 -m tests.platforms.test_packages
 
 clean: ## remove all that was built; the next run proves everything again
 	@rm -rf target differing python/build python/xaropinto.egg-info python/xaropinto/libxaropinto.so

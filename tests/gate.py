@@ -96,14 +96,28 @@ CALLS = [
     script("outputs, inputs and endings of the command", "tests.cli.test_outputs", 18),
     script("check, and every fault of a file", "tests.cli.test_check", 15),
     script("JSON, by its schema", "tests.cli.test_json", 8),
-    script("the archive, and the types of the package", "tests.cli.test_package", 5),
+    script("the archive, and the types of the package", "tests.cli.test_package", 12),
     script("warnings about a book", "tests.cli.test_plausibility", 19),
     script("a slip of the age class", "tests.cli.test_age_shift", 6),
     script("pages of books", "tests.cli.test_page", 10),
     script("two years' books compared", "tests.cli.test_compare", 18),
     script("age classes of two years, on seeded pairs", "tests.cli.test_age_alignment", 14),
-    script("what is installed", "tests.cli.test_installed", 14),
-    script("formatters and linters", "tests.repository.test_style", 9),
+    script("what is installed", "tests.cli.test_installed", 15),
+    script("the command as on Windows", "tests.cli.test_windows", 42),
+    script("archives of three platforms", "tests.packaging.test_archives", 46),
+    script("wheels, and what their names promise", "tests.packaging.test_wheels", 25),
+    script("the header in dialects of C and C++", "tests.packaging.test_header", 44),
+    script("targets: which code, exports, stack, tables and layouts",
+           "tests.targets.test_targets", 40),
+    script("calls in WebAssembly, through JavaScript", "tests.web.test_calls", 52),
+    script("books in the web page's modules, against the package", "tests.web.test_books", 95),
+    script("numbers and texts in the web page's modules", "tests.web.test_texts", 8),
+    script("pages and comparisons of the web page", "tests.web.test_pages", 32),
+    script("what the web page's pages are made of", "tests.web.test_page_parts", 14),
+    script("the web page as a file", "tests.web.test_page_file", 360),
+    script("the web page in Chromium", "tests.web.test_browser", 66),
+    script("the web page in use: keyboard, width, print, speed", "tests.web.test_page_use", 64),
+    script("formatters and linters", "tests.repository.test_style", 11),
     script("documents", "tests.repository.test_documents", 60),
 ]
 PARTS = [PROOFS, *PROGRAMS, CALLERS, *CALLS]
@@ -112,7 +126,8 @@ PARTS = [PROOFS, *PROGRAMS, CALLERS, *CALLS]
 OF_EDITS = "tests.repository.test_must_fail_reasons"
 DRAWN = ("tests.fuzz.", "tests.api.")
 LONG = ("tests.fuzz.test_listing", "tests.bindings.test_callers", "tests.vectors.test_listing",
-        "tests.cli.", "tests.api.test_funds", "tests.api.test_base_calls")
+        "tests.cli.", "tests.web.", "tests.packaging.", "tests.targets.", "tests.api.test_funds",
+        "tests.api.test_base_calls")
 
 
 def module_of(part):

@@ -24,6 +24,7 @@ sys.path.insert(0, str(ROOT / "python"))
 
 from xaropinto import layout, refusals  # noqa: E402
 
+PACKAGE = ROOT / "web" / "package.json"
 TABLES = ROOT / "target" / "web" / "tables.js"
 MODULES = (
     "version", "layout", "refusals", "chains", "messages", "number_format", "distances", "answers",
@@ -171,12 +172,15 @@ def tables_text():
 
 
 def write_tables(path=TABLES):
-    """Write the file; whoever reads it meanwhile finds a whole one."""
+    """Write the file, and beside it that it is a module, for versions of node that do not see it;
+    whoever reads one meanwhile finds a whole one."""
     path.parent.mkdir(parents=True, exist_ok=True)
+    written = {path.name: tables_text(), PACKAGE.name: PACKAGE.read_text(encoding="utf-8")}
     with tempfile.TemporaryDirectory(dir=path.parent) as folder:
-        part = Path(folder) / path.name
-        part.write_text(tables_text(), encoding="utf-8")
-        os.replace(part, path)
+        for name, text in written.items():
+            part = Path(folder) / name
+            part.write_text(text, encoding="utf-8")
+            os.replace(part, path.parent / name)
 
 
 def main():
