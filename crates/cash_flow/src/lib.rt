@@ -4,7 +4,6 @@
 ghost use mathlib.Core.Path.{_≡_};
 ghost use mathlib.Core.List.{_++_};
 ghost use Prim.Native.Nat.{_+_, _*_, _/_, _<_, _≤_};
-ghost use lib.IntN.{pos, _-ℤ_};
 ghost use lib.ListN.{length, getD, set, take, drop};
 ghost use Rattle.book.specs.Reading.{ValidBook};
 ghost use Rattle.settings.specs.Settings.{OutgoWeighed};
@@ -201,13 +200,4 @@ pub fn put_year(table: &mut [u64], k: usize, y: Year)
     table[at + 1] = y.outgo;
     table[at + 2] = y.discounted_premium;
     table[at + 3] = y.discounted_outgo;
-}
-
-// a less b, with its sign.
-pub fn less(a: u64, b: u64) -> i64
-    requires { ⌜ (a ≤ 1000000000000000000)
-        × (b ≤ 1000000000000000000) ⌝ }
-    ensures { λ r. ⌜ r ≡ pos a -ℤ pos b ⌝ }
-{
-    (a as i64) - (b as i64)
 }
