@@ -24,7 +24,8 @@ values first counts lapses premiums claims =
 abbrev Inv-loop : tie.InvT-loop
 Inv-loop out₀ counts lapses premiums claims first k before class size next₀ j₀ out next j =
     (j ≤ size)
-    × Wrote out₀ (headerSize + recordSize * before) (joined (recordBytesOf (values first counts lapses premiums claims) k) j) out next
+    × Wrote out₀ (headerSize + recordSize * before)
+    (joined (recordBytesOf (values first counts lapses premiums claims) k) j) out next
     × (next ≡ headerSize + recordSize * (before + j))
 
 abbrev μ-loop : tie.MeasureT-loop
@@ -81,8 +82,8 @@ unfolding chainBytes recordBytesOf
 returns c =
     let l = c .before .loop in
     let s = c .before .before in
-    let a = s .before .before .before .before .before .before .before .before in
-    let all : l .j ≡ sizeOf (a .args .chain .values .first) (a .args .chain .number) = omega (arith, s .size-of .ensures .0) in
+    let chain = s .before .before .before .before .before .before .before .before .args .chain in
+    let all : l .j ≡ sizeOf (chain .values .first) (chain .number) = omega (arith, s .size-of .ensures .0) in
     (rw all at (l .inv .1), omega (arith, l .inv .2))
 
 pub put-chain-spec : {M : Type 1} → statement M
@@ -91,9 +92,14 @@ put-chain-spec =
     (tie.spec Inv-loop μ-loop (λ c. search needs) (λ c. search needs) (λ c κs. search needs)
     (λ c. omega (arith, capacity c .few)) (λ c. omega (arith, capacity c .few))
     loop-holds next-for-requires
-    (λ c. omega (arith, capacity (c .before .before .before .before) .few)) (λ c. omega (arith, capacity (c .before .before .before .before) .class))
-    (λ c. omega (arith, capacity (c .before .before .before .before) .few)) (λ c. omega (arith, capacity (c .before .before .before .before .before) .counts))
-    (λ c. omega (arith, capacity (c .before .before .before .before .before) .few)) (λ c. omega (arith, capacity (c .before .before .before .before .before .before) .lapses))
-    (λ c. omega (arith, capacity (c .before .before .before .before .before .before) .few)) (λ c. omega (arith, capacity (c .before .before .before .before .before .before .before) .premiums))
-    (λ c. omega (arith, capacity (c .before .before .before .before .before .before .before) .few)) (λ c. omega (arith, capacity (c .before .before .before .before .before .before .before .before) .claims))
+    (λ c. omega (arith, capacity (c .before .before .before .before) .few))
+    (λ c. omega (arith, capacity (c .before .before .before .before) .class))
+    (λ c. omega (arith, capacity (c .before .before .before .before) .few))
+    (λ c. omega (arith, capacity (c .before .before .before .before .before) .counts))
+    (λ c. omega (arith, capacity (c .before .before .before .before .before) .few))
+    (λ c. omega (arith, capacity (c .before .before .before .before .before .before) .lapses))
+    (λ c. omega (arith, capacity (c .before .before .before .before .before .before) .few))
+    (λ c. omega (arith, capacity (c .before .before .before .before .before .before .before) .premiums))
+    (λ c. omega (arith, capacity (c .before .before .before .before .before .before .before) .few))
+    (λ c. omega (arith, capacity (c .before .before .before .before .before .before .before .before) .claims))
     put-record-requires (λ c. omega arith) (λ c. omega arith) loop-again same-length returns)
