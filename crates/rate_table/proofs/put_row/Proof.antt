@@ -1,6 +1,6 @@
 -- `rate_table::put_row` meets its contract: three columns of what lives on, three of what stays, premium and claims.
 -- Assumes nothing.
-use mathlib.Core.Path.{_≡_}
+use mathlib.Core.Path.{refl}
 use mathlib.Core.List.{List}
 use Prim.Native.Nat.{ℕ, _+_, _*_, _≤_, _<_}
 use native.Mathlib.Omega.{arith}
@@ -32,14 +32,14 @@ put-three-requires c κs =
     let a = c .before .before .before .before .before .before .before in
     let w = a .pre .0 in
     let sex = chainSex (a .args .link .chain) in
-    let more = sex-most _ 1 sex _ _ (w .mortality-up) (c .before .before .of-sex2 .ensures) in
-    let fewer = sex-most _ 2 sex _ _ (w .mortality-down) (c .before .of-sex3 .ensures) in (
+    let up = sex-most _ 1 sex _ _ (w .mortality-up) refl in
+    let down = sex-most _ 2 sex _ _ (w .mortality-down) refl in (
       row a,
       omega arith,
       c .before .before .before .before .mortality-of .ensures .1,
       sex-most _ 0 sex _ _ (w .base) (c .before .before .before .of-sex .ensures),
-      omega (arith, more, fewer),
-      omega (arith, more, fewer),
+      omega (arith, up, down, c .before .before .of-sex2 .ensures),
+      omega (arith, up, down, c .before .of-sex3 .ensures),
     )
 
 field-of-requires : tie.Need-field-of-requires
