@@ -9,7 +9,6 @@ ghost use Rattle.book_contents.specs.Written.{twoBytes, nextFor, encodedRecord,
 ghost use Rattle.book_contents.specs.Limits.{Fit};
 use book::CHAINS;
 use book::HEADER_SIZE;
-use book::RECORD_SIZE;
 use book_contents::Values;
 use book_encoding::put_four;
 use book_encoding::put_two;
@@ -76,14 +75,15 @@ fn next_for(first: &[u64; 14], k: usize, j: usize, sum: usize) -> u64
     (sum + (j + 1) + 1) as u64
 }
 
-// A chain of the book of these values: its number, and how many records stand before its own.
+// A chain of the book of these values: its number, how many records stand before its own, and the
+// place of its first record.
 struct Chain {
     values: Values,
     number: usize,
     before: usize,
+    at: usize,
 }
 
-// The records of a chain, after those of the chains before it.
 fn put_chain(
     out: &mut [u8],
     chain: Chain,
@@ -92,22 +92,22 @@ fn put_chain(
     premiums: &[u64],
     claims: &[u64],
 ) -> usize
-    requires { ⌜ (chain .number < 14)
+    requires { ⌜ (chain .at < 2 ^ 32)
+        × (chain .number < 14)
         × (chain .before ≡ recordsBefore (chain .values .first) (chain .number))
         × Fit (given (chain .values) (now counts) (now lapses) (now premiums) (now claims)) ⌝ }
-    ensures { λ r. ⌜ Wrote (now (out .entry)) (headerSize + recordSize * chain .before)
+    ensures { λ r. ⌜ Wrote (now (out .entry)) (chain .at)
         (chainBytes
         (given (chain .values) (now (counts .entry)) (now (lapses .entry)) (now (premiums .entry))
         (now (claims .entry))) (chain .number)) (now (out .exit)) r
-        × (r ≡ headerSize + recordSize * (chain .before
-        + sizeOf (chain .values .first) (chain .number))) ⌝ }
+        × (r ≡ chain .at + recordSize * sizeOf (chain .values .first) (chain .number)) ⌝ }
 {
     let first = chain.values.first;
     let k = chain.number;
     let before = chain.before;
     let class = first[k];
     let size = size_of(&first, k);
-    let mut next = HEADER_SIZE + RECORD_SIZE * before;
+    let mut next = chain.at;
     for j in 0..size {
         let link = next_for(&first, k, j, before);
         let i = before + j;
@@ -148,6 +148,7 @@ pub fn put_chains(
             values,
             number: k,
             before,
+            at: next,
         };
         next = put_chain(out, chain, counts, lapses, premiums, claims);
         before = before + size_of(&first, k);

@@ -6,7 +6,7 @@ use mathlib.Core.List.{List, []}
 use Prim.Native.Nat.{ℕ, _+_, _-_, _*_, _≤_, _<_}
 use native.Mathlib.Omega.{arith}
 use borrow.Author.Needs.{needs}
-use Rattle.book.specs.Layout.{headerSize, recordSize}
+use Rattle.book.specs.Layout.{recordSize}
 use Rattle.buffer.specs.Text.{Wrote, joined}
 use Rattle.buffer.proofs.Digits.{nothing, kept}
 use Rattle.book_contents.specs.Contents.{Contents, given, sizeOf, recordsBefore}
@@ -24,9 +24,8 @@ values first counts lapses premiums claims =
 abbrev Inv-loop : tie.InvT-loop
 Inv-loop out₀ counts lapses premiums claims first k before class size next₀ j₀ out next j =
     (j ≤ size)
-    × Wrote out₀ (headerSize + recordSize * before)
-    (joined (recordBytesOf (values first counts lapses premiums claims) k) j) out next
-    × (next ≡ headerSize + recordSize * (before + j))
+    × Wrote out₀ next₀ (joined (recordBytesOf (values first counts lapses premiums claims) k) j) out next
+    × (next ≡ next₀ + recordSize * j)
 
 abbrev μ-loop : tie.MeasureT-loop
 μ-loop out₀ counts lapses premiums claims first k before class size next₀ j₀ out next j = size - j
@@ -38,7 +37,7 @@ capacity : (c : tie.After-size-of Inv-loop μ-loop)
     (a .chain .number) (a .chain .before) (c .size-of .result)
 capacity c =
     let a = c .before .before .before .before .before .before .before .before in
-    chain-capacity _ _ _ _ (a .pre .2) (a .pre .0) (a .pre .1) (c .size-of .ensures .0)
+    chain-capacity _ _ _ _ (a .pre .3) (a .pre .1) (a .pre .2) (c .size-of .ensures .0)
 
 loop-holds : tie.Need-loop-holds Inv-loop μ-loop
 unfolding joined
@@ -49,7 +48,7 @@ next-for-requires c κs =
     let s = c .before .before .before in
     let a = s .before .before .before .before .before .before .before .before in
     let k = capacity s in
-    (a .pre .0, a .pre .1, omega (arith, k .few), omega (arith, s .size-of .ensures .1))
+    (a .pre .1, a .pre .2, omega (arith, k .few), omega (arith, s .size-of .ensures .1))
 
 put-record-requires : tie.Need-put-record-requires Inv-loop μ-loop
 put-record-requires c κs =
@@ -58,7 +57,7 @@ put-record-requires c κs =
     c .before .before .before .before .before .before .before .loop-test .taken in
     let a = l .before .before .before .before .before .before .before .before .before in
     let k = capacity (l .before) in
-    (omega (arith, l .loop .inv .2, k .few), a .pre .0, omega (arith, k .class))
+    (omega (arith, l .loop .inv .2, k .few, a .pre .0), a .pre .1, omega (arith, k .class))
 
 loop-again : tie.Need-loop-again Inv-loop μ-loop
 loop-again c =
@@ -69,7 +68,7 @@ loop-again c =
     let x = a .args in
     let v = values (x .chain .values .first) (x .counts .now) (x .lapses .now) (x .premiums .now) (x .claims .now) in (
       omega (arith, p .before .before .before .before .before .before .before .before .loop-test .taken),
-      records-more v (x .chain .number) (l .loop .j) (x .chain .before) (link .result) (a .pre .1) (link .ensures)
+      records-more v (x .chain .number) (l .loop .j) (x .chain .before) (link .result) (a .pre .2) (link .ensures)
           (l .loop .inv .1) (p .put-record .ensures .0),
       omega (arith, p .put-record .ensures .1, l .loop .inv .2),
     )
@@ -90,7 +89,6 @@ pub put-chain-spec : {M : Type 1} → statement M
 put-chain-spec =
     tie.close
     (tie.spec Inv-loop μ-loop (λ c. search needs) (λ c. search needs) (λ c κs. search needs)
-    (λ c. omega (arith, capacity c .few)) (λ c. omega (arith, capacity c .few))
     loop-holds next-for-requires
     (λ c. omega (arith, capacity (c .before .before .before .before) .few))
     (λ c. omega (arith, capacity (c .before .before .before .before) .class))

@@ -29,7 +29,8 @@ loop-holds c = (omega arith, nothing _ _, refl, omega arith, omega arith)
 put-chain-requires : tie.Need-put-chain-requires Inv-loop μ-loop
 put-chain-requires c κs =
     let l = c .before .before in
-    (omega arith, l .loop .inv .2, l .before .before .before .before .before .before .before .pre)
+    let a = l .before .before .before .before .before .before .before in
+    (omega (arith, l .loop .inv .0, l .loop .inv .3, l .loop .inv .4), omega arith, l .loop .inv .2, a .pre)
 
 loop-again : tie.Need-loop-again Inv-loop μ-loop
 unfolding recordsBefore
@@ -37,7 +38,7 @@ loop-again c =
     let p = c .before .before .before .before in
     let l = p .before .before .before .loop in (
       omega arith,
-      joined-more _ _ [] (rw (l .inv .3) at (l .inv .1)) (p .put-chain .ensures .0),
+      joined-more _ _ [] (l .inv .1) (p .put-chain .ensures .0),
       rw (add-one (l .k)) (omega (arith, c .size-of .ensures .0, l .inv .2)),
       omega (arith, p .put-chain .ensures .1, c .size-of .ensures .0, l .inv .3),
       omega (arith, c .size-of .ensures .1, l .inv .4),
