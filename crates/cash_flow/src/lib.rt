@@ -14,6 +14,7 @@ ghost use Rattle.arith.specs.Fractions.{IsFraction};
 ghost use Rattle.cash_flow.specs.CashFlow.{Divisor, Divisors, FirstAtMost, Stepped};
 ghost use Rattle.cash_flow.specs.CashFlow.{DiscountedIn, outgoOf, fourOf};
 use arith::Two;
+use arith::Weighted;
 use settings::Outgoings;
 
 // No doubled amount is above that: amounts before a step are at most 10^16.
@@ -65,16 +66,17 @@ fn step_back(x: u64, y: u64, d: u64, fraction: u64) -> Two
     ensures { λ r. ⌜ (r .first ≡ x * 1000000 / d)
         × (r .second ≡ y * 1000000 / d) ⌝ }
 {
-    arith::two_parts(
-        2 * x,
-        1_000_000,
+    let first = Weighted {
+        amount: 2 * x,
+        weight: 1_000_000,
         fraction,
-        2 * y,
-        1_000_000,
+    };
+    let second = Weighted {
+        amount: 2 * y,
+        weight: 1_000_000,
         fraction,
-        2 * d,
-        MOST_DOUBLED,
-    )
+    };
+    arith::two_parts(first, second, 2 * d, MOST_DOUBLED)
 }
 
 // One step on premium and outgo of year k, at the divisor of that year.
