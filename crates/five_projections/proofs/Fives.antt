@@ -19,7 +19,7 @@ use Rattle.five_projections.specs.Five.{fiveIn, startOf, FiveReady, AllI
 use Rattle.cell_projection.specs.Tables.{yearMore}
 use Rattle.five_projections.specs.SideBySide.{Reached, ProjectedTo}
 use Rattle.five_projections.specs.declared.Five.{Five}
-use Rattle.five_projections.specs.declared.FiveInYear.{FiveInYear}
+use Rattle.five_projections.specs.declared.Stop.{Stop}
 use Rattle.cell_projection.proofs.Years.{two-added, amount-premium, amount-claims, added-most, added-rest}
 use Rattle.cell_projection.proofs.Years.{added-same, added-join, late-low, late-high, late-start, from-start}
 use Rattle.cell_projection.proofs.Years.{joined}
@@ -166,7 +166,7 @@ module _ (t : List ℕ) (r n : ℕ) (some : 0 < n) where
       (omega arith) start-in-force cells v ec ev
 
 -- one run, and then what comes after it
-pub run-then : (t : List ℕ) (r n m to : ℕ) (cells : Five) (s : FiveInYear) (u v w : List ℕ) → Run t r n 0 m cells u v
+pub run-then : (t : List ℕ) (r n m to : ℕ) (cells : Five) (s : Stop) (u v w : List ℕ) → Run t r n 0 m cells u v
     → ProjectedTo t r n m to s v w → ProjectedTo t r n 0 to s u w
 run-then t r n m to cells s u v w run e = record {
   sums = joined _ m (s .k) u v w (e .since) (run .3) (e .sums);

@@ -8,7 +8,7 @@ use Rattle.cell_projection.specs.Ends.{yearsInForce, Going}
 use Rattle.five_projections.specs.Five.{fiveIn}
 use Rattle.five_projections.specs.declared.Counts.{Counts}
 use Rattle.five_projections.specs.declared.Five.{Five}
-use Rattle.five_projections.specs.declared.FiveInYear.{FiveInYear}
+use Rattle.five_projections.specs.declared.Stop.{Stop}
 
 -- all five have come to year m
 pub record Reached (t : List ℕ) (r n m : ℕ) (cells : Five) : Type 0 where
@@ -16,7 +16,7 @@ pub record Reached (t : List ℕ) (r n m : ℕ) (cells : Five) : Type 0 where
   pub going : (s : ℕ) → s < 5 → Going (cellIn t r n s) m
 
 -- from year m on they make this of the table u, up to where they stop, at year `to` or before it
-pub record ProjectedTo (t : List ℕ) (r n m to : ℕ) (s : FiveInYear) (u v : List ℕ) : Type 0 where
+pub record ProjectedTo (t : List ℕ) (r n m to : ℕ) (s : Stop) (u v : List ℕ) : Type 0 where
   pub sums : v ≡ added (late (10 * m) (amountBy (cellIn t r n))) (10 * s .k) u
   pub since : m ≤ s .k
   pub most : s .k ≤ to

@@ -98,10 +98,9 @@ fn add_year_0(sums: &mut YearSums, premium: u64, claims: u64)
 
 // Year 0 of all five. A whole number of contracts is in force, so premium and claims are so many
 // times those of one: no share of them is taken.
-fn year_0(rows: &RateTable, point: ModelPoint, columns: FiveColumns, sums: &mut YearSums) -> Five
+fn year_0(rows: &RateTable, point: ModelPoint, sums: &mut YearSums) -> Five
     requires { ⌜ Projectable (now rows) (point .row) (point .count)
-        × AtMost 2000000000000000 (now sums)
-        × (columns ≡ fiveColumns) ⌝ }
+        × AtMost 2000000000000000 (now sums) ⌝ }
     ensures { λ r. ⌜ (r ≡ nextFive (now (rows .entry)) 0 (startOf (point .row) (point .count)))
         × (now (sums .exit) ≡ tenMore (now (rows .entry)) 0 (startOf (point .row) (point .count))
         (now (sums .entry))) ⌝ }
@@ -109,6 +108,7 @@ fn year_0(rows: &RateTable, point: ModelPoint, columns: FiveColumns, sums: &mut 
     let premium = point.count * rows[COLUMNS * point.row + PREMIUM + RATES];
     let claims = point.count * rows[COLUMNS * point.row + CLAIMS + RATES];
     add_year_0(sums, premium, claims);
+    let columns = FiveColumns::new();
     let cell = Cell::new(point.row, point.count);
     let base = cell.next_year(rows, columns.base, 0);
     let mortality_up = cell.next_year(rows, columns.mortality_up, 0);
@@ -132,51 +132,45 @@ fn all(cells: Five) -> bool
     0 < cells.mortality_up.inforce && 0 < cells.lapse_up.inforce
 }
 
-// A year of all five, and the states in it.
-pub struct FiveInYear {
+// Where the years of all five stop: a year, and the states in it.
+pub struct Stop {
     pub k: usize,
     pub cells: Five,
 }
 
 // The years of all five side by side, from one to before another, while all have something in
-// force. Returns where they stop.
+// force.
 fn together(
     rows: &RateTable,
     point: ModelPoint,
-    columns: FiveColumns,
-    start: FiveInYear,
+    start: Five,
+    from: usize,
     to: usize,
     sums: &mut YearSums,
-) -> FiveInYear
+) -> Stop
     requires { ⌜ Projectable (now rows) (point .row) (point .count)
-        × (start .k ≤ to)
+        × (from ≤ to)
         × (to ≤ 50)
-        × Reached (now rows) (point .row) (point .count) (start .k) (start .cells)
-        × AtMost 2500000000000000 (now sums)
-        × (columns ≡ fiveColumns) ⌝ }
-    ensures { λ r. ⌜ ProjectedTo (now (rows .entry)) (point .row) (point .count) (start .k) to r
+        × Reached (now rows) (point .row) (point .count) from start
+        × AtMost 2500000000000000 (now sums) ⌝ }
+    ensures { λ r. ⌜ ProjectedTo (now (rows .entry)) (point .row) (point .count) from to r
         (now (sums .entry)) (now (sums .exit)) ⌝ }
 {
-    let mut cells = start.cells;
-    let mut k = start.k;
+    let columns = FiveColumns::new();
+    let mut cells = start;
+    let mut k = from;
     while k < to && all(cells) {
         cells = year(rows, cells, columns, k, sums);
         k += 1;
     }
-    FiveInYear { k, cells }
+    Stop { k, cells }
 }
 
 // The same from year 0 on, which has a rule of its own. The first five years have a loop of their
 // own: in the later ones one set of weights holds.
-fn side_by_side(
-    rows: &RateTable,
-    point: ModelPoint,
-    columns: FiveColumns,
-    sums: &mut YearSums,
-) -> FiveInYear
+fn side_by_side(rows: &RateTable, point: ModelPoint, sums: &mut YearSums) -> Stop
     requires { ⌜ Projectable (now rows) (point .row) (point .count)
-        × AtMost 2000000000000000 (now sums)
-        × (columns ≡ fiveColumns) ⌝ }
+        × AtMost 2000000000000000 (now sums) ⌝ }
     ensures { λ r. ⌜ ProjectedTo (now (rows .entry)) (point .row) (point .count) 0 50 r
         (now (sums .entry)) (now (sums .exit)) ⌝ }
 {
@@ -189,20 +183,12 @@ fn side_by_side(
         lapse_down: cell,
     };
     if point.count == 0 {
-        return FiveInYear { k: 0, cells: start };
+        return Stop { k: 0, cells: start };
     }
-    let cells = year_0(rows, point, columns, sums);
-    let mut stop = together(rows, point, columns, FiveInYear { k: 1, cells }, 5, sums);
+    let next = year_0(rows, point, sums);
+    let mut stop = together(rows, point, next, 1, 5, sums);
     if stop.k == 5 {
-        let cells = stop.cells;
-        stop = together(
-            rows,
-            point,
-            columns,
-            FiveInYear { k: 5, cells },
-            YEARS,
-            sums,
-        );
+        stop = together(rows, point, stop.cells, 5, YEARS, sums);
     }
     stop
 }
@@ -217,19 +203,14 @@ pub struct Counts {
 }
 
 // The projection of a model point: all five side by side, and then each alone.
-pub fn project(
-    rows: &RateTable,
-    point: ModelPoint,
-    columns: FiveColumns,
-    sums: &mut YearSums,
-) -> Counts
+pub fn project(rows: &RateTable, point: ModelPoint, sums: &mut YearSums) -> Counts
     requires { ⌜ Projectable (now rows) (point .row) (point .count)
-        × AtMost 2000000000000000 (now sums)
-        × (columns ≡ fiveColumns) ⌝ }
+        × AtMost 2000000000000000 (now sums) ⌝ }
     ensures { λ r. ⌜ Projected (now (rows .entry)) (point .row) (point .count) r (now (sums .entry))
         (now (sums .exit)) ⌝ }
 {
-    let stop = side_by_side(rows, point, columns, sums);
+    let columns = FiveColumns::new();
+    let stop = side_by_side(rows, point, sums);
     let k = stop.k;
     let cells = stop.cells;
     let cell = cells.base;
@@ -283,7 +264,6 @@ pub fn project(
 pub fn project_by(
     rows: &RateTable,
     point: ModelPoint,
-    five: FiveColumns,
     one: Columns,
     which: usize,
     sums: &mut YearSums,
@@ -291,14 +271,13 @@ pub fn project_by(
     requires { ⌜ Projectable (now rows) (point .row) (point .count)
         × (which ≤ 5)
         × AtMost 2000000000000000 (now sums)
-        × (five ≡ fiveColumns)
         × (which < 5 → one ≡ columnsOf which) ⌝ }
     ensures { λ _. ⌜ now (sums .exit) ≡ added
         (chosen which (amountBy (cellIn (now (rows .entry)) (point .row) (point .count)))) 500
         (now (sums .entry)) ⌝ }
 {
     if which == ALL {
-        project(rows, point, five, sums);
+        project(rows, point, sums);
         return;
     }
     project_in(rows, point, one, which, sums);

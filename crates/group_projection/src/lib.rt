@@ -15,7 +15,6 @@ use cell_projection::ModelPoint;
 use cell_projection::YearSums;
 use rate_table::RateTable;
 use settings::Columns;
-use settings::FiveColumns;
 use settings::Shifts;
 
 // In place of a projection: all five.
@@ -62,7 +61,6 @@ fn add_cells(
     ensures { λ n. ⌜ CellsAdded (now (book .entry)) which head n (now (sums .entry))
         (now (sums .exit)) ⌝ }
 {
-    let five = FiveColumns::new();
     let one = columns_in(which);
     let mut i = head;
     let mut row = 0usize;
@@ -70,7 +68,7 @@ fn add_cells(
     let mut n: u64 = 0;
     loop {
         let count = book::field_of(book, i, book::COUNT_OFFSET);
-        five_projections::project_by(rows, ModelPoint { row, count }, five, one, which, sums);
+        five_projections::project_by(rows, ModelPoint { row, count }, one, which, sums);
         n += book::holds(book, i);
         if above == 0 {
             return n;

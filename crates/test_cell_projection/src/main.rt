@@ -11,7 +11,6 @@ use libc::STDIN_FILENO;
 use libc::STDOUT_FILENO;
 use rate_table::COLUMNS;
 use rate_table::ROWS;
-use settings::FiveColumns;
 use settings::Shifts;
 use verdict::Verdict;
 
@@ -61,7 +60,7 @@ fn first_projection(book: &[u8], setting: usize, chain: usize) -> Years {
     rate_table::read_rows(book, Shifts::new(book), chain, head, &mut rows);
     let count = book::field_of(book, head, book::COUNT_OFFSET);
     let point = ModelPoint { row: 0, count };
-    let counts = five_projections::project(&rows, point, FiveColumns::new(), &mut sums);
+    let counts = five_projections::project(&rows, point, &mut sums);
     Years::Computed(years_of(counts, setting))
 }
 

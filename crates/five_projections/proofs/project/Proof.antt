@@ -15,9 +15,9 @@ use Rattle.five_projections.proofs.project.Tie as tie
 -- the five have come to where each goes on alone, and the table after each but the last
 module _ (m : tie.After-side-by-side) where
   abbrev start : tie.Start
-  start = m .before .before
+  start = m .before .before .before
 
-  capacity : AtMost 2001000000000000 (m .side-by-side .last .1 .1 .1 .0)
+  capacity : AtMost 2001000000000000 (m .side-by-side .last .1 .1 .0)
   capacity j =
       let w = m .side-by-side .ensures in
       omega (
@@ -53,7 +53,7 @@ alone-requires c κs =
       w .most,
       record { state = ap (λ (x : Five). x .base) (w .reached .states); going = w .reached .going 0 (omega arith) },
       λ j. omega (arith, capacity (c .before .before .before) j),
-      ap (λ (x : FiveColumns). x .base) (a .pre .2),
+      ap (λ (x : FiveColumns). x .base) (m .before .before .new .ensures),
     )
 
 alone-requires-2 : tie.Need-alone-requires-2
@@ -67,7 +67,7 @@ alone-requires-2 c κs =
       w .most,
       record { state = ap (λ (x : Five). x .«mortality_up») (w .reached .states); going = w .reached .going 1 (omega arith) },
       λ j. omega (arith, capacity-1 (c .before .before) j),
-      ap (λ (x : FiveColumns). x .«mortality_up») (a .pre .2),
+      ap (λ (x : FiveColumns). x .«mortality_up») (m .before .before .new .ensures),
     )
 
 alone-requires-3 : tie.Need-alone-requires-3
@@ -81,7 +81,7 @@ alone-requires-3 c κs =
       w .most,
       record { state = ap (λ (x : Five). x .«mortality_down») (w .reached .states); going = w .reached .going 2 (omega arith) },
       λ j. omega (arith, capacity-2 (c .before .before) j),
-      ap (λ (x : FiveColumns). x .«mortality_down») (a .pre .2),
+      ap (λ (x : FiveColumns). x .«mortality_down») (m .before .before .new .ensures),
     )
 
 alone-requires-4 : tie.Need-alone-requires-4
@@ -95,7 +95,7 @@ alone-requires-4 c κs =
       w .most,
       record { state = ap (λ (x : Five). x .«lapse_up») (w .reached .states); going = w .reached .going 3 (omega arith) },
       λ j. omega (arith, capacity-3 (c .before .before) j),
-      ap (λ (x : FiveColumns). x .«lapse_up») (a .pre .2),
+      ap (λ (x : FiveColumns). x .«lapse_up») (m .before .before .new .ensures),
     )
 
 alone-requires-5 : tie.Need-alone-requires-5
@@ -109,7 +109,7 @@ alone-requires-5 c κs =
       w .most,
       record { state = ap (λ (x : Five). x .«lapse_down») (w .reached .states); going = w .reached .going 4 (omega arith) },
       λ j. omega (arith, capacity-4 (c .before .before) j),
-      ap (λ (x : FiveColumns). x .«lapse_down») (a .pre .2),
+      ap (λ (x : FiveColumns). x .«lapse_down») (m .before .before .new .ensures),
     )
 
 returns : tie.Need-returns
@@ -131,5 +131,5 @@ returns c =
 
 pub project-spec : {M : Type 1} → statement M
 project-spec = tie.close
-    (tie.spec (λ c κs. (c .before .pre .0, c .before .pre .1, c .before .pre .2)) alone-requires alone-requires-2
+    (tie.spec (λ c κs. tt) (λ c κs. c .before .before .pre) alone-requires alone-requires-2
     alone-requires-3 alone-requires-4 alone-requires-5 returns)

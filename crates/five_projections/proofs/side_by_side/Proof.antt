@@ -26,7 +26,7 @@ module _ (m : tie.After-year-0) where
   start = m .before .before .before .before .before
 
   begun : Run (start .args .rows .now) (start .args .point .row) (start .args .point .count) 0 1 (m .year-0 .result)
-      (start .args .sums .now) (m .year-0 .last .1 .1 .1 .0)
+      (start .args .sums .now) (m .year-0 .last .1 .1 .0)
   begun = first-run _ _ _ (omega (arith, m .before .before .if1 .left)) _ _ _ (m .year-0 .ensures .0)
       (m .year-0 .ensures .1)
 
@@ -41,7 +41,6 @@ together-requires c κs =
       run .2,
       λ j. omega
           (arith, run-capacity _ _ _ _ _ _ _ _ run (a .pre .0) 2000000000000000 (a .pre .1) j),
-      a .pre .2,
     )
 
 -- the first five years, as far as all have something in force
@@ -55,10 +54,10 @@ module _ (m : tie.After-together) where
 
 together-requires-2 : tie.Need-together-requires-2
 together-requires-2 c κs =
-    let m = c .before .before .before .before in
+    let m = c .before .before .before in
     let a = start-5 m in
     let w = early m in
-    let five : m .together .result .k ≡ 5 = c .before .before .if2 .taken in (
+    let five : m .together .result .k ≡ 5 = c .before .if2 .taken in (
       a .pre .0,
       omega arith,
       omega arith,
@@ -68,13 +67,12 @@ together-requires-2 c κs =
         run-capacity _ _ _ 0 _ _ _ _ (w .since, omega (arith, w .most), w .reached, w .sums)
             (a .pre .0) 2000000000000000 (a .pre .1) j,
       ),
-      a .pre .2,
     )
 
 returns-2 : tie.Need-returns-2
 returns-2 c =
-    let w = early (c .before .before .before .before .before) in
-    let five = c .before .before .before .if2 .taken in
+    let w = early (c .before .before .before .before) in
+    let five = c .before .before .if2 .taken in
     run-then _ _ _ 5 50 _ _ _ _ _ (omega arith, omega arith, rw five at (w .reached), rw five at (w .sums))
     (c .together2 .ensures)
 

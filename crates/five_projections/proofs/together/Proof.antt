@@ -12,11 +12,11 @@ use Rattle.five_projections.proofs.together.Tie as tie
 
 -- the model point is none of the loop's values: what is kept holds of each from which the loop's first states come
 abbrev Inv-loop : tie.InvT-loop
-Inv-loop rows columns to sums₀ cells₀ k₀ sums cells k =
-    (k ≤ to) × ((r n : ℕ) → Reached rows r n k₀ cells₀ → Run rows r n k₀ k cells sums₀ sums)
+Inv-loop rows from to sums₀ columns cells₀ k₀ sums cells k =
+    (k ≤ to) × ((r n : ℕ) → Reached rows r n from cells₀ → Run rows r n from k cells sums₀ sums)
 
 abbrev μ-loop : tie.MeasureT-loop
-μ-loop rows columns to sums₀ cells₀ k₀ sums cells k = to - k
+μ-loop rows from to sums₀ columns cells₀ k₀ sums cells k = to - k
 
 loop-holds : tie.Need-loop-holds Inv-loop μ-loop
 loop-holds c =
@@ -28,12 +28,12 @@ module _ (m : tie.At-loop Inv-loop μ-loop) where
   abbrev start : tie.Start Inv-loop μ-loop
   start = m .before .before
 
-  run : Run (start .args .rows .now) (start .args .point .row) (start .args .point .count) (start .args .start .k)
+  run : Run (start .args .rows .now) (start .args .point .row) (start .args .point .count) (start .args .from)
       (m .loop .k) (m .loop .cells) (start .args .sums .now) (m .loop .sums)
   run = m .loop .inv .1 _ _ (start .pre .3)
 
   stopped : ProjectedTo (start .args .rows .now) (start .args .point .row) (start .args .point .count)
-      (start .args .start .k) (start .args .to) (record { k = m .loop .k; cells = m .loop .cells })
+      (start .args .from) (start .args .to) (record { k = m .loop .k; cells = m .loop .cells })
       (start .args .sums .now) (m .loop .sums)
   stopped = record { sums = run .3; since = run .0; most = m .loop .inv .0; reached = run .2 }
 
@@ -46,7 +46,7 @@ year-requires c κs =
       year,
       λ j. omega
           (arith, run-capacity _ _ _ _ _ _ _ _ (run m) (a .pre .0) 2500000000000000 (a .pre .4) j),
-      a .pre .5,
+      m .before .new .ensures,
     )
 
 loop-again : tie.Need-loop-again Inv-loop μ-loop
@@ -70,6 +70,6 @@ returns-2 c = stopped (c .before)
 
 pub together-spec : {M : Type 1} → statement M
 together-spec = tie.close
-    (tie.spec Inv-loop μ-loop loop-holds (λ c κs. tt) year-requires
+    (tie.spec Inv-loop μ-loop (λ c κs. tt) loop-holds (λ c κs. tt) year-requires
     (λ c. omega (arith, c .before .before .before .before .loop-test .taken))
     (λ c. omega (arith, c .before .before .before .before .loop-test .taken)) loop-again returns returns-2)

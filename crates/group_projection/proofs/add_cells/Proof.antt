@@ -23,19 +23,19 @@ use Rattle.group_projection.proofs.add_cells.Statement.{statement}
 use Rattle.group_projection.proofs.add_cells.Tie as tie
 
 abbrev Inv-loop : tie.InvT-loop
-Inv-loop book chain head which rows sums₀ five one i₀ row₀ above₀ n₀ sums i row above n =
+Inv-loop book chain head which rows sums₀ one i₀ row₀ above₀ n₀ sums i row above n =
     (row + above ≡ above₀) × (above₀ ≡ 120 - classOf book head) × (n ≤ row) × (i ≡ rowAt book head row)
     × ChainFrom book 120 chain above i
     × Carry (amountIn book which) book above₀ head sums₀ above i sums
     × (n + heldFrom book i (above + 1) ≡ heldFrom book head (above₀ + 1))
 
 abbrev μ-loop : tie.MeasureT-loop
-μ-loop book chain head which rows sums₀ five one i₀ row₀ above₀ n₀ sums i row above n = above
+μ-loop book chain head which rows sums₀ one i₀ row₀ above₀ n₀ sums i row above n = above
 
 -- what holds at the loop, of the head and of record i
 module _ (m : tie.At-loop Inv-loop μ-loop) where
   abbrev start : tie.Start Inv-loop μ-loop
-  start = m .before .before .before .before .before
+  start = m .before .before .before .before
 
   abbrev book : List ℕ
   book = start .args .book .now
@@ -86,16 +86,16 @@ module _ (m : tie.At-loop Inv-loop μ-loop) where
 
 class-of-requires : tie.Need-class-of-requires Inv-loop μ-loop
 class-of-requires c κs =
-    let a = c .before .before .before in
+    let a = c .before .before in
     (a .pre .1 .0 .first, omega (arith, a .pre .1 .0 .inside, a .pre .0 .header .size))
 
 sub-above : tie.Need-sub-above Inv-loop μ-loop
-sub-above c = omega (arith, c .before .before .before .before .pre .1 .0 .class-high, c .class-of .ensures)
+sub-above c = omega (arith, c .before .before .before .pre .1 .0 .class-high, c .class-of .ensures)
 
 loop-holds : tie.Need-loop-holds Inv-loop μ-loop
 unfolding rowAt
 loop-holds c =
-    let a = c .before .before .before .before in
+    let a = c .before .before .before in
     let e = c .class-of .ensures .0 in (
       omega arith,
       rw e,
@@ -116,7 +116,6 @@ project-by-requires c κs =
       start m .pre .3,
       λ j. omega
           (arith, m .loop .inv .5 .1 j, few-left m),
-      m .before .before .before .new .ensures,
       m .before .before
           .columns-in .ensures,
     )
@@ -167,6 +166,6 @@ loop-again c =
 pub add-cells-spec : {M : Type 1} → statement M
 add-cells-spec =
     tie.close
-    (tie.spec Inv-loop μ-loop (λ c κs. tt) (λ c κs. c .before .before .pre .3) class-of-requires sub-above loop-holds
+    (tie.spec Inv-loop μ-loop (λ c κs. c .before .pre .3) class-of-requires sub-above loop-holds
     field-of-requires project-by-requires holds-requires (λ c. omega arith) returns
     next-of-requires (λ c. omega arith) (λ c. omega arith) (λ c. omega arith) loop-again)
