@@ -82,35 +82,34 @@ pub struct Two {
     pub second: u64,
 }
 
-// x times w and y times v over d, rounded down, by the fractions that w over d and v over d are: no
-// division. One branch serves both: where either upper half may be one too few, both are corrected.
-pub fn two_parts(
-    x: u64,
-    w: u64,
-    fraction: u64,
-    y: u64,
-    v: u64,
-    other: u64,
-    d: u64,
-    most: u64,
-) -> Two
-    requires { ⌜ (x ≤ most)
-        × (y ≤ most)
+// An amount, its weight over a divisor, and the fraction that weight over divisor is.
+pub struct Weighted {
+    pub amount: u64,
+    pub weight: u64,
+    pub fraction: u64,
+}
+
+// Each amount times its weight over d, rounded down, by its fraction: no division. The amounts are
+// up to `most`. One branch serves both: where either upper half may be one too few, both are
+// corrected.
+pub fn two_parts(one: Weighted, other: Weighted, d: u64, most: u64) -> Two
+    requires { ⌜ (one .amount ≤ most)
+        × (other .amount ≤ most)
         × (0 < d)
         × (d < 9223372036854775808)
-        × IsFraction w d fraction
-        × IsFraction v d other ⌝ }
-    ensures { λ r. ⌜ (r .first ≡ (x * w) / d)
-        × (r .second ≡ (y * v) / d) ⌝ }
+        × IsFraction (one .weight) d (one .fraction)
+        × IsFraction (other .weight) d (other .fraction) ⌝ }
+    ensures { λ r. ⌜ (r .first ≡ (one .amount * one .weight) / d)
+        × (r .second ≡ (other .amount * other .weight) / d) ⌝ }
 {
-    let first = mul_high(x, fraction);
-    let second = mul_high(y, other);
-    let first_may_be_low = may_be_low(x, fraction, most);
-    let second_may_be_low = may_be_low(y, other, most);
+    let first = mul_high(one.amount, one.fraction);
+    let second = mul_high(other.amount, other.fraction);
+    let first_may_be_low = may_be_low(one.amount, one.fraction, most);
+    let second_may_be_low = may_be_low(other.amount, other.fraction, most);
     if first_may_be_low || second_may_be_low {
         return Two {
-            first: corrected(x, w, d, first),
-            second: corrected(y, v, d, second),
+            first: corrected(one.amount, one.weight, d, first),
+            second: corrected(other.amount, other.weight, d, second),
         };
     }
     Two { first, second }

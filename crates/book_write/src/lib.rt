@@ -25,8 +25,8 @@ fn put_book(
         (bookOf (given values (now (counts .entry)) (now (lapses .entry)) (now (premiums .entry))
         (now (claims .entry)))) (now (out .exit)) r ⌝ }
 {
-    let records_at = put_header(out, values);
-    put_chains(out, records_at, values, counts, lapses, premiums, claims)
+    put_header(out, values);
+    put_chains(out, values, counts, lapses, premiums, claims)
 }
 
 // Writes the book of the contents, and answers its length. Where they are refused, a buffer that is

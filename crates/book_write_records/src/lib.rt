@@ -2,12 +2,13 @@
 ghost use mathlib.Core.List.{[], _∷_, _++_};
 ghost use mathlib.Core.Path.{_≡_};
 ghost use Prim.Native.Nat.{_+_, _*_, _<_, _^_};
-ghost use Rattle.book.specs.Layout.{chainCode, chainSex};
+ghost use Rattle.book.specs.Layout.{headerSize, recordSize, chainCode, chainSex};
 ghost use Rattle.buffer.specs.Text.{Wrote, joined};
 ghost use Rattle.book_contents.specs.Contents.{given, sizeOf, recordsBefore};
 ghost use Rattle.book_contents.specs.Written.{twoBytes, nextFor, encodedRecord, chainBytes};
 ghost use Rattle.book_contents.specs.Limits.{Fit};
 use book::CHAINS;
+use book::HEADER_SIZE;
 use book_contents::Values;
 use book_encoding::put_four;
 use book_encoding::put_two;
@@ -32,29 +33,32 @@ fn put_link(out: &mut [u8], at: usize, k: usize, class: u64, next: u64) -> usize
     put_two(out, last_at, 0)
 }
 
-fn put_record(
-    out: &mut [u8],
-    at: usize,
-    k: usize,
+// What a record holds: its chain, its class, the record that follows in the chain (0 after the
+// last), and four numbers.
+struct Record {
+    chain: usize,
     class: u64,
     next: u64,
     count: u64,
     lapse: u64,
     premium: u64,
     claims: u64,
-) -> usize
+}
+
+fn put_record(out: &mut [u8], at: usize, fields: Record) -> usize
     requires { ⌜ (at + 25 < 2 ^ 64)
-        × (k < 14)
-        × (class < 256) ⌝ }
+        × (fields .chain < 14)
+        × (fields .class < 256) ⌝ }
     ensures { λ r. ⌜ Wrote (now (out .entry)) at
-        (encodedRecord k class next count lapse premium claims) (now (out .exit)) r
+        (encodedRecord (fields .chain) (fields .class) (fields .next) (fields .count)
+        (fields .lapse) (fields .premium) (fields .claims)) (now (out .exit)) r
         × (r ≡ at + 24) ⌝ }
 {
-    let count_at = put_link(out, at, k, class, next);
-    let lapse_at = put_four(out, count_at, count);
-    let premium_at = put_four(out, lapse_at, lapse);
-    let claims_at = put_four(out, premium_at, premium);
-    put_four(out, claims_at, claims)
+    let count_at = put_link(out, at, fields.chain, fields.class, fields.next);
+    let lapse_at = put_four(out, count_at, fields.count);
+    let premium_at = put_four(out, lapse_at, fields.lapse);
+    let claims_at = put_four(out, premium_at, fields.premium);
+    put_four(out, claims_at, fields.claims)
 }
 
 // The next of entry j of chain k, with so many records before the chain's.
@@ -71,72 +75,83 @@ fn next_for(first: &[u64; 14], k: usize, j: usize, sum: usize) -> u64
     (sum + (j + 1) + 1) as u64
 }
 
-// The records of chain k, with so many before them.
+// A chain of the book of these values: its number, how many records stand before its own, and the
+// place of its first record.
+struct Chain {
+    values: Values,
+    number: usize,
+    before: usize,
+    at: usize,
+}
+
 fn put_chain(
     out: &mut [u8],
-    at: usize,
-    values: Values,
-    k: usize,
-    sum: usize,
+    chain: Chain,
     counts: &[u64],
     lapses: &[u64],
     premiums: &[u64],
     claims: &[u64],
 ) -> usize
-    requires { ⌜ (at < 2 ^ 32)
-        × (k < 14)
-        × (sum ≡ recordsBefore (values .first) k)
-        × Fit (given values (now counts) (now lapses) (now premiums) (now claims)) ⌝ }
-    ensures { λ r. ⌜ Wrote (now (out .entry)) at
+    requires { ⌜ (chain .at < 2 ^ 32)
+        × (chain .number < 14)
+        × (chain .before ≡ recordsBefore (chain .values .first) (chain .number))
+        × Fit (given (chain .values) (now counts) (now lapses) (now premiums) (now claims)) ⌝ }
+    ensures { λ r. ⌜ Wrote (now (out .entry)) (chain .at)
         (chainBytes
-        (given values (now (counts .entry)) (now (lapses .entry)) (now (premiums .entry))
-        (now (claims .entry))) k) (now (out .exit)) r
-        × (r ≡ at + 24 * sizeOf (values .first) k) ⌝ }
+        (given (chain .values) (now (counts .entry)) (now (lapses .entry)) (now (premiums .entry))
+        (now (claims .entry))) (chain .number)) (now (out .exit)) r
+        × (r ≡ chain .at + recordSize * sizeOf (chain .values .first) (chain .number)) ⌝ }
 {
-    let first = values.first;
+    let first = chain.values.first;
+    let k = chain.number;
+    let before = chain.before;
     let class = first[k];
     let size = size_of(&first, k);
-    let mut next = at;
+    let mut next = chain.at;
     for j in 0..size {
-        let link = next_for(&first, k, j, sum);
-        let i = sum + j;
-        next = put_record(
-            out,
-            next,
-            k,
-            class + j as u64,
-            link,
-            counts[i],
-            lapses[i],
-            premiums[i],
-            claims[i],
-        );
+        let link = next_for(&first, k, j, before);
+        let i = before + j;
+        let fields = Record {
+            chain: k,
+            class: class + j as u64,
+            next: link,
+            count: counts[i],
+            lapse: lapses[i],
+            premium: premiums[i],
+            claims: claims[i],
+        };
+        next = put_record(out, next, fields);
     }
     next
 }
 
+// All records, chain by chain, after the header.
 pub fn put_chains(
     out: &mut [u8],
-    at: usize,
     values: Values,
     counts: &[u64],
     lapses: &[u64],
     premiums: &[u64],
     claims: &[u64],
 ) -> usize
-    requires { ⌜ (at < 2 ^ 31)
-        × Fit (given values (now counts) (now lapses) (now premiums) (now claims)) ⌝ }
-    ensures { λ r. ⌜ Wrote (now (out .entry)) at
+    requires { ⌜ Fit (given values (now counts) (now lapses) (now premiums) (now claims)) ⌝ }
+    ensures { λ r. ⌜ Wrote (now (out .entry)) headerSize
         (joined (chainBytes
         (given values (now (counts .entry)) (now (lapses .entry)) (now (premiums .entry))
         (now (claims .entry)))) 14) (now (out .exit)) r ⌝ }
 {
     let first = values.first;
-    let mut next = at;
-    let mut sum = 0;
+    let mut next = HEADER_SIZE;
+    let mut before = 0;
     for k in 0..CHAINS {
-        next = put_chain(out, next, values, k, sum, counts, lapses, premiums, claims);
-        sum = sum + size_of(&first, k);
+        let chain = Chain {
+            values,
+            number: k,
+            before,
+            at: next,
+        };
+        next = put_chain(out, chain, counts, lapses, premiums, claims);
+        before = before + size_of(&first, k);
     }
     next
 }

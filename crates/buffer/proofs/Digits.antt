@@ -9,8 +9,8 @@ use native.Mathlib.Nat.{zero-add, suc-add, not-suc-le-zero, pow-suc, mul-suc}
 use native.Mathlib.Omega.{arith}
 use borrow.Author.Tests.{lt-ltb, le-ltb}
 use lib.Dec.{ltb}
-use lib.IntN.{ℤ, pos, negsuc, natAbs, _-ℤ_}
-use lib.Signed.{mag, ltZ, ltZ-no, _<ℤ_, _≤ℤ_}
+use lib.IntN.{ℤ, pos, negsuc, natAbs}
+use lib.Signed.{ltZ, ltZ-no, _<ℤ_, _≤ℤ_}
 use lib.Dec.{T, ltb→lt}
 use mir.Syntax.{w64}
 use mir.Val.{SFits, toZ, ofZ}
@@ -137,14 +137,6 @@ number-most n h = digits-most 19 n (omega arith)
 
 -- ---- signs
 
-pub less-one : (v : ℤ) → v <ℤ pos 0 → negsuc 0 -ℤ v ≡ pos (mag v)
-less-one (pos n) h = absurd (not-suc-le-zero (ltb→lt n 0 (h .lt)))
-less-one (negsuc k) h = let e : suc k - 1 ≡ k = omega arith in rw (le-ltb (suc k) 1 (omega arith)) (ap pos e)
-
-pub size-one : (v : ℤ) → v <ℤ pos 0 → mag v + 1 ≡ natAbs v
-size-one (pos n) h = absurd (not-suc-le-zero (ltb→lt n 0 (h .lt)))
-size-one (negsuc k) h = omega arith
-
 pub signed-below : (v : ℤ) → v <ℤ pos 0 → signed v ≡ 45 ∷ decimal (natAbs v)
 unfolding signed
 signed-below (pos n) h = absurd (not-suc-le-zero (ltb→lt n 0 (h .lt)))
@@ -158,10 +150,6 @@ signed-other (negsuc k) h = absurd (h .le)
 pub size-most : (v : ℤ) → SFits w64 v → natAbs v < 2 ^ 64
 size-most (pos n) h = omega (arith, h .sfits)
 size-most (negsuc k) h = omega (arith, h .sfits)
-
--- the bits of a number are read back as the number
-pub back : (n : ℕ) → n < 2 ^ 63 → toZ w64 (ofZ w64 (pos n)) ≡ pos n
-back n h = toZ-ofZ w64 (pos n) (record { sfits = h })
 
 -- what a test `v < 0` says
 pub is-below : (v : ℤ) → SFits w64 v → ltZ (toZ w64 (ofZ w64 v)) (pos 0) ≡ true → v <ℤ pos 0

@@ -6,8 +6,6 @@ ghost use mathlib.Core.Path.{_≡_};
 ghost use mathlib.Core.List.{[], _∷_};
 ghost use Prim.Native.Nat.{_+_, _<_, _≤_, _^_};
 ghost use lib.ListN.{length};
-ghost use lib.IntN.{pos, natAbs};
-ghost use lib.Signed.{_<ℤ_};
 ghost use Rattle.buffer.specs.Text.{decimal, signed, ended, signedEnded, refusalText, Wrote};
 
 // What a call that writes a text into a passed buffer replies: the text's length, or the refusal
@@ -60,14 +58,6 @@ pub fn put_bytes(out: &mut [u8], at: usize, s: &[u8]) -> usize
     next
 }
 
-// The size of a number below 0.
-fn size_below(v: i64) -> u64
-    requires { ⌜ v <ℤ pos 0 ⌝ }
-    ensures { λ r. ⌜ r ≡ natAbs v ⌝ }
-{
-    (-1 - v) as u64 + 1
-}
-
 pub fn put_signed(out: &mut [u8], at: usize, v: i64) -> usize
     requires { ⌜ at + 22 < 2 ^ 64 ⌝ }
     ensures { λ r. ⌜ Wrote (now (out .entry)) at (signed v) (now (out .exit)) r
@@ -75,7 +65,7 @@ pub fn put_signed(out: &mut [u8], at: usize, v: i64) -> usize
 {
     if v < 0 {
         let next = put_byte(out, at, 45);
-        return put_number(out, next, size_below(v));
+        return put_number(out, next, signed::size_below(v));
     }
     put_number(out, at, v as u64)
 }

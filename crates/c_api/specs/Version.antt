@@ -1,4 +1,4 @@
--- The version as one number, as programs compare it: that of 2.1.0 is 20,100.
+-- The version as one number, as programs compare it: that of 2.2.0 is 20,200.
 use Prim.Native.Nat.{ℕ, _+_, _*_}
 
 abbrev pub versionNumber : ℕ → ℕ → ℕ → ℕ

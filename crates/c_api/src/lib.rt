@@ -43,9 +43,9 @@ use valuation::TotalsReply;
 // Of this library, as the file VERSION has it.
 #[no_mangle]
 pub extern "C" fn xaropinto_version() -> u64
-    ensures { λ r. ⌜ r ≡ versionNumber 2 1 0 ⌝ }
+    ensures { λ r. ⌜ r ≡ versionNumber 2 2 0 ⌝ }
 {
-    20_100
+    20_200
 }
 
 #[no_mangle]

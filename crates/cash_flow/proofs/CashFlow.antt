@@ -1,13 +1,10 @@
 -- Laws of the year table, of the sums over the years, and of a difference with its sign. Assumes nothing.
 use mathlib.Core.Path.{_≡_, refl, sym, ap, _∙_}
 use mathlib.Core.List.{List, [], _∷_, _++_, append-assoc}
-use mathlib.Core.Bool.{Bool, true, false, cond}
-use Prim.Native.Nat.{ℕ, zero, suc, _+_, _-_, _*_, _≤_}
+use Prim.Native.Nat.{ℕ, suc, _+_, _-_, _*_, _≤_}
 use native.Mathlib.Numerals.{add-one}
 use native.Mathlib.Omega.{arith}
-use lib.Dec.{ltb}
-use lib.IntN.{pos, negsuc, _-ℤ_}
-use lib.Signed.{mag}
+use lib.IntN.{pos, _-ℤ_}
 use lib.ListN.{length, set, take, drop, length-append, length-drop}
 use lib.Seq.{sets-eq, take-at, drop-at, drop-drop}
 use Rattle.settings.specs.Settings.{decrementsOf, outgoingsOf}
@@ -71,15 +68,6 @@ year-is t cs k a b c d h1 h2 h3 h4 = rw (h1, h2, h3, h4)
 pub sum-more : (f : ℕ → ℕ) (n x y : ℕ) → x ≡ sumYears rounded n f → y ≡ f n → x + y ≡ sumYears rounded (n + 1) f
 unfolding sumYears
 sum-more f n x y e h = rw (add-one n) (cc)
-
--- a difference of two numbers is no larger than both
-pub less-mag : (a b m : ℕ) → a ≤ m → b ≤ m → mag (pos a -ℤ pos b) ≤ m
-less-mag a zero m p q = omega arith
-less-mag a (suc n) m p q = by (ltb a (suc n)) (suc n - suc a) (a - suc n) (omega arith) (omega arith)
-  where
-    by : (t : Bool) (x y : ℕ) → x ≤ m → y ≤ m → mag (cond t (negsuc x) (pos y)) ≤ m
-    by true x y p q = p
-    by false x y p q = q
 
 module _ (b : List ℕ) (s g : ℕ) where
   -- outgo and cap of the year's sums are the valuation's

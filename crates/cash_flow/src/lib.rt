@@ -4,7 +4,6 @@
 ghost use mathlib.Core.Path.{_≡_};
 ghost use mathlib.Core.List.{_++_};
 ghost use Prim.Native.Nat.{_+_, _*_, _/_, _<_, _≤_};
-ghost use lib.IntN.{pos, _-ℤ_};
 ghost use lib.ListN.{length, getD, set, take, drop};
 ghost use Rattle.book.specs.Reading.{ValidBook};
 ghost use Rattle.settings.specs.Settings.{OutgoWeighed};
@@ -15,6 +14,7 @@ ghost use Rattle.arith.specs.Fractions.{IsFraction};
 ghost use Rattle.cash_flow.specs.CashFlow.{Divisor, Divisors, FirstAtMost, Stepped};
 ghost use Rattle.cash_flow.specs.CashFlow.{DiscountedIn, outgoOf, fourOf};
 use arith::Two;
+use arith::Weighted;
 use settings::Outgoings;
 
 // No doubled amount is above that: amounts before a step are at most 10^16.
@@ -66,16 +66,17 @@ fn step_back(x: u64, y: u64, d: u64, fraction: u64) -> Two
     ensures { λ r. ⌜ (r .first ≡ x * 1000000 / d)
         × (r .second ≡ y * 1000000 / d) ⌝ }
 {
-    arith::two_parts(
-        2 * x,
-        1_000_000,
+    let first = Weighted {
+        amount: 2 * x,
+        weight: 1_000_000,
         fraction,
-        2 * y,
-        1_000_000,
+    };
+    let second = Weighted {
+        amount: 2 * y,
+        weight: 1_000_000,
         fraction,
-        2 * d,
-        MOST_DOUBLED,
-    )
+    };
+    arith::two_parts(first, second, 2 * d, MOST_DOUBLED)
 }
 
 // One step on premium and outgo of year k, at the divisor of that year.
@@ -201,13 +202,4 @@ pub fn put_year(table: &mut [u64], k: usize, y: Year)
     table[at + 1] = y.outgo;
     table[at + 2] = y.discounted_premium;
     table[at + 3] = y.discounted_outgo;
-}
-
-// a less b, with its sign.
-pub fn less(a: u64, b: u64) -> i64
-    requires { ⌜ (a ≤ 1000000000000000000)
-        × (b ≤ 1000000000000000000) ⌝ }
-    ensures { λ r. ⌜ r ≡ pos a -ℤ pos b ⌝ }
-{
-    (a as i64) - (b as i64)
 }

@@ -19,6 +19,19 @@ pub const A_YEAR: usize = 10;
 
 pub type YearSums = [u64; YEARS * A_YEAR];
 
+// What a projection starts from: a model point, in document 01 a cell. The row of its chain that
+// holds in year 0, and the number of its contracts.
+pub struct ModelPoint {
+    pub row: usize,
+    pub count: u64,
+}
+
+// A year of a projection, and the state in it.
+pub struct CellInYear {
+    pub k: usize,
+    pub cell: Cell,
+}
+
 // Adds x to number j of the table.
 pub fn add_at(sums: &mut YearSums, j: usize, x: u64)
     requires { ⌜ (j < 500)
@@ -54,30 +67,28 @@ pub fn one_year(
     cell.next_year(rows, columns, k)
 }
 
-// The years from k on of one projection of the cell that starts at the row `own` with `count`
-// contracts, until nothing is in force. Returns how many years the projection has in all.
+// The years of one projection of a model point from one on, until nothing is in force. Returns how
+// many years the projection has in all.
 pub fn alone(
     rows: &RateTable,
-    own: usize,
-    count: u64,
+    point: ModelPoint,
     columns: Columns,
     setting: usize,
-    start: Cell,
-    from: usize,
+    start: CellInYear,
     sums: &mut YearSums,
 ) -> usize
-    requires { ⌜ Projectable (now rows) own count
+    requires { ⌜ Projectable (now rows) (point .row) (point .count)
         × (setting < 5)
-        × (from ≤ 50)
-        × ReachedIn (now rows) own count setting from start
+        × (start .k ≤ 50)
+        × ReachedIn (now rows) (point .row) (point .count) setting (start .k) (start .cell)
         × AtMost 3000000000000000 (now sums)
         × (columns ≡ columnsOf setting) ⌝ }
     ensures { λ years.
-        ⌜ ProjectedIn (now (rows .entry)) own count setting from years (now (sums .entry))
-        (now (sums .exit)) ⌝ }
+        ⌜ ProjectedIn (now (rows .entry)) (point .row) (point .count) setting (start .k) years
+        (now (sums .entry)) (now (sums .exit)) ⌝ }
 {
-    let mut cell = start;
-    let mut k = from;
+    let mut cell = start.cell;
+    let mut k = start.k;
     while k < YEARS && 0 < cell.inforce {
         cell = one_year(rows, cell, columns, setting, k, sums);
         k += 1;
@@ -85,23 +96,29 @@ pub fn alone(
     k
 }
 
-// The cell in one projection.
+// A model point in one projection.
 pub fn project_in(
     rows: &RateTable,
-    own: usize,
-    count: u64,
+    point: ModelPoint,
     columns: Columns,
     setting: usize,
     sums: &mut YearSums,
 ) -> usize
-    requires { ⌜ Projectable (now rows) own count
+    requires { ⌜ Projectable (now rows) (point .row) (point .count)
         × (setting < 5)
         × AtMost 2000000000000000 (now sums)
         × (columns ≡ columnsOf setting) ⌝ }
     ensures { λ years.
-        ⌜ ProjectedIn (now (rows .entry)) own count setting 0 years (now (sums .entry))
-        (now (sums .exit)) ⌝ }
+        ⌜ ProjectedIn (now (rows .entry)) (point .row) (point .count) setting 0 years
+        (now (sums .entry)) (now (sums .exit)) ⌝ }
 {
-    let start = Cell::new(own, count);
-    alone(rows, own, count, columns, setting, start, 0, sums)
+    let cell = Cell::new(point.row, point.count);
+    alone(
+        rows,
+        point,
+        columns,
+        setting,
+        CellInYear { k: 0, cell },
+        sums,
+    )
 }

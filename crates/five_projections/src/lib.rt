@@ -11,6 +11,8 @@ ghost use Rattle.five_projections.specs.Five.{FiveReady, startOf, nextFi
 ghost use Rattle.five_projections.specs.Five.{fiveTimesMore, LeastInForce};
 ghost use Rattle.five_projections.specs.SideBySide.{Reached, ProjectedTo, Projected};
 use cell::Cell;
+use cell_projection::CellInYear;
+use cell_projection::ModelPoint;
 use cell_projection::YEARS;
 use cell_projection::YearSums;
 use cell_projection::add_at;
@@ -96,24 +98,18 @@ fn add_year_0(sums: &mut YearSums, premium: u64, claims: u64)
 
 // Year 0 of all five. A whole number of contracts is in force, so premium and claims are so many
 // times those of one: no share of them is taken.
-fn year_0(
-    rows: &RateTable,
-    own: usize,
-    count: u64,
-    columns: FiveColumns,
-    sums: &mut YearSums,
-) -> Five
-    requires { ⌜ Projectable (now rows) own count
-        × AtMost 2000000000000000 (now sums)
-        × (columns ≡ fiveColumns) ⌝ }
-    ensures { λ r. ⌜ (r ≡ nextFive (now (rows .entry)) 0 (startOf own count))
-        × (now (sums .exit) ≡ tenMore (now (rows .entry)) 0 (startOf own count) (now (sums .entry)))
-        ⌝ }
+fn year_0(rows: &RateTable, point: ModelPoint, sums: &mut YearSums) -> Five
+    requires { ⌜ Projectable (now rows) (point .row) (point .count)
+        × AtMost 2000000000000000 (now sums) ⌝ }
+    ensures { λ r. ⌜ (r ≡ nextFive (now (rows .entry)) 0 (startOf (point .row) (point .count)))
+        × (now (sums .exit) ≡ tenMore (now (rows .entry)) 0 (startOf (point .row) (point .count))
+        (now (sums .entry))) ⌝ }
 {
-    let premium = count * rows[COLUMNS * own + PREMIUM + RATES];
-    let claims = count * rows[COLUMNS * own + CLAIMS + RATES];
+    let premium = point.count * rows[COLUMNS * point.row + PREMIUM + RATES];
+    let claims = point.count * rows[COLUMNS * point.row + CLAIMS + RATES];
     add_year_0(sums, premium, claims);
-    let cell = Cell::new(own, count);
+    let columns = FiveColumns::new();
+    let cell = Cell::new(point.row, point.count);
     let base = cell.next_year(rows, columns.base, 0);
     let mortality_up = cell.next_year(rows, columns.mortality_up, 0);
     let mortality_down = cell.next_year(rows, columns.mortality_down, 0);
@@ -143,26 +139,24 @@ pub struct Stop {
 }
 
 // The years of all five side by side, from one to before another, while all have something in
-// force. The cell starts at the row `own` with `count` contracts.
+// force.
 fn together(
     rows: &RateTable,
-    own: usize,
-    count: u64,
-    columns: FiveColumns,
+    point: ModelPoint,
     start: Five,
     from: usize,
     to: usize,
     sums: &mut YearSums,
 ) -> Stop
-    requires { ⌜ Projectable (now rows) own count
+    requires { ⌜ Projectable (now rows) (point .row) (point .count)
         × (from ≤ to)
         × (to ≤ 50)
-        × Reached (now rows) own count from start
-        × AtMost 2500000000000000 (now sums)
-        × (columns ≡ fiveColumns) ⌝ }
-    ensures { λ r. ⌜ ProjectedTo (now (rows .entry)) own count from to r (now (sums .entry))
-        (now (sums .exit)) ⌝ }
+        × Reached (now rows) (point .row) (point .count) from start
+        × AtMost 2500000000000000 (now sums) ⌝ }
+    ensures { λ r. ⌜ ProjectedTo (now (rows .entry)) (point .row) (point .count) from to r
+        (now (sums .entry)) (now (sums .exit)) ⌝ }
 {
+    let columns = FiveColumns::new();
     let mut cells = start;
     let mut k = from;
     while k < to && all(cells) {
@@ -174,20 +168,13 @@ fn together(
 
 // The same from year 0 on, which has a rule of its own. The first five years have a loop of their
 // own: in the later ones one set of weights holds.
-fn side_by_side(
-    rows: &RateTable,
-    own: usize,
-    count: u64,
-    columns: FiveColumns,
-    sums: &mut YearSums,
-) -> Stop
-    requires { ⌜ Projectable (now rows) own count
-        × AtMost 2000000000000000 (now sums)
-        × (columns ≡ fiveColumns) ⌝ }
-    ensures { λ r. ⌜ ProjectedTo (now (rows .entry)) own count 0 50 r (now (sums .entry))
-        (now (sums .exit)) ⌝ }
+fn side_by_side(rows: &RateTable, point: ModelPoint, sums: &mut YearSums) -> Stop
+    requires { ⌜ Projectable (now rows) (point .row) (point .count)
+        × AtMost 2000000000000000 (now sums) ⌝ }
+    ensures { λ r. ⌜ ProjectedTo (now (rows .entry)) (point .row) (point .count) 0 50 r
+        (now (sums .entry)) (now (sums .exit)) ⌝ }
 {
-    let cell = Cell::new(own, count);
+    let cell = Cell::new(point.row, point.count);
     let start = Five {
         base: cell,
         mortality_up: cell,
@@ -195,13 +182,13 @@ fn side_by_side(
         lapse_up: cell,
         lapse_down: cell,
     };
-    if count == 0 {
+    if point.count == 0 {
         return Stop { k: 0, cells: start };
     }
-    let next = year_0(rows, own, count, columns, sums);
-    let mut stop = together(rows, own, count, columns, next, 1, 5, sums);
+    let next = year_0(rows, point, sums);
+    let mut stop = together(rows, point, next, 1, 5, sums);
     if stop.k == 5 {
-        stop = together(rows, own, count, columns, stop.cells, 5, YEARS, sums);
+        stop = together(rows, point, stop.cells, 5, YEARS, sums);
     }
     stop
 }
@@ -215,63 +202,53 @@ pub struct Counts {
     pub lapse_down: usize,
 }
 
-// The projection of the cell that starts at the row `own` with `count` contracts: all five side by
-// side, and then each alone.
-pub fn project(
-    rows: &RateTable,
-    own: usize,
-    count: u64,
-    columns: FiveColumns,
-    sums: &mut YearSums,
-) -> Counts
-    requires { ⌜ Projectable (now rows) own count
-        × AtMost 2000000000000000 (now sums)
-        × (columns ≡ fiveColumns) ⌝ }
-    ensures { λ r. ⌜ Projected (now (rows .entry)) own count r (now (sums .entry))
+// The projection of a model point: all five side by side, and then each alone.
+pub fn project(rows: &RateTable, point: ModelPoint, sums: &mut YearSums) -> Counts
+    requires { ⌜ Projectable (now rows) (point .row) (point .count)
+        × AtMost 2000000000000000 (now sums) ⌝ }
+    ensures { λ r. ⌜ Projected (now (rows .entry)) (point .row) (point .count) r (now (sums .entry))
         (now (sums .exit)) ⌝ }
 {
-    let stop = side_by_side(rows, own, count, columns, sums);
+    let columns = FiveColumns::new();
+    let stop = side_by_side(rows, point, sums);
     let k = stop.k;
     let cells = stop.cells;
-    let base = alone(rows, own, count, columns.base, 0, cells.base, k, sums);
+    let cell = cells.base;
+    let base = alone(rows, point, columns.base, 0, CellInYear { k, cell }, sums);
+    let cell = cells.mortality_up;
     let mortality_up = alone(
         rows,
-        own,
-        count,
+        point,
         columns.mortality_up,
         1,
-        cells.mortality_up,
-        k,
+        CellInYear { k, cell },
         sums,
     );
+    let cell = cells.mortality_down;
     let mortality_down = alone(
         rows,
-        own,
-        count,
+        point,
         columns.mortality_down,
         2,
-        cells.mortality_down,
-        k,
+        CellInYear { k, cell },
         sums,
     );
+    let cell = cells.lapse_up;
     let lapse_up = alone(
         rows,
-        own,
-        count,
+        point,
         columns.lapse_up,
         3,
-        cells.lapse_up,
-        k,
+        CellInYear { k, cell },
         sums,
     );
+    let cell = cells.lapse_down;
     let lapse_down = alone(
         rows,
-        own,
-        count,
+        point,
         columns.lapse_down,
         4,
-        cells.lapse_down,
-        k,
+        CellInYear { k, cell },
         sums,
     );
     Counts {
@@ -283,27 +260,25 @@ pub fn project(
     }
 }
 
-// The cell in one projection, or in all five.
+// A model point in one projection, or in all five.
 pub fn project_by(
     rows: &RateTable,
-    own: usize,
-    count: u64,
-    five: FiveColumns,
+    point: ModelPoint,
     one: Columns,
     which: usize,
     sums: &mut YearSums,
 )
-    requires { ⌜ Projectable (now rows) own count
+    requires { ⌜ Projectable (now rows) (point .row) (point .count)
         × (which ≤ 5)
         × AtMost 2000000000000000 (now sums)
-        × (five ≡ fiveColumns)
         × (which < 5 → one ≡ columnsOf which) ⌝ }
     ensures { λ _. ⌜ now (sums .exit) ≡ added
-        (chosen which (amountBy (cellIn (now (rows .entry)) own count))) 500 (now (sums .entry)) ⌝ }
+        (chosen which (amountBy (cellIn (now (rows .entry)) (point .row) (point .count)))) 500
+        (now (sums .entry)) ⌝ }
 {
     if which == ALL {
-        project(rows, own, count, five, sums);
+        project(rows, point, sums);
         return;
     }
-    project_in(rows, own, count, one, which, sums);
+    project_in(rows, point, one, which, sums);
 }

@@ -11,10 +11,10 @@ ghost use Rattle.settings.specs.Settings.{ShiftsOf, columnsOf};
 ghost use Rattle.rate_table.specs.Rows.{RowsOf};
 ghost use Rattle.cell_projection.specs.Tables.{AtMost};
 ghost use Rattle.group_projection.specs.Added.{CellsAdded, ChainAdded, SumsOf};
+use cell_projection::ModelPoint;
 use cell_projection::YearSums;
 use rate_table::RateTable;
 use settings::Columns;
-use settings::FiveColumns;
 use settings::Shifts;
 
 // In place of a projection: all five.
@@ -61,21 +61,20 @@ fn add_cells(
     ensures { λ n. ⌜ CellsAdded (now (book .entry)) which head n (now (sums .entry))
         (now (sums .exit)) ⌝ }
 {
-    let five = FiveColumns::new();
     let one = columns_in(which);
     let mut i = head;
-    let mut own = 0usize;
+    let mut row = 0usize;
     let mut above = book::LAST_CLASS - book::class_of(book, head);
     let mut n: u64 = 0;
     loop {
         let count = book::field_of(book, i, book::COUNT_OFFSET);
-        five_projections::project_by(rows, own, count, five, one, which, sums);
+        five_projections::project_by(rows, ModelPoint { row, count }, one, which, sums);
         n += book::holds(book, i);
         if above == 0 {
             return n;
         }
         i = book::next_of(book, i);
-        own += 1;
+        row += 1;
         above -= 1;
     }
 }

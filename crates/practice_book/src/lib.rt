@@ -2,7 +2,6 @@
 // book of them. The draws are taken once, in book order. The definitions are in specs/Practice.
 ghost use mathlib.Core.Path.{_≡_};
 ghost use Prim.Native.Nat.{ℕ, _+_, _*_, _≤_, _<_};
-ghost use lib.IntN.{pos, _-ℤ_};
 ghost use lib.ListN.{length, set};
 ghost use Rattle.book.specs.Layout.{mostCount, mostRate, mostAmount};
 ghost use Rattle.book_contents.specs.Reading.{each};
@@ -34,19 +33,11 @@ fn drawn_number(span: u64, draw: u64) -> u64
     draw % (span + 1)
 }
 
-fn less(x: u64, lift: u64) -> i64
-    requires { ⌜ (x < 4294967296)
-        × (lift < 4294967296) ⌝ }
-    ensures { λ r. ⌜ r ≡ (pos x -ℤ pos lift) ⌝ }
-{
-    x as i64 - lift as i64
-}
-
 // A curve rate out of a draw.
 fn drawn_rate(draw: u64) -> i64
     ensures { λ r. ⌜ r ≡ drawnRate draw ⌝ }
 {
-    less(drawn_number(CURVE_SPAN, draw), CURVE_LIFT)
+    signed::less(drawn_number(CURVE_SPAN, draw), CURVE_LIFT)
 }
 
 // Puts the next draw's number into the list, and gives the words after it.

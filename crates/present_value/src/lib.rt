@@ -1,7 +1,6 @@
 // The fifty years of a product group valued: its liability and its year table from its year sums,
 // or what some years give.
 // Internal: it asks for an accepted book, which the calls above have from the check.
-ghost use mathlib.Core.Path.{_≡_};
 ghost use Prim.Native.Nat.{_<_, _≤_};
 ghost use lib.ListN.{length};
 ghost use Rattle.book.specs.Reading.{ValidBook};
@@ -122,7 +121,7 @@ pub fn value_group(
         paid = paid + outgo[k];
         earned = earned + premium[k];
     }
-    cash_flow::less(paid, earned)
+    signed::less(paid, earned)
 }
 
 // Discounted premium and outgo of some years, added.

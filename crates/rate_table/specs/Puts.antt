@@ -7,6 +7,7 @@ use lib.ListN.{getD}
 use Rattle.arith.specs.Fractions.{IsFraction}
 use Rattle.book.specs.Layout.{chainSex}
 use Rattle.valuation.specs.Portfolio.{oneLess, rowAt}
+use Rattle.rate_table.specs.declared.Weights.{Weights}
 use Rattle.rate_table.specs.Rows.{rate, fraction, RowOf}
 
 -- the fraction of a rate at a place and the rate eight places on
@@ -27,10 +28,10 @@ pub record Filled (rates : ℕ → ℕ) (before t : List ℕ) (r n : ℕ) : Type
   pub kept : (j : ℕ) → j < 16 * r → getD t j 0 ≡ getD before j 0
 
 -- three columns more, from column n on: one less a rate at three weights
-abbrev pub ThreeMore : List ℕ → List ℕ → ℕ → ℕ → ℕ → ℕ → ℕ → ℕ → Type 0
-ThreeMore t u r n v x y z =
-    (rates : ℕ → ℕ) (before : List ℕ) → oneLess v x ≡ rates n → oneLess v y ≡ rates (n + 1)
-    → oneLess v z ≡ rates (n + 2)
+abbrev pub ThreeMore : List ℕ → List ℕ → ℕ → ℕ → ℕ → Weights → Type 0
+ThreeMore t u r n v w =
+    (rates : ℕ → ℕ) (before : List ℕ) → oneLess v (w .base) ≡ rates n → oneLess v (w .up) ≡ rates (n + 1)
+    → oneLess v (w .down) ≡ rates (n + 2)
     → Filled rates before t r n → Filled rates before u r (n + 3)
 
 -- row r, of record i of a chain of a sex; the rows before it are kept

@@ -86,56 +86,62 @@ fn put(rows: &mut [u64], at: usize, rate: u64)
     rows[at + RATES] = rate;
 }
 
+// The weights of mortality or of lapse: in the base setting, and where it is up and down.
+struct Weights {
+    base: u64,
+    up: u64,
+    down: u64,
+}
+
 // Stores three columns of row r from column n on: what a rate leaves at three weights.
-fn put_three(rows: &mut RateTable, r: usize, n: usize, rate: u64, x: u64, y: u64, z: u64)
+fn put_three(rows: &mut RateTable, r: usize, n: usize, rate: u64, weights: Weights)
     requires { ⌜ (r < 170)
         × (n ≤ 3)
         × (rate ≤ 1000000)
-        × (x ≤ 1300)
-        × (y ≤ 1300)
-        × (z ≤ 1300) ⌝ }
-    ensures { λ _. ⌜ ThreeMore (now (rows .entry)) (now (rows .exit)) r n rate x y z ⌝ }
+        × (weights .base ≤ 1300)
+        × (weights .up ≤ 1300)
+        × (weights .down ≤ 1300) ⌝ }
+    ensures { λ _. ⌜ ThreeMore (now (rows .entry)) (now (rows .exit)) r n rate weights ⌝ }
 {
     let at = COLUMNS * r + n;
-    put(rows, at, one_less(rate, x));
-    put(rows, at + 1, one_less(rate, y));
-    put(rows, at + 2, one_less(rate, z));
+    put(rows, at, one_less(rate, weights.base));
+    put(rows, at + 1, one_less(rate, weights.up));
+    put(rows, at + 2, one_less(rate, weights.down));
 }
 
-// Stores row r: what record i of a chain holds, of a class.
-fn put_row(
-    book: &[u8],
-    w: Shifts,
+// A record of a chain: the chain, the record's number and its class.
+struct Link {
     chain: usize,
+    number: usize,
     class: usize,
-    i: usize,
-    r: usize,
-    rows: &mut RateTable,
-)
+}
+
+// Stores row r: what a record of a chain holds.
+fn put_row(book: &[u8], w: Shifts, link: Link, r: usize, rows: &mut RateTable)
     requires { ⌜ ShiftsOf (now book) w
         × ValidBook 1 (now book)
-        × RecordRules (now book) 120 chain i
-        × (class ≡ classOf (now book) i)
+        × RecordRules (now book) 120 (link .chain) (link .number)
+        × (link .class ≡ classOf (now book) (link .number))
         × (r < 170) ⌝ }
-    ensures { λ _. ⌜ RowPut (now (book .entry)) (chainSex chain) i (now (rows .entry))
-        (now (rows .exit)) r ⌝ }
+    ensures { λ _. ⌜ RowPut (now (book .entry)) (chainSex (link .chain)) (link .number)
+        (now (rows .entry)) (now (rows .exit)) r ⌝ }
 {
-    let sex = chain % 2;
-    let mortality = mortality_of(book, sex, class);
-    let deaths = w.base.of_sex(sex);
-    let more = w.mortality_up.of_sex(sex);
-    let fewer = w.mortality_down.of_sex(sex);
-    put_three(rows, r, SURVIVAL, mortality, deaths, more, fewer);
+    let sex = link.chain % 2;
+    let i = link.number;
+    let mortality = mortality_of(book, sex, link.class);
+    let deaths = Weights {
+        base: w.base.of_sex(sex),
+        up: w.mortality_up.of_sex(sex),
+        down: w.mortality_down.of_sex(sex),
+    };
+    put_three(rows, r, SURVIVAL, mortality, deaths);
     let lapse = book::field_of(book, i, book::LAPSE_OFFSET);
-    put_three(
-        rows,
-        r,
-        PERSISTENCY,
-        lapse,
-        w.base.lapse,
-        w.lapse_up.lapse,
-        w.lapse_down.lapse,
-    );
+    let lapses = Weights {
+        base: w.base.lapse,
+        up: w.lapse_up.lapse,
+        down: w.lapse_down.lapse,
+    };
+    put_three(rows, r, PERSISTENCY, lapse, lapses);
     put(
         rows,
         COLUMNS * r + PREMIUM,
@@ -161,7 +167,12 @@ fn read_links(book: &[u8], w: Shifts, chain: usize, i: usize, rows: &mut RateTab
     let mut class = book::class_of(book, i);
     let to = 121 - class;
     for r in 0usize..to {
-        put_row(book, w, chain, class, row, r, rows);
+        let link = Link {
+            chain,
+            number: row,
+            class,
+        };
+        put_row(book, w, link, r, rows);
         if class < book::LAST_CLASS {
             row = book::next_of(book, row);
             class = class + 1;

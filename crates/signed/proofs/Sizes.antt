@@ -1,12 +1,12 @@
 -- Laws of numbers with signs by their sizes, which omega reads: bits, sums, products, the sign. Assumes nothing.
-use mathlib.Core.Path.{_≡_, refl}
+use mathlib.Core.Path.{_≡_, refl, ap}
 use mathlib.Core.Bool.{Bool, true, false, cond, true≢false}
 use Prim.Native.Nat.{ℕ, zero, suc, _+_, _-_, _*_, _≤_, _<_}
 use native.Mathlib.Omega.{arith}
 use native.Mathlib.Nat.{le-refl, not-suc-le-zero}
-use lib.Dec.{ltb, T}
+use lib.Dec.{ltb, T, ltb→lt}
 use lib.IntN.{ℤ, pos, negsuc, negℤ, natAbs, subℕ, _+ℤ_, _-ℤ_, _*ℤ_, +ℤ-idl}
-use lib.Signed.{mag, ltZ, nonNeg}
+use lib.Signed.{mag, ltZ, nonNeg, _<ℤ_}
 use mir.Syntax.{w64}
 use mir.Val.{SFits, toZ, ofZ}
 use mir.ValLaws.{toZ-ofZ}
@@ -25,12 +25,12 @@ pub fits-abs : (z : ℤ) → natAbs z < 9223372036854775808 → SFits w64 z
 fits-abs z h = record { sfits = omega (arith, mag-abs z) }
 
 -- a number that fits is read back off its bits
-pub back : (z : ℤ) → mag z < 9223372036854775808 → toZ w64 (ofZ w64 z) ≡ z
-back z h = toZ-ofZ w64 z (record { sfits = h })
+pub signed-roundtrip : (z : ℤ) → mag z < 9223372036854775808 → toZ w64 (ofZ w64 z) ≡ z
+signed-roundtrip z h = toZ-ofZ w64 z (record { sfits = h })
 
 pub read-two : (op : ℤ → ℤ → ℤ) (x y : ℤ) → mag x < 9223372036854775808 → mag y < 9223372036854775808
     → op (toZ w64 (ofZ w64 x)) (toZ w64 (ofZ w64 y)) ≡ op x y
-read-two op x y p q = rw (back x p, back y q)
+read-two op x y p q = rw (signed-roundtrip x p, signed-roundtrip y q)
 
 abs-neg : (z : ℤ) → natAbs (negℤ z) ≡ natAbs z
 abs-neg (pos zero) = refl
@@ -57,14 +57,6 @@ abs-times (negsuc a) (pos b) = abs-neg (pos (suc a * b))
 abs-times (negsuc a) (negsuc b) = refl
 
 -- by the sign
-pub below-some : (x : ℤ) → ltZ x (pos 0) ≡ true → 0 < natAbs x
-below-some (pos a) h = let l : a < 0 = ltb-true a 0 h in absurd (not-suc-le-zero l)
-below-some (negsuc a) h = omega arith
-
-pub below-turned : (x : ℤ) → ltZ x (pos 0) ≡ true → negsuc 0 -ℤ x ≡ pos (natAbs x - 1)
-below-turned (pos a) h = let l : a < 0 = ltb-true a 0 h in absurd (not-suc-le-zero l)
-below-turned (negsuc a) h = rw (le-ltb (suc a) 1 (omega arith))
-
 pub not-below : (x : ℤ) → ltZ x (pos 0) ≡ false → T (nonNeg x)
 not-below (pos a) h = tt
 not-below (negsuc a) h = absurd (true≢false h)
@@ -83,3 +75,43 @@ pub abs-sign : (x : ℤ) (m : ℕ) → natAbs (withSign x m) ≡ m
 unfolding withSign
 abs-sign (pos a) m = refl
 abs-sign (negsuc a) m = abs-neg (pos m)
+
+-- sums and differences are not much larger than their parts
+sub-mag : (a b m : ℕ) → a ≤ m → b ≤ m → mag (subℕ a b) ≤ m
+sub-mag a b m p q = by (ltb a b) (b - suc a) (a - b) (omega arith) (omega arith)
+  where
+    by : (t : Bool) (x y : ℕ) → x ≤ m → y ≤ m → mag (cond t (negsuc x) (pos y)) ≤ m
+    by true x y p q = p
+    by false x y p q = q
+
+pub plus-mag : (a b : ℤ) → mag (a +ℤ b) ≤ mag a + mag b + 1
+plus-mag (pos a) (pos b) = omega arith
+plus-mag (pos a) (negsuc b) = sub-mag a (suc b) (a + b + 1) (omega arith) (omega arith)
+plus-mag (negsuc a) (pos b) = sub-mag b (suc a) (a + b + 1) (omega arith) (omega arith)
+plus-mag (negsuc a) (negsuc b) = omega arith
+
+neg-mag : (b : ℤ) → mag (negℤ b) ≤ mag b + 1
+neg-mag (pos zero) = omega arith
+neg-mag (pos (suc n)) = omega arith
+neg-mag (negsuc n) = omega arith
+
+pub minus-mag : (a b : ℤ) → mag (a -ℤ b) ≤ mag a + mag b + 2
+minus-mag a b = omega (arith, plus-mag a (negℤ b), neg-mag b)
+
+-- a difference of two numbers is no larger than both
+pub less-mag : (a b m : ℕ) → a ≤ m → b ≤ m → mag (pos a -ℤ pos b) ≤ m
+less-mag a zero m p q = omega arith
+less-mag a (suc n) m p q = by (ltb a (suc n)) (suc n - suc a) (a - suc n) (omega arith) (omega arith)
+  where
+    by : (t : Bool) (x y : ℕ) → x ≤ m → y ≤ m → mag (cond t (negsuc x) (pos y)) ≤ m
+    by true x y p q = p
+    by false x y p q = q
+
+-- a number below zero and its size
+pub less-one : (v : ℤ) → v <ℤ pos 0 → negsuc 0 -ℤ v ≡ pos (mag v)
+less-one (pos n) h = absurd (not-suc-le-zero (ltb→lt n 0 (h .lt)))
+less-one (negsuc k) h = let e : suc k - 1 ≡ k = omega arith in rw (le-ltb (suc k) 1 (omega arith)) (ap pos e)
+
+pub size-one : (v : ℤ) → v <ℤ pos 0 → mag v + 1 ≡ natAbs v
+size-one (pos n) h = absurd (not-suc-le-zero (ltb→lt n 0 (h .lt)))
+size-one (negsuc k) h = omega arith

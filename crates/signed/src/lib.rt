@@ -1,8 +1,42 @@
-// Numbers with a sign: sums, products, size and sign, and one of an array.
+// Numbers with a sign: sums, differences, products, size and sign, and one of an array.
 ghost use mathlib.Core.Path.{_≡_};
 ghost use Prim.Native.Nat.{_+_, _*_, _≤_, _<_};
-ghost use lib.IntN.{natAbs, _+ℤ_, _*ℤ_};
+ghost use lib.IntN.{pos, natAbs, _+ℤ_, _-ℤ_, _*ℤ_};
+ghost use lib.Signed.{mag, _<ℤ_};
 ghost use Rattle.signed.specs.Signs.{numberAt, isNegative, same, withSign};
+
+// Sum and difference of two numbers with a sign.
+pub fn plus(a: i64, b: i64) -> i64
+    requires { ⌜ mag a + mag b < 9223372036854775807 ⌝ }
+    ensures { λ r. ⌜ (r ≡ a +ℤ b)
+        × (mag r ≤ mag a + mag b + 1) ⌝ }
+{
+    a + b
+}
+
+pub fn minus(a: i64, b: i64) -> i64
+    requires { ⌜ mag a + mag b < 9223372036854775806 ⌝ }
+    ensures { λ r. ⌜ r ≡ a -ℤ b ⌝ }
+{
+    a - b
+}
+
+// a less b, with its sign.
+pub fn less(a: u64, b: u64) -> i64
+    requires { ⌜ (a ≤ 1000000000000000000)
+        × (b ≤ 1000000000000000000) ⌝ }
+    ensures { λ r. ⌜ r ≡ pos a -ℤ pos b ⌝ }
+{
+    (a as i64) - (b as i64)
+}
+
+// The size of a number below 0. It is turned round one step off, since the lowest has no opposite.
+pub fn size_below(v: i64) -> u64
+    requires { ⌜ v <ℤ pos 0 ⌝ }
+    ensures { λ r. ⌜ r ≡ natAbs v ⌝ }
+{
+    (-1 - v) as u64 + 1
+}
 
 // A number with a sign in a struct of its own: what a call returns is passed on whole, and a
 // caller's facts are about the number itself.
@@ -29,14 +63,13 @@ impl Signed {
         }
     }
 
-    // Without the sign. A number below zero is turned round one step off, since the lowest has no
-    // opposite.
+    // Without the sign.
     pub fn size(self) -> u64
         ensures { λ r. ⌜ (r ≡ natAbs (self .number))
             × (r ≤ 9223372036854775808) ⌝ }
     {
         let x = self.number;
-        if x < 0 { (-1 - x) as u64 + 1 } else { x as u64 }
+        if x < 0 { size_below(x) } else { x as u64 }
     }
 
     // A size with the number's sign.

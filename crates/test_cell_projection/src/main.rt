@@ -4,13 +4,13 @@
 // where there is no such cell.
 ghost use Prim.Native.Nat.{_<_};
 use cell_projection::A_YEAR;
+use cell_projection::ModelPoint;
 use cell_projection::YEARS;
 use five_projections::Counts;
 use libc::STDIN_FILENO;
 use libc::STDOUT_FILENO;
 use rate_table::COLUMNS;
 use rate_table::ROWS;
-use settings::FiveColumns;
 use settings::Shifts;
 use verdict::Verdict;
 
@@ -59,7 +59,8 @@ fn first_projection(book: &[u8], setting: usize, chain: usize) -> Years {
     let mut sums = [0u64; YEARS * A_YEAR];
     rate_table::read_rows(book, Shifts::new(book), chain, head, &mut rows);
     let count = book::field_of(book, head, book::COUNT_OFFSET);
-    let counts = five_projections::project(&rows, 0, count, FiveColumns::new(), &mut sums);
+    let point = ModelPoint { row: 0, count };
+    let counts = five_projections::project(&rows, point, &mut sums);
     Years::Computed(years_of(counts, setting))
 }
 

@@ -1,26 +1,26 @@
 -- Laws of sums and differences with a sign, of the eight totals group by group, and of years that settings share.
 -- Assumes nothing.
 use mathlib.Core.Path.{_≡_, refl, ap, _∙_}
-use mathlib.Core.List.{List, [], _∷_}
-use mathlib.Core.Bool.{Bool, true, false, cond}
-use Prim.Native.Nat.{ℕ, zero, suc, _+_, _-_, _*_, _<_, _≤_, _^_}
+use mathlib.Core.List.{List}
+use mathlib.Core.Bool.{Bool, true, false}
+use Prim.Native.Nat.{ℕ, zero, suc, _+_, _-_, _<_, _≤_, _^_}
 use mathlib.Core.Logic.{⊎-elim}
 use native.Mathlib.Nat.{suc-add, eq-or-lt-of-le}
 use native.Mathlib.Omega.{arith}
 use native.Mathlib.Numerals.{add-one}
 use lib.Dec.{ltb}
-use lib.IntN.{ℤ, pos, negsuc, negℤ, subℕ, _+ℤ_, _-ℤ_}
+use lib.IntN.{ℤ, pos, _+ℤ_, _-ℤ_}
 use lib.ListN.{length, getD, set, replicate, length-set, getD-replicate, List·getD-eq-default}
 use lib.Seq.{getD-set-same, getD-set-other, ext-getD}
 use lib.Signed.{mag}
 use mir.Syntax.{w64}
 use mir.Val.{toZ, ofZ, hbits}
-use mir.ValLaws.{toZ-ofZ}
 use borrow.Author.Tests.{le-ltb, ltb-true, ltb-false}
 use Rattle.settings.specs.Settings.{decrementsOf, outgoingsOf}
 use Rattle.settings.proofs.Weights.{each-setting}
 use Rattle.present_value.specs.declared.Amounts.{Amounts}
-use Rattle.cash_flow.proofs.CashFlow.{liability-is, less-mag}
+use Rattle.signed.proofs.Sizes.{signed-roundtrip, less-mag}
+use Rattle.cash_flow.proofs.CashFlow.{liability-is}
 use Rattle.present_value.specs.Outcome.{AmountsIn, yearOutgo, yearPremium}
 use Rattle.valuation.specs.Arithmetic.{rounded}
 use Rattle.valuation.specs.Steps.{outgo, countedPremium, discountedOutgo, discountedPremium, sumYears}
@@ -28,27 +28,6 @@ use Rattle.valuation.specs.Portfolio.{termsOf}
 use Rattle.valuation.specs.Replies.{groupLiability}
 use Rattle.valuation.specs.Totals.{sumGroups, totalOf, totalsOf}
 use Rattle.totals.specs.Sums.{Sum, Sums, Sizes}
-
-sub-mag : (a b m : ℕ) → a ≤ m → b ≤ m → mag (subℕ a b) ≤ m
-sub-mag a b m p q = by (ltb a b) (b - suc a) (a - b) (omega arith) (omega arith)
-  where
-    by : (t : Bool) (x y : ℕ) → x ≤ m → y ≤ m → mag (cond t (negsuc x) (pos y)) ≤ m
-    by true x y p q = p
-    by false x y p q = q
-
-pub plus-mag : (a b : ℤ) → mag (a +ℤ b) ≤ mag a + mag b + 1
-plus-mag (pos a) (pos b) = omega arith
-plus-mag (pos a) (negsuc b) = sub-mag a (suc b) (a + b + 1) (omega arith) (omega arith)
-plus-mag (negsuc a) (pos b) = sub-mag b (suc a) (a + b + 1) (omega arith) (omega arith)
-plus-mag (negsuc a) (negsuc b) = omega arith
-
-neg-mag : (b : ℤ) → mag (negℤ b) ≤ mag b + 1
-neg-mag (pos zero) = omega arith
-neg-mag (pos (suc n)) = omega arith
-neg-mag (negsuc n) = omega arith
-
-pub minus-mag : (a b : ℤ) → mag (a -ℤ b) ≤ mag a + mag b + 2
-minus-mag a b = omega (arith, plus-mag a (negℤ b), neg-mag b)
 
 -- one group more
 pub sum-more : (f : ℕ → ℤ) (n : ℕ) (x y z : ℤ) → x ≡ sumGroups f n → y ≡ f (n + 1) → z ≡ x +ℤ y
@@ -107,10 +86,6 @@ module _ (b : List ℕ) (o s : ℕ) (same : decrementsOf b o ≡ decrementsOf b 
     premium-most = r .premium-most;
   }
 
--- a call's result is what its contract says of it, read with its sign
-pub read-back : (r : ℤ) → mag r < 2 ^ hbits w64 → toZ w64 (ofZ w64 r) ≡ r
-read-back r ok = toZ-ofZ w64 r (record { sfits = ok })
-
 -- z is a group's liability, and not too large
 pub record Liability (b : List ℕ) (setting g : ℕ) (z : ℤ) : Type 0 where
   pub is : z ≡ groupLiability b setting g
@@ -119,7 +94,7 @@ pub record Liability (b : List ℕ) (setting g : ℕ) (z : ℤ) : Type 0 where
 pub liability-read : (b : List ℕ) (setting g : ℕ) (r : ℤ) → mag r < 2 ^ hbits w64 → (r ≡ groupLiability b setting g)
     × (mag r ≤ 495_000_000_000_000_000)
     → Liability b setting g (toZ w64 (ofZ w64 r))
-liability-read b setting g r ok h = rw (read-back r ok) (record { is = h .0; most = h .1 })
+liability-read b setting g r ok h = rw (signed-roundtrip r ok) (record { is = h .0; most = h .1 })
 
 pub sum-none : (b : List ℕ) (setting : ℕ) → Sum b setting 0 (pos 0)
 unfolding sumGroups
@@ -127,7 +102,7 @@ sum-none b setting = record { is = refl; most = omega arith }
 
 -- a sum, as it is read from the totals
 pub sum-read : (b : List ℕ) (setting n : ℕ) (z : ℤ) → n ≤ 5 → Sum b setting n z → Sum b setting n (toZ w64 (ofZ w64 z))
-sum-read b setting n z h p = rw (read-back z (omega (arith, p .most))) p
+sum-read b setting n z h p = rw (signed-roundtrip z (omega (arith, p .most))) p
 
 -- a sum with one group more, as it is stored
 pub sum-stored : (b : List ℕ) (setting g : ℕ) (x y z : ℤ) → 1 ≤ g → mag z < 2 ^ hbits w64 → Sum b setting (g - 1) x
@@ -135,7 +110,7 @@ pub sum-stored : (b : List ℕ) (setting g : ℕ) (x y z : ℤ) → 1 ≤ g → 
     → (z ≡ x +ℤ y) × (mag z ≤ mag x + mag y + 1) → Sum b setting g (toZ w64 (ofZ w64 z))
 sum-stored b setting g x y z low ok p l h =
     let e : g - 1 + 1 ≡ g = omega arith in
-    rw (read-back z ok) (record {
+    rw (signed-roundtrip z ok) (record {
       is = rw e at (sum-more (groupLiability b setting) (g - 1) x y z (p .is) (rw e (l .is)) (h .0));
       most = omega (arith, h .1, p .most, l .most);
     })
@@ -196,11 +171,11 @@ eight b t s = (
 -- one of them, read from the row
 module _ (b : List ℕ) (t : List ℤ) (h : (t ≡ totalsOf b) × Sizes t) (j : ℕ) where
   pub total-small : mag (toZ w64 (ofZ w64 (getD t j (pos 0)))) ≤ 2_475_000_000_000_000_005
-  total-small = rw (read-back (getD t j (pos 0)) (omega (arith, h .1 j))) (h .1 j)
+  total-small = rw (signed-roundtrip (getD t j (pos 0)) (omega (arith, h .1 j))) (h .1 j)
 
   pub total-at : toZ w64 (ofZ w64 (getD t j (pos 0))) ≡ getD (totalsOf b) j (pos 0)
-  total-at = read-back (getD t j (pos 0)) (omega (arith, h .1 j)) ∙ ap (λ (l : List ℤ). getD l j (pos 0)) (h .0)
+  total-at = signed-roundtrip (getD t j (pos 0)) (omega (arith, h .1 j)) ∙ ap (λ (l : List ℤ). getD l j (pos 0)) (h .0)
 
 -- a difference of two of them
 pub difference-is : (a b x y r : ℤ) → mag r < 2 ^ hbits w64 → r ≡ x -ℤ y → x ≡ a → y ≡ b → toZ w64 (ofZ w64 r) ≡ a -ℤ b
-difference-is a b x y r ok e ex ey = read-back r ok ∙ e ∙ rw (ex, ey)
+difference-is a b x y r ok e ex ey = signed-roundtrip r ok ∙ e ∙ rw (ex, ey)

@@ -1,13 +1,12 @@
 // The call Totals: the eight totals of a book, n over all groups, and four differences.
 ghost use mathlib.Core.Path.{_≡_};
 ghost use mathlib.Core.List.{[]};
-ghost use Prim.Native.Nat.{_+_, _-_, _<_, _≤_};
-ghost use lib.IntN.{_+ℤ_, _-ℤ_};
+ghost use Prim.Native.Nat.{_+_, _-_, _≤_};
 ghost use lib.Signed.{mag};
 ghost use Rattle.verdict.specs.declared.Verdict.the-variants.{Accepted, Refused};
 ghost use Rattle.book.specs.Reading.{ValidBook};
 ghost use Rattle.settings.specs.Settings.{SettingOf};
-ghost use Rattle.valuation.specs.Totals.{totalOf, totalsOf, differencesOf, totalsFor};
+ghost use Rattle.valuation.specs.Totals.{totalsOf, differencesOf, totalsFor};
 ghost use Rattle.valuation.specs.Totals.{TotalsContract};
 ghost use Rattle.valuation.specs.Replies.{groupLiability};
 ghost use Rattle.present_value.specs.Outcome.{CurveOf, AmountsIn};
@@ -24,21 +23,6 @@ use settings::Setting;
 use settings::Shifts;
 use valuation::TotalsReply;
 use verdict::Verdict;
-
-fn plus(a: i64, b: i64) -> i64
-    requires { ⌜ mag a + mag b < 9223372036854775807 ⌝ }
-    ensures { λ r. ⌜ (r ≡ a +ℤ b)
-        × (mag r ≤ mag a + mag b + 1) ⌝ }
-{
-    a + b
-}
-
-fn minus(a: i64, b: i64) -> i64
-    requires { ⌜ mag a + mag b < 9223372036854775806 ⌝ }
-    ensures { λ r. ⌜ r ≡ a -ℤ b ⌝ }
-{
-    a - b
-}
 
 // The eight settings. Each is made from a number, so that the compiler works them out.
 fn eight_settings() -> [Setting; 8]
@@ -104,7 +88,7 @@ fn liability_of(
 {
     let first = present_value::amounts_in(book, curve, s, group, numbers, Span { from: 0, to: 5 });
     let later = later_years(book, curve, s, group, numbers, base);
-    cash_flow::less(first.outgo + later.outgo, first.premium + later.premium)
+    signed::less(first.outgo + later.outgo, first.premium + later.premium)
 }
 
 // Adds a product group's liabilities to the eight totals. The later years of the base are valued
@@ -136,7 +120,7 @@ fn add_group(
     for j in 0usize..8 {
         let s = settings[j];
         let liability = liability_of(book, curve, s, group, numbers, base);
-        totals[j] = plus(totals[j], liability);
+        totals[j] = signed::plus(totals[j], liability);
     }
 }
 
@@ -180,10 +164,10 @@ fn computed(book: &[u8], n: u64) -> TotalsReply
         n,
         totals,
         differences: [
-            minus(totals[1], totals[2]),
-            minus(totals[3], totals[4]),
-            minus(totals[5], totals[6]),
-            minus(totals[7], totals[0]),
+            signed::minus(totals[1], totals[2]),
+            signed::minus(totals[3], totals[4]),
+            signed::minus(totals[5], totals[6]),
+            signed::minus(totals[7], totals[0]),
         ],
     }
 }

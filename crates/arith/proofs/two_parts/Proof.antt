@@ -13,17 +13,13 @@ use Rattle.arith.proofs.two_parts.Tie as tie
 most-small : (a : tie.Start) → a .args .most ≤ 18446744073709551615
 most-small a = omega arith
 
-x-small : (a : tie.Start) → a .args .x ≤ 18446744073709551615
-x-small a = omega arith
+one-small : (a : tie.Start)
+    → (a .args .one .amount ≤ 18446744073709551615) × (a .args .one .fraction ≤ 18446744073709551615)
+one-small a = (omega arith, omega arith)
 
-y-small : (a : tie.Start) → a .args .y ≤ 18446744073709551615
-y-small a = omega arith
-
-fraction-small : (a : tie.Start) → a .args .fraction ≤ 18446744073709551615
-fraction-small a = omega arith
-
-other-small : (a : tie.Start) → a .args .other ≤ 18446744073709551615
-other-small a = omega arith
+other-small : (a : tie.Start)
+    → (a .args .other .amount ≤ 18446744073709551615) × (a .args .other .fraction ≤ 18446744073709551615)
+other-small a = (omega arith, omega arith)
 
 returns-2 : tie.Need-returns-2
 returns-2 c =
@@ -40,16 +36,17 @@ corrected-requires : tie.Need-corrected-requires
 corrected-requires c κs =
     let h = c .before .before .before .before in
     let a = h .before in
+    let x = a .args .one in
     part-short _ _ _ _ _ (a .args .most) (a .pre .2) (a .pre .4) (h .mul-high .ensures) (a .pre .0) (most-small a)
-    (a .pre .3)
-    (high-small (a .args .x) (a .args .fraction) _ (x-small a) (fraction-small a) (h .mul-high .ensures))
+    (a .pre .3) (high-small (x .amount) (x .fraction) _ (one-small a .0) (one-small a .1) (h .mul-high .ensures))
 
 corrected-requires-2 : tie.Need-corrected-requires-2
 corrected-requires-2 c κs =
     let g = c .before .before .before .before in
     let a = g .before .before in
+    let x = a .args .other in
     part-short _ _ _ _ _ (a .args .most) (a .pre .2) (a .pre .5) (g .mul-high2 .ensures) (a .pre .1) (most-small a)
-    (a .pre .3) (high-small (a .args .y) (a .args .other) _ (y-small a) (other-small a) (g .mul-high2 .ensures))
+    (a .pre .3) (high-small (x .amount) (x .fraction) _ (other-small a .0) (other-small a .1) (g .mul-high2 .ensures))
 
 pub two-parts-spec : {M : Type 1} → statement M
 two-parts-spec =

@@ -7,7 +7,7 @@ use lib.IntN.{pos, negsuc, _-ℤ_}
 use mir.Syntax.{w64}
 use mir.Val.{toZ}
 use mir.ValLaws.{toZ-ofZ}
-use Rattle.buffer.proofs.Digits.{back}
+use Rattle.signed.proofs.Sizes.{signed-roundtrip}
 use Rattle.book_contents.specs.Reading.{signedOf}
 use Rattle.book_read_values.proofs.signed_of.Statement.{statement}
 use Rattle.book_read_values.proofs.signed_of.Tie as tie
@@ -17,7 +17,7 @@ above u h = let same : 4294967296 - suc u ≡ 4294967295 - u = omega arith in rw
 
 -- what the difference is
 less-is : (c : tie.Else1) → toZ w64 (c .before .args .u) -ℤ pos 4294967296 ≡ negsuc (4294967295 - c .before .args .u)
-less-is c = rw (back (c .before .args .u) (omega arith)) (above (c .before .args .u) (c .before .pre))
+less-is c = rw (signed-roundtrip (pos (c .before .args .u)) (omega arith)) (above (c .before .args .u) (c .before .pre))
 
 cast-result : tie.Need-cast-result
 cast-result c = record { sfits = omega arith }
@@ -25,7 +25,7 @@ cast-result c = record { sfits = omega arith }
 returns : tie.Need-returns
 unfolding signedOf
 returns c = rw (
-  back (c .before .args .u) (omega arith),
+  signed-roundtrip (pos (c .before .args .u)) (omega arith),
   le-leb (c .before .args .u) 2147483647 (omega (arith, c .if1 .taken)),
 )
 

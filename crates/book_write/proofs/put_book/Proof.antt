@@ -13,15 +13,13 @@ put-header-requires c κs =
     (omega (arith, fit .edition-high), omega (arith, percents .0), omega (arith, percents .1), fit .curve)
 
 put-chains-requires : tie.Need-put-chains-requires
-put-chains-requires c κs = (
-  omega (arith, c .before .before .before .put-header .ensures .1),
-  c .before .before .before .before .before .before .before .before .before .before .pre,
-)
+put-chains-requires c κs = c .before .before .before .before .before .before .before .before .before .before .pre
 
 returns : tie.Need-returns
 unfolding bookOf
-returns c = c .before .before .before .before .before .before .put-header .ensures .0
-    then c .before .before .put-chains .ensures
+returns c =
+    let header = c .before .before .before .before .before .before .put-header .ensures in
+    (rw (header .1) at (header .0)) then c .before .before .put-chains .ensures
 
 same-length : tie.Need-same-length
 same-length c = kept (returns c)

@@ -1,11 +1,12 @@
--- `book_write_records::put_chains` meets its contract. The invariant: the chains before k are written, and the sum is
--- that of their lists.
+-- `book_write_records::put_chains` meets its contract. The invariant: the chains before k are written, and as many
+-- records are counted.
 -- The measure is the number of chains left. Assumes nothing.
 use mathlib.Core.Path.{_≡_, refl}
 use mathlib.Core.List.{[]}
 use Prim.Native.Nat.{_+_, _-_, _*_, _≤_}
 use native.Mathlib.Numerals.{add-one}
 use native.Mathlib.Omega.{arith}
+use Rattle.book.specs.Layout.{headerSize, recordSize}
 use Rattle.buffer.specs.Text.{Wrote, joined}
 use Rattle.buffer.proofs.Digits.{nothing, kept, joined-more}
 use Rattle.book_contents.specs.Contents.{given, recordsBefore}
@@ -14,12 +15,12 @@ use Rattle.book_write_records.proofs.put_chains.Statement.{statement}
 use Rattle.book_write_records.proofs.put_chains.Tie as tie
 
 abbrev Inv-loop : tie.InvT-loop
-Inv-loop out₀ at values counts lapses premiums claims first next₀ sum₀ k₀ out next sum k =
-    (k ≤ 14) × Wrote out₀ at (joined (chainBytes (given values counts lapses premiums claims)) k) out next
-    × (sum ≡ recordsBefore (values .first) k) × (next ≡ at + 24 * sum) × (sum ≤ 121 * k)
+Inv-loop out₀ values counts lapses premiums claims first next₀ before₀ k₀ out next before k =
+    (k ≤ 14) × Wrote out₀ headerSize (joined (chainBytes (given values counts lapses premiums claims)) k) out next
+    × (before ≡ recordsBefore (values .first) k) × (next ≡ headerSize + recordSize * before) × (before ≤ 121 * k)
 
 abbrev μ-loop : tie.MeasureT-loop
-μ-loop out₀ at values counts lapses premiums claims first next₀ sum₀ k₀ out next sum k = 14 - k
+μ-loop out₀ values counts lapses premiums claims first next₀ before₀ k₀ out next before k = 14 - k
 
 loop-holds : tie.Need-loop-holds Inv-loop μ-loop
 unfolding joined recordsBefore
@@ -28,12 +29,8 @@ loop-holds c = (omega arith, nothing _ _, refl, omega arith, omega arith)
 put-chain-requires : tie.Need-put-chain-requires Inv-loop μ-loop
 put-chain-requires c κs =
     let l = c .before .before in
-    let a = l .before .before .before .before .before .before .before in (
-      omega (arith, a .pre .0, l .loop .inv .3, l .loop .inv .4, l .loop .inv .0),
-      omega arith,
-      l .loop .inv .2,
-      a .pre .1,
-    )
+    let a = l .before .before .before .before .before .before .before in
+    (omega (arith, l .loop .inv .0, l .loop .inv .3, l .loop .inv .4), omega arith, l .loop .inv .2, a .pre)
 
 loop-again : tie.Need-loop-again Inv-loop μ-loop
 unfolding recordsBefore

@@ -8,7 +8,7 @@ use Rattle.five_projections.proofs.project_by.Statement.{statement}
 use Rattle.five_projections.proofs.project_by.Tie as tie
 
 project-requires : tie.Need-project-requires
-project-requires c κs = let a = c .before .before in (a .pre .0, a .pre .2, a .pre .3)
+project-requires c κs = let a = c .before .before in (a .pre .0, a .pre .2)
 
 returns : tie.Need-returns
 returns c = c .project .ensures .sums ∙ added-same _ _ 500 _
@@ -17,7 +17,7 @@ returns c = c .project .ensures .sums ∙ added-same _ _ 500 _
 project-in-requires : tie.Need-project-in-requires
 project-in-requires c κs =
     let a = c .before .before in let low : a .args .which < 5 = omega (arith, a .pre .1, c .before .if1 .left) in
-    (a .pre .0, low, a .pre .2, a .pre .4 low)
+    (a .pre .0, low, a .pre .2, a .pre .3 low)
 
 returns-2 : tie.Need-returns-2
 returns-2 c = c .project-in .ensures .sums ∙ added-same _ _ 500 _

@@ -14,26 +14,26 @@ returns c = record {
   since = omega arith;
   most = omega arith;
   reached = reached-start _ _ _ _
-      (c .before .new .ensures);
+      (c .before .before .new .ensures);
 }
 
 year-0-requires : tie.Need-year-0-requires
-year-0-requires c κs = c .before .before .before .pre
+year-0-requires c κs = c .before .before .before .before .pre
 
 -- year 0 is over
-abbrev Begun : tie.After-year-0 → Type 0
-Begun m =
-    let a = m .before .before .before .before .args in
-    Run (a .rows .now) (a .own) (a .count) 0 1 (m .year-0 .result) (a .sums .now) (m .year-0 .last .1 .1 .1 .1 .0)
+module _ (m : tie.After-year-0) where
+  abbrev start : tie.Start
+  start = m .before .before .before .before .before
 
-begun : (m : tie.After-year-0) → Begun m
-begun m = first-run _ _ _ (omega (arith, m .before .before .if1 .left)) _ _ _ (m .year-0 .ensures .0)
-    (m .year-0 .ensures .1)
+  begun : Run (start .args .rows .now) (start .args .point .row) (start .args .point .count) 0 1 (m .year-0 .result)
+      (start .args .sums .now) (m .year-0 .last .1 .1 .0)
+  begun = first-run _ _ _ (omega (arith, m .before .before .if1 .left)) _ _ _ (m .year-0 .ensures .0)
+      (m .year-0 .ensures .1)
 
 together-requires : tie.Need-together-requires
 together-requires c κs =
     let m = c .before in
-    let a = m .before .before .before .before in
+    let a = start m in
     let run = begun m in (
       a .pre .0,
       omega arith,
@@ -41,23 +41,21 @@ together-requires c κs =
       run .2,
       λ j. omega
           (arith, run-capacity _ _ _ _ _ _ _ _ run (a .pre .0) 2000000000000000 (a .pre .1) j),
-      a .pre .2,
     )
 
 -- the first five years, as far as all have something in force
-abbrev Early : tie.After-together → Type 0
-Early m =
-    let a = m .before .before .before .before .before .before .args in
-    ProjectedTo (a .rows .now) (a .own) (a .count) 0 5 (m .together .result) (a .sums .now)
-    (m .together .last .1 .1 .1 .1 .1 .1 .1 .0)
+module _ (m : tie.After-together) where
+  abbrev start-5 : tie.Start
+  start-5 = start (m .before .before)
 
-early : (m : tie.After-together) → Early m
-early m = run-then _ _ _ 1 5 _ _ _ _ _ (begun (m .before .before)) (m .together .ensures)
+  early : ProjectedTo (start-5 .args .rows .now) (start-5 .args .point .row) (start-5 .args .point .count) 0 5
+      (m .together .result) (start-5 .args .sums .now) (m .together .last .1 .1 .1 .1 .1 .0)
+  early = run-then _ _ _ 1 5 _ _ _ _ _ (begun (m .before .before)) (m .together .ensures)
 
 together-requires-2 : tie.Need-together-requires-2
 together-requires-2 c κs =
     let m = c .before .before .before in
-    let a = m .before .before .before .before .before .before in
+    let a = start-5 m in
     let w = early m in
     let five : m .together .result .k ≡ 5 = c .before .if2 .taken in (
       a .pre .0,
@@ -69,7 +67,6 @@ together-requires-2 c κs =
         run-capacity _ _ _ 0 _ _ _ _ (w .since, omega (arith, w .most), w .reached, w .sums)
             (a .pre .0) 2000000000000000 (a .pre .1) j,
       ),
-      a .pre .2,
     )
 
 returns-2 : tie.Need-returns-2

@@ -29,14 +29,14 @@ claims-le : (t : List ℕ) (r n : ℕ) → Projectable t r n → n * rate t r 7 
 claims-le t r n s = le-trans (mul-le-mul (s .few) (first-row t r n s .claims)) (omega arith)
 
 mul-premium-3 : tie.Need-mul-premium-3
-mul-premium-3 c = omega (arith, premium-le _ _ _ (c .before .pre .0))
+mul-premium-3 c = omega (arith, premium-le _ _ _ (c .before .before .before .pre .0))
 
 mul-claims-3 : tie.Need-mul-claims-3
-mul-claims-3 c = omega (arith, claims-le _ _ _ (c .before .before .pre .0))
+mul-claims-3 c = omega (arith, claims-le _ _ _ (c .before .before .before .before .before .before .pre .0))
 
 add-year-0-requires : tie.Need-add-year-0-requires
 add-year-0-requires c κs =
-    let a = c .before .before .before in
+    let a = c .before .before .before .before .before .before .before in
     (premium-le _ _ _ (a .pre .0), claims-le _ _ _ (a .pre .0), a .pre .1)
 
 -- the state that is stepped, by the columns of a projection
@@ -47,38 +47,39 @@ steps t r n setting c d s e h =
     let low = held-low setting 0 d h in
     (rw e (rw (state-start t r n setting) at (state-ready t r n setting s 0 (omega arith))), low .0, low .1)
 
+-- where the function starts
+abbrev start : tie.After-new2 → tie.Start
+start m = m .before .before .before .before .before .before .before .before .before .before
+
 next-year-requires : tie.Need-next-year-requires
 unfolding fiveColumns
 next-year-requires c κs =
-    let a = c .before .before .before .before .before in
-    steps _ _ _ 0 _ _ (a .pre .0) (c .new .ensures) (ap (λ (x : FiveColumns). x .base) (a .pre .2))
+    let m = c in
+    steps _ _ _ 0 _ _ (start m .pre .0) (m .new2 .ensures) (ap (λ (x : FiveColumns). x .base) (m .before .new .ensures))
 
 next-year-requires-2 : tie.Need-next-year-requires-2
 unfolding fiveColumns
 next-year-requires-2 c κs =
-    let a = c .before .before .before .before .before .before in
-    steps _ _ _ 1 _ _ (a .pre .0) (c .before .new .ensures) (ap (λ (x : FiveColumns). x .«mortality_up») (a .pre .2))
+    let m = c .before in
+    steps _ _ _ 1 _ _ (start m .pre .0) (m .new2 .ensures) (ap (λ (x : FiveColumns). x .«mortality_up») (m .before .new .ensures))
 
 next-year-requires-3 : tie.Need-next-year-requires-3
 unfolding fiveColumns
 next-year-requires-3 c κs =
-    let a = c .before .before .before .before .before .before .before in
-    steps _ _ _ 2 _ _ (a .pre .0) (c .before .before .new .ensures)
-    (ap (λ (x : FiveColumns). x .«mortality_down») (a .pre .2))
+    let m = c .before .before in
+    steps _ _ _ 2 _ _ (start m .pre .0) (m .new2 .ensures) (ap (λ (x : FiveColumns). x .«mortality_down») (m .before .new .ensures))
 
 next-year-requires-4 : tie.Need-next-year-requires-4
 unfolding fiveColumns
 next-year-requires-4 c κs =
-    let a = c .before .before .before .before .before .before .before .before in
-    steps _ _ _ 3 _ _ (a .pre .0) (c .before .before .before .new .ensures)
-    (ap (λ (x : FiveColumns). x .«lapse_up») (a .pre .2))
+    let m = c .before .before .before in
+    steps _ _ _ 3 _ _ (start m .pre .0) (m .new2 .ensures) (ap (λ (x : FiveColumns). x .«lapse_up») (m .before .new .ensures))
 
 next-year-requires-5 : tie.Need-next-year-requires-5
 unfolding fiveColumns
 next-year-requires-5 c κs =
-    let a = c .before .before .before .before .before .before .before .before .before in
-    steps _ _ _ 4 _ _ (a .pre .0) (c .before .before .before .before .new .ensures)
-    (ap (λ (x : FiveColumns). x .«lapse_down») (a .pre .2))
+    let m = c .before .before .before .before in
+    steps _ _ _ 4 _ _ (start m .pre .0) (m .new2 .ensures) (ap (λ (x : FiveColumns). x .«lapse_down») (m .before .new .ensures))
 
 stepped : (t : List ℕ) (r n setting : ℕ) (c x : Cell) (d : Columns) → c ≡ record { row = r; inforce = n * 1000000000 }
     → d ≡ columnsOf setting
@@ -101,12 +102,12 @@ returns c =
     let third = fourth .before in
     let second = third .before in
     let first = second .before in
-    let new = first .before .new .ensures in
-    let a = first .before .before .before .before .before .before in
+    let new = first .before .new2 .ensures in
+    let a = start (first .before) in
     let t = a .args .rows .now in
-    let r = a .args .own in
-    let n = a .args .count in
-    let five = a .pre .2 in (
+    let r = a .args .point .row in
+    let n = a .args .point .count in
+    let five = first .before .before .new .ensures in (
       rw (
         stepped t r n 0 _ _ _ new (ap (λ (x : FiveColumns). x .base) five) (first .next-year .ensures),
         stepped t r n 1 _ _ _ new (ap (λ (x : FiveColumns). x .«mortality_up») five) (second .next-year2 .ensures),
@@ -114,12 +115,12 @@ returns c =
         stepped t r n 3 _ _ _ new (ap (λ (x : FiveColumns). x .«lapse_up») five) (fourth .next-year4 .ensures),
         stepped t r n 4 _ _ _ new (ap (λ (x : FiveColumns). x .«lapse_down») five) (c .next-year5 .ensures),
       ),
-      first .before .before .add-year-0 .ensures ∙ five-whole t _ r n,
+      first .before .before .before .add-year-0 .ensures ∙ five-whole t _ r n,
     )
 
 pub year-0-spec : {M : Type 1} → statement M
 year-0-spec = tie.close
     (tie.spec (search needs) (search needs) (search needs) (search needs) (search needs) mul-premium-3 (search needs)
     (search needs) (search needs) (search needs) (search needs) mul-claims-3
-    add-year-0-requires (λ c κs. c .before .before .before .before .pre .0 .few) next-year-requires next-year-requires-2
+    add-year-0-requires (λ c κs. tt) (λ c κs. c .before .before .before .before .before .before .before .before .before .pre .0 .few) next-year-requires next-year-requires-2
     next-year-requires-3 next-year-requires-4 next-year-requires-5 returns)

@@ -1,4 +1,4 @@
--- `group_projection::add_cells` meets its contract. The invariant: record i is that of the row `own`; what is added and
+-- `group_projection::add_cells` meets its contract. The invariant: record i is that of the row `row`; what is added and
 -- counted so far, with the chain from it on, is what the whole chain adds and counts. The measure is the number of
 -- classes above. Assumes nothing.
 use mathlib.Core.Path.{_≡_, refl, sym, ap, _∙_}
@@ -23,19 +23,19 @@ use Rattle.group_projection.proofs.add_cells.Statement.{statement}
 use Rattle.group_projection.proofs.add_cells.Tie as tie
 
 abbrev Inv-loop : tie.InvT-loop
-Inv-loop book chain head which rows sums₀ five one i₀ own₀ above₀ n₀ sums i own above n =
-    (own + above ≡ above₀) × (above₀ ≡ 120 - classOf book head) × (n ≤ own) × (i ≡ rowAt book head own)
+Inv-loop book chain head which rows sums₀ one i₀ row₀ above₀ n₀ sums i row above n =
+    (row + above ≡ above₀) × (above₀ ≡ 120 - classOf book head) × (n ≤ row) × (i ≡ rowAt book head row)
     × ChainFrom book 120 chain above i
     × Carry (amountIn book which) book above₀ head sums₀ above i sums
     × (n + heldFrom book i (above + 1) ≡ heldFrom book head (above₀ + 1))
 
 abbrev μ-loop : tie.MeasureT-loop
-μ-loop book chain head which rows sums₀ five one i₀ own₀ above₀ n₀ sums i own above n = above
+μ-loop book chain head which rows sums₀ one i₀ row₀ above₀ n₀ sums i row above n = above
 
 -- what holds at the loop, of the head and of record i
 module _ (m : tie.At-loop Inv-loop μ-loop) where
   abbrev start : tie.Start Inv-loop μ-loop
-  start = m .before .before .before .before .before
+  start = m .before .before .before .before
 
   abbrev book : List ℕ
   book = start .args .book .now
@@ -68,34 +68,34 @@ module _ (m : tie.At-loop Inv-loop μ-loop) where
   stands = chain-standing book chain (m .loop .above) (m .loop .i) (m .loop .inv .4)
       (omega (arith, m .loop .inv .0, few-left))
 
-  fits : m .loop .own ≤ 120 - classOf book head
+  fits : m .loop .row ≤ 120 - classOf book head
   fits = omega (arith, m .loop .inv .0, m .loop .inv .1)
 
   -- with the count that was read
   module _ (count : ℕ) (e : count ≡ fieldOf book (m .loop .i) countOffset) where
-    projectable : Projectable (start .args .rows .now) (m .loop .own) count
-    projectable = projectable-here book chain head (start .pre .1) _ (start .pre .2) (m .loop .own) (m .loop .i) count
+    projectable : Projectable (start .args .rows .now) (m .loop .row) count
+    projectable = projectable-here book chain head (start .pre .1) _ (start .pre .2) (m .loop .row) (m .loop .i) count
         fits (m .loop .inv .3) e
 
     amounts-are : (u v : List ℕ)
-        → v ≡ added (chosen (start .args .which) (amountBy (cellIn (start .args .rows .now) (m .loop .own) count))) 500
+        → v ≡ added (chosen (start .args .which) (amountBy (cellIn (start .args .rows .now) (m .loop .row) count))) 500
         u → v ≡ added (amountIn book (start .args .which) (m .loop .i)) 500 u
     amounts-are u v h =
-        h ∙ amounts-added book chain head (start .pre .1) _ (start .pre .2) (m .loop .own) (m .loop .i) count fits
+        h ∙ amounts-added book chain head (start .pre .1) _ (start .pre .2) (m .loop .row) (m .loop .i) count fits
         (m .loop .inv .3) e (start .args .which) u
 
 class-of-requires : tie.Need-class-of-requires Inv-loop μ-loop
 class-of-requires c κs =
-    let a = c .before .before .before in
+    let a = c .before .before in
     (a .pre .1 .0 .first, omega (arith, a .pre .1 .0 .inside, a .pre .0 .header .size))
 
 sub-above : tie.Need-sub-above Inv-loop μ-loop
-sub-above c = omega (arith, c .before .before .before .before .pre .1 .0 .class-high, c .class-of .ensures)
+sub-above c = omega (arith, c .before .before .before .pre .1 .0 .class-high, c .class-of .ensures)
 
 loop-holds : tie.Need-loop-holds Inv-loop μ-loop
 unfolding rowAt
 loop-holds c =
-    let a = c .before .before .before .before in
+    let a = c .before .before .before in
     let e = c .class-of .ensures .0 in (
       omega arith,
       rw e,
@@ -116,7 +116,6 @@ project-by-requires c κs =
       start m .pre .3,
       λ j. omega
           (arith, m .loop .inv .5 .1 j, few-left m),
-      m .before .before .before .new .ensures,
       m .before .before
           .columns-in .ensures,
     )
@@ -154,7 +153,7 @@ loop-again c =
       omega (arith, l .inv .0, more),
       l .inv .1,
       omega (arith, l .inv .2, c .before .before .holds .ensures .1),
-      rw next (row-next b (chain m) (head m) (l .own) (l .above) (l .i) (l .inv .4) (omega (arith, more)) (l .inv .3)),
+      rw next (row-next b (chain m) (head m) (l .row) (l .above) (l .i) (l .inv .4) (omega (arith, more)) (l .inv .3)),
       rw next (chain-next b 120 (chain m) (l .above) (l .above - 1) (l .i) more (l .inv .4)),
       rw next (carry-more (amountIn b (start m .args .which)) b _ _ _ (l .above) (l .above - 1) (l .i) (l .sums) _ more
           (omega (arith, l .inv .0)) (l .inv .5) (amount-in-le b (start m .args .which) (chain m) (l .i) (stands m))
@@ -167,6 +166,6 @@ loop-again c =
 pub add-cells-spec : {M : Type 1} → statement M
 add-cells-spec =
     tie.close
-    (tie.spec Inv-loop μ-loop (λ c κs. tt) (λ c κs. c .before .before .pre .3) class-of-requires sub-above loop-holds
+    (tie.spec Inv-loop μ-loop (λ c κs. c .before .pre .3) class-of-requires sub-above loop-holds
     field-of-requires project-by-requires holds-requires (λ c. omega arith) returns
     next-of-requires (λ c. omega arith) (λ c. omega arith) (λ c. omega arith) loop-again)

@@ -15,7 +15,8 @@ use Rattle.valuation.specs.Steps.{Cell, Terms, sumYears}
 use Rattle.valuation.specs.Portfolio.{termsOf, groupCells}
 use Rattle.valuation.specs.Replies.{yearTable}
 use Rattle.cash_flow.proofs.CashFlow.{years-more, years-length, year-is, sum-more, outgo-discounted, premium-discounted}
-use Rattle.cash_flow.proofs.CashFlow.{liability-is, less-mag}
+use Rattle.signed.proofs.Sizes.{less-mag}
+use Rattle.cash_flow.proofs.CashFlow.{liability-is}
 use Rattle.present_value.specs.Outcome.{InYears, outgoBefore, premiumBefore, yearOutgo, yearPremium}
 use Rattle.present_value.proofs.Tables.{curve-divisors, in-discounted}
 use Rattle.present_value.proofs.value_group.Statement.{statement}

@@ -2,7 +2,7 @@
 use native.Mathlib.Omega.{arith}
 use borrow.Author.Needs.{needs}
 use Rattle.risk_factors.specs.Factors.{factorsOf}
-use Rattle.signed.proofs.Sizes.{back}
+use Rattle.signed.proofs.Sizes.{signed-roundtrip}
 use Rattle.risk_model.proofs.Rules.{coefficients-most}
 use Rattle.risk_factors.proofs.factors.Statement.{statement}
 use Rattle.risk_factors.proofs.factors.Tie as tie
@@ -35,10 +35,10 @@ returns c =
     let k2 = k3 .before .before .before in
     let k1 = k2 .before .before .before in
     rw (
-      back (k1 .scaled .result .number) (omega (arith, k1 .scaled .ok)),
-      back (k2 .scaled2 .result .number) (omega (arith, k2 .scaled2 .ok)),
-      back (k3 .scaled3 .result .number) (omega (arith, k3 .scaled3 .ok)),
-      back (k4 .scaled4 .result .number) (omega (arith, k4 .scaled4 .ok)),
+      signed-roundtrip (k1 .scaled .result .number) (omega (arith, k1 .scaled .ok)),
+      signed-roundtrip (k2 .scaled2 .result .number) (omega (arith, k2 .scaled2 .ok)),
+      signed-roundtrip (k3 .scaled3 .result .number) (omega (arith, k3 .scaled3 .ok)),
+      signed-roundtrip (k4 .scaled4 .result .number) (omega (arith, k4 .scaled4 .ok)),
       k1 .scaled .ensures,
       k1 .before .before .of-four .ensures,
       k2 .scaled2 .ensures,

@@ -54,12 +54,11 @@ field-of-requires c κs =
 project-requires : tie.Need-project-requires
 unfolding rowAt
 project-requires c κs =
-    let m = c .before .before .before .before .before .before .before in
-    let read = c .before .before .before .before .read-rows .ensures in (
+    let m = c .before .before .before .before .before .before in
+    let read = c .before .before .before .read-rows .ensures in (
       projectable-here _ _ _ (stands m) _ read 0 _ _ (omega arith) refl
-          (c .before .before .before .field-of .ensures .0),
+          (c .before .before .field-of .ensures .0),
       λ j. omega (arith, zero-most 500 j),
-      c .before .new2 .ensures,
     )
 
 years-of-requires : tie.Need-years-of-requires
@@ -67,7 +66,7 @@ years-of-requires c κs =
     omega (
       arith,
       c .before .before .before .before .before .before .before .before .before .before .before .before
-          .before .before .if1 .left,
+          .before .if1 .left,
     )
 
 pub first-projection-spec : {M : Type 1} → statement M
@@ -75,4 +74,4 @@ first-projection-spec =
     tie.close
     (tie.spec (search needs) (search needs) (search needs) (search needs) (search needs) (search needs) head-of-requires
     (search needs)
-    new-requires read-rows-requires field-of-requires (λ c κs. tt) project-requires years-of-requires (search needs))
+    new-requires read-rows-requires field-of-requires project-requires years-of-requires (search needs))

@@ -1,8 +1,7 @@
 -- `totals::add_group` meets its contract. The invariant: the totals of the settings before j have the group, the others
 -- not yet.
 -- The measure is the number of settings left. Assumes nothing.
-use mathlib.Core.Path.{_≡_}
-use Prim.Native.Nat.{_-_, _≤_, _<_}
+use Prim.Native.Nat.{_-_, _≤_}
 use native.Mathlib.Omega.{arith}
 use lib.IntN.{pos}
 use lib.ListN.{getD}

@@ -3,9 +3,8 @@
 -- Assumes nothing.
 use mathlib.Core.Logic.{inl}
 use mathlib.Core.Path.{_≡_, refl}
-use Prim.Native.Nat.{_+_, _-_, _≤_, _<_}
+use Prim.Native.Nat.{_+_, _-_, _≤_}
 use native.Mathlib.Omega.{arith}
-use borrow.Author.Needs.{needs}
 use Rattle.totals.specs.Sums.{Sums}
 use Rattle.totals.proofs.SignedTotals.{sums-none, eight}
 use Rattle.totals.proofs.all_totals.Statement.{statement}

@@ -2,7 +2,8 @@
 use mathlib.Core.Path.{_∙_}
 use native.Mathlib.Omega.{arith}
 use Rattle.settings.proofs.Serving.{projection-low}
-use Rattle.totals.proofs.SignedTotals.{both-parts, parts-most, read-back}
+use Rattle.signed.proofs.Sizes.{signed-roundtrip}
+use Rattle.totals.proofs.SignedTotals.{both-parts, parts-most}
 use Rattle.totals.proofs.liability_of.Statement.{statement}
 use Rattle.totals.proofs.liability_of.Tie as tie
 
@@ -36,7 +37,7 @@ returns c =
     let m = c .before .before .before .before .before in
     let f = m .before .amounts-in .ensures in
     let l = m .later-years .ensures in
-    let e = read-back (c .less .result) (c .less .ok) ∙ c .less .ensures in
+    let e = signed-roundtrip (c .less .result) (c .less .ok) ∙ c .less .ensures in
     (e ∙ both-parts _ _ _ _ _ f l, rw e (parts-most _ _ _ _ _ f l))
 
 pub liability-of-spec : {M : Type 1} → statement M

@@ -1,4 +1,4 @@
--- `cash_flow::less` meets its contract: both numbers are in the lower half of 64 bits, and so is their difference.
+-- `signed::less` meets its contract: both numbers are in the lower half of 64 bits, and so is their difference.
 -- Assumes nothing.
 use mathlib.Core.Path.{_≡_}
 use native.Mathlib.Nat.{lt-of-le-of-lt}
@@ -8,10 +8,10 @@ use lib.IntN.{pos, _-ℤ_}
 use mir.Syntax.{w64}
 use mir.Val.{SFits, toZ}
 use mir.ValLaws.{toZ-pos, toZ-ofZ}
-use Rattle.cash_flow.proofs.CashFlow.{less-mag}
+use Rattle.signed.proofs.Sizes.{less-mag}
 use borrow.Author.Needs.{needs}
-use Rattle.cash_flow.proofs.less.Statement.{statement}
-use Rattle.cash_flow.proofs.less.Tie as tie
+use Rattle.signed.proofs.less.Statement.{statement}
+use Rattle.signed.proofs.less.Tie as tie
 
 -- both numbers are in the lower half of 64 bits, where the signed reading changes nothing
 is-pos : (c : tie.Start) → (toZ w64 (c .args .a) ≡ pos (c .args .a)) × (toZ w64 (c .args .b) ≡ pos (c .args .b))

@@ -1,11 +1,12 @@
--- `buffer::size_below` meets its contract: one subtraction, whose result is not below zero. Assumes nothing.
+-- `signed::size_below` meets its contract: one subtraction, whose result is not below zero. Assumes nothing.
 use native.Mathlib.Omega.{arith}
+use lib.IntN.{pos}
 use lib.Signed.{mag}
 use mir.Syntax.{w64}
 use mir.ValLaws.{toZ-ofZ}
-use Rattle.buffer.proofs.Digits.{less-one, size-one, back}
-use Rattle.buffer.proofs.size_below.Statement.{statement}
-use Rattle.buffer.proofs.size_below.Tie as tie
+use Rattle.signed.proofs.Sizes.{less-one, size-one, signed-roundtrip}
+use Rattle.signed.proofs.size_below.Statement.{statement}
+use Rattle.signed.proofs.size_below.Tie as tie
 
 sub-result : tie.Need-sub-result
 sub-result c = rw (toZ-ofZ w64 (c .args .v) (c .fits .v), less-one (c .args .v) (c .pre))
@@ -16,7 +17,7 @@ cast-result c =
     rw (
       toZ-ofZ w64 (c .args .v) (c .fits .v),
       less-one (c .args .v) (c .pre),
-      back (mag (c .args .v))
+      signed-roundtrip (pos (mag (c .args .v)))
           (c .fits .v .sfits),
     ) (tt, omega arith)
 
@@ -25,7 +26,7 @@ add-result c =
     rw (
       toZ-ofZ w64 (c .args .v) (c .fits .v),
       less-one (c .args .v) (c .pre),
-      back (mag (c .args .v))
+      signed-roundtrip (pos (mag (c .args .v)))
           (c .fits .v .sfits),
     ) (omega (arith, c .fits .v .sfits))
 
@@ -34,7 +35,7 @@ returns c =
     rw (
       toZ-ofZ w64 (c .args .v) (c .fits .v),
       less-one (c .args .v) (c .pre),
-      back (mag (c .args .v))
+      signed-roundtrip (pos (mag (c .args .v)))
           (c .fits .v .sfits),
     ) (size-one (c .args .v) (c .pre))
 

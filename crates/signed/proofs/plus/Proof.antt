@@ -1,4 +1,4 @@
--- `totals::plus` meets its contract: the sizes leave space for the sum. Assumes nothing.
+-- `signed::plus` meets its contract: the sizes leave space for the sum. Assumes nothing.
 use mathlib.Core.Path.{_≡_, sym, subst}
 use Prim.Native.Nat.{_≤_, _+_}
 use native.Mathlib.Omega.{arith}
@@ -7,9 +7,9 @@ use lib.Signed.{mag}
 use mir.Syntax.{w64}
 use mir.Val.{SFits, toZ, ofZ}
 use mir.ValLaws.{toZ-ofZ}
-use Rattle.totals.proofs.SignedTotals.{plus-mag}
-use Rattle.totals.proofs.plus.Statement.{statement}
-use Rattle.totals.proofs.plus.Tie as tie
+use Rattle.signed.proofs.Sizes.{plus-mag}
+use Rattle.signed.proofs.plus.Statement.{statement}
+use Rattle.signed.proofs.plus.Tie as tie
 
 -- the signed reading gives both numbers back
 back : (c : tie.Start) → (toZ w64 (ofZ w64 (c .args .a)) ≡ c .args .a) × (toZ w64 (ofZ w64 (c .args .b)) ≡ c .args .b)

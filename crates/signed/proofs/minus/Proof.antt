@@ -1,13 +1,13 @@
--- `totals::minus` meets its contract: the sizes leave space for the difference. Assumes nothing.
+-- `signed::minus` meets its contract: the sizes leave space for the difference. Assumes nothing.
 use mathlib.Core.Path.{_≡_}
 use native.Mathlib.Omega.{arith}
 use lib.IntN.{_-ℤ_}
 use mir.Syntax.{w64}
 use mir.Val.{SFits, toZ, ofZ}
 use mir.ValLaws.{toZ-ofZ}
-use Rattle.totals.proofs.SignedTotals.{minus-mag}
-use Rattle.totals.proofs.minus.Statement.{statement}
-use Rattle.totals.proofs.minus.Tie as tie
+use Rattle.signed.proofs.Sizes.{minus-mag}
+use Rattle.signed.proofs.minus.Statement.{statement}
+use Rattle.signed.proofs.minus.Tie as tie
 
 -- the signed reading gives both numbers back
 back : (c : tie.Start) → (toZ w64 (ofZ w64 (c .args .a)) ≡ c .args .a) × (toZ w64 (ofZ w64 (c .args .b)) ≡ c .args .b)
