@@ -16,7 +16,7 @@ from tests import ROOT
 from tests.support.checker import checker_line
 from tests.support.command import run, run_beside
 from tests.support.progress import Line, Work, crates_listed, edits_listed
-from tests.support.prover import prover_settings
+from tests.support.prover import prover_environment
 from tests.support.report import NUMBER, SEED
 
 TALLY = re.compile(r"^(\d+) passed, (\d+) failed$")
@@ -48,7 +48,7 @@ QUICK_PROOFS = Part("proofs and programs", ["rt", "check"], 61)
 # What runs on the proved programs, two parts at once.
 PROGRAMS = [
     script("must-fail edits fit the proof files", "tests.repository.test_must_fail_reasons", 2),
-    script("behaviour of the gate", "tests.repository.test_gate", 21),
+    script("behaviour of the gate", "tests.repository.test_gate", 22),
     script("numbers of the promises, against the order", "tests.repository.test_order_figures", 55),
     script("declarations of the calls in four languages", "tests.repository.test_struct_layouts",
            20),
@@ -140,15 +140,16 @@ def drawn(parts):
     return [part for part in parts if module_of(part).startswith(DRAWN)]
 
 
-def try_parts(parts, work, line):
-    """Run parts, two at once; how many tests of each passed and failed."""
+def try_parts(parts, work, line, added=()):
+    """Run parts, two at once, with this added to their environment; how many tests of each passed
+    and failed."""
     parts = sorted(parts, key=lambda part: not module_of(part).startswith(LONG))
 
     def watch(written):
         work.read(each for lines in written.values() for each in lines)
         line.show(lambda: work.words([parts[number].name for number in written]))
 
-    ended = run_beside([part.command for part in parts], MOST_SECONDS, watch)
+    ended = run_beside([part.command for part in parts], MOST_SECONDS, watch, added)
     return [show_part(part, work, line, *each) for part, each in zip(parts, ended)]
 
 
@@ -186,8 +187,8 @@ def run_gate(proofs, programs, edits):
     names = [part.name for part in (proofs, *before, *after)]
     work, line = Work(crates_listed(), edits, names), Line(sys.stdout)
     try:
-        with prover_settings():
-            tallies = try_parts([proofs], work, line)
+        with prover_environment() as added:
+            tallies = try_parts([proofs], work, line, added)
         if not tallies[0][1]:
             tallies += [*try_parts(before, work, line), *try_parts(after, work, line)]
     finally:

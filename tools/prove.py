@@ -11,7 +11,7 @@ from pathlib import Path
 from tests import ROOT
 from tests.support.command import run, run_beside
 from tests.support.progress import Line, Work, crates_listed, crates_needed
-from tests.support.prover import prover_settings
+from tests.support.prover import prover_environment
 
 # For the crate and all that it needs, on a slow machine.
 MOST_SECONDS = 90 * 60
@@ -54,9 +54,9 @@ def prove(verb, crate):
 
     code, printed = 0, ""
     try:
-        with prover_settings():
+        with prover_environment() as added:
             for command in commands_of(verb, crate):
-                [(code, text, _)] = run_beside([command], MOST_SECONDS, watch)
+                [(code, text, _)] = run_beside([command], MOST_SECONDS, watch, added)
                 printed += text
                 if code:
                     break

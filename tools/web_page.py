@@ -12,6 +12,7 @@ import hashlib
 import os
 import re
 import sys
+import tempfile
 import zlib
 from pathlib import Path
 from typing import NamedTuple
@@ -187,23 +188,33 @@ def page_text(wasm):
     return text
 
 
+def write_page(module=None, page=PAGE):
+    """Write the page and the tables that its modules import; its length. Whoever reads it meanwhile
+    finds a whole one."""
+    module = module or next(path for path in build() if path.suffix == ".wasm")
+    text = page_text(module.read_bytes())
+    page.parent.mkdir(parents=True, exist_ok=True)
+    write_tables()
+    with tempfile.TemporaryDirectory(dir=page.parent) as folder:
+        part = Path(folder) / page.name
+        part.write_text(text, encoding="utf-8")
+        os.replace(part, page)
+    return len(text.encode())
+
+
 def main():
-    """Write the page and the tables that its modules import."""
+    """Write the page; the exit code."""
     parser = argparse.ArgumentParser(description=__doc__.splitlines()[0])
     parser.add_argument("--module", type=Path,
                         help="the proved code in WebAssembly; without it, it is built")
     parser.add_argument("--page", type=Path, default=PAGE, help="the file that is written")
     wanted = parser.parse_args()
     try:
-        module = wanted.module or next(path for path in build() if path.suffix == ".wasm")
-        text = page_text(module.read_bytes())
+        length = write_page(wanted.module, wanted.page)
     except (BuildError, BundleError, OSError) as error:
         print(f"web_page: {error}", file=sys.stderr)
         return 1
-    wanted.page.parent.mkdir(parents=True, exist_ok=True)
-    write_tables()
-    wanted.page.write_text(text, encoding="utf-8")
-    print(f"{wanted.page}: {len(text.encode()):,} bytes")
+    print(f"{wanted.page}: {length:,} bytes")
     return 0
 
 

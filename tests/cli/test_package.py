@@ -14,6 +14,7 @@ from pathlib import Path
 from tests import ROOT
 from tests.cli.run import sample
 from tests.support.debian import install
+from tests.support.packages import build_parts
 from tests.support.report import run_unit_tests
 
 LISTING = (ROOT / "samples" / "small_insurer.listing").read_bytes()
@@ -48,6 +49,7 @@ def run(*words, folder=ROOT, **more):
 def unpacked(folder):
     """The archive for this machine, built and unpacked in a folder; the folder that it holds."""
     built = folder / "dist"
+    build_parts()
     ended = run(sys.executable, "-m", "tools.dist", "build", built, "--only", "linux-x86_64")
     if ended.returncode:
         raise AssertionError(ended.stderr.decode())

@@ -15,6 +15,7 @@ from pathlib import Path
 from tests import ROOT
 from tests.support.case import Case
 from tests.support.command import run
+from tests.support.packages import build_parts
 from tests.support.report import run_unit_tests
 from tools.dist import identity
 from tools.dist.contents import PLATFORMS, X86_64
@@ -40,6 +41,7 @@ class Wheels(Case):
 
     @classmethod
     def setUpClass(cls):
+        build_parts()
         cls.wheels = {each.wheel: wheel_bytes(each, identity.seconds()) for each in PLATFORMS}
         held = tempfile.TemporaryDirectory()
         cls.addClassCleanup(held.cleanup)

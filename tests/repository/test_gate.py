@@ -17,7 +17,7 @@ from tests import ROOT, gate
 from tests.support.case import Case
 from tests.support.differential import Differential
 from tests.support.progress import Line, Work, crates_listed, crates_needed
-from tests.support.prover import JOBS, TEMPORARY, prover_settings
+from tests.support.prover import JOBS, TEMPORARY, prover_environment
 from tests.support.report import NUMBER, SEED, run_unit_tests
 
 # What `rt` prints as it goes: a crate proved, one that is not, one unchanged; edits; programs.
@@ -32,8 +32,10 @@ rt: listing ran as nobody, and wrote what its file 'stdout' has (0 s)
 rt: report proved, and its run FAILED (1 s)
 """
 # A gate in a process of its own, of one part that writes its number to a file and goes on for long.
+# A run in the background may have started with the signal ignored.
 LONG_RUN = """
-import sys, tests.gate as gate
+import signal, sys, tests.gate as gate
+signal.signal(signal.SIGINT, signal.default_int_handler)
 words = ["sh", "-c", 'echo $$ > "$1"; exec sleep 9999', "sh", sys.argv.pop()]
 gate.PROOFS = gate.Part("proofs", words, 1)
 try:
@@ -93,6 +95,7 @@ class Tally(unittest.TestCase):
             number = Path(folder, "number")
             started = subprocess.Popen([sys.executable, "-c", LONG_RUN, str(number)], cwd=ROOT,
                                        stdout=subprocess.DEVNULL)
+            self.addCleanup(started.kill)
             until = time.monotonic() + MOST_SECONDS
             while time.monotonic() < until and not (number.is_file() and number.read_text()):
                 time.sleep(0.05)
@@ -103,35 +106,42 @@ class Tally(unittest.TestCase):
                 os.kill(int(number.read_text()), 0)
 
 
-class ProverSettings(unittest.TestCase):
-    """`rt` has its temporary files in memory and several checks at once, for its run alone."""
+class ProverEnvironment(unittest.TestCase):
+    """`rt` has its temporary files in memory and several checks at once; nothing else has."""
 
-    def test_set_for_the_run_alone(self):
+    def test_for_the_run_alone(self):
         with patch.dict(os.environ), tempfile.TemporaryDirectory() as memory:
             for name in (JOBS, TEMPORARY):
                 os.environ.pop(name, None)
             before = dict(os.environ)
-            with prover_settings(memory):
-                folder = Path(os.environ[TEMPORARY])
+            with prover_environment(memory) as added:
+                folder = Path(added[TEMPORARY])
                 self.assertEqual((str(folder.parent), oct(folder.stat().st_mode & 0o777)),
                                  (memory, "0o711"))
-                self.assertGreater(int(os.environ[JOBS]), os.cpu_count())
-            self.assertEqual((dict(os.environ), os.listdir(memory)), (before, []))
+                self.assertGreater(int(added[JOBS]), os.cpu_count())
+                self.assertEqual(dict(os.environ), before)
+            self.assertEqual(os.listdir(memory), [])
 
     def test_what_is_set_stays(self):
-        with patch.dict(os.environ, {JOBS: "1", TEMPORARY: "/tmp"}), prover_settings():
-            self.assertEqual((os.environ[JOBS], os.environ[TEMPORARY]), ("1", "/tmp"))
+        with patch.dict(os.environ, {JOBS: "1", TEMPORARY: "/tmp"}), prover_environment() as added:
+            self.assertEqual(added, {})
 
     def test_memory_that_cannot_be_used(self):
         full = types.SimpleNamespace(f_flag=0, f_bavail=1, f_frsize=1)
         no_programs = types.SimpleNamespace(f_flag=os.ST_NOEXEC, f_bavail=1 << 40, f_frsize=1)
         for held in (full, no_programs):
-            with patch.dict(os.environ), patch("os.statvfs", return_value=held):
-                os.environ.pop(TEMPORARY, None)
-                with prover_settings():
-                    self.assertNotIn(TEMPORARY, os.environ)
-        with patch.dict(os.environ), prover_settings("/nowhere"):
-            self.assertIn(JOBS, os.environ)
+            with patch("os.statvfs", return_value=held), prover_environment() as added:
+                self.assertNotIn(TEMPORARY, added)
+        with prover_environment("/nowhere") as added:
+            self.assertNotIn(TEMPORARY, added)
+
+    def test_it_reaches_the_proofs(self):
+        line = f"import os; print(os.environ['{JOBS}'] + ' passed, 0 failed')"
+        words = [sys.executable, "-c", line]
+        with patch.dict(os.environ):
+            os.environ.pop(JOBS, None)
+            code, lines = Tally.run_gate(self, gate.Part("proofs", words, 3))
+        self.assertEqual((code, lines[-1].endswith(", 0 failed")), (0, True), lines)
 
 
 class Modules(unittest.TestCase):

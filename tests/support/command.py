@@ -46,7 +46,7 @@ def run(command, most_seconds, folder=ROOT):
 class Beside:
     """A command that runs beside others: what it writes goes to a temporary file."""
 
-    def __init__(self, command, most_seconds):
+    def __init__(self, command, most_seconds, added):
         self.began = time.monotonic()
         self.most_seconds = most_seconds
         self.written = tempfile.TemporaryFile()
@@ -54,7 +54,7 @@ class Beside:
         try:
             self.started = subprocess.Popen(
                 command, cwd=ROOT, stdin=subprocess.DEVNULL, stdout=self.written,
-                stderr=subprocess.STDOUT, start_new_session=True)
+                stderr=subprocess.STDOUT, start_new_session=True, env={**os.environ, **added})
         except OSError as trouble:
             self.started = None
             self.written.write(str(trouble).encode())
@@ -98,11 +98,12 @@ class Beside:
             end_group(self.started)
 
 
-def run_beside(commands, most_seconds, watch=lambda lines: None):
+def run_beside(commands, most_seconds, watch=lambda lines: None, added=()):
     """Run commands, two at once: exit code, output and seconds of each, in their order.
 
     `watch` is given, many times a second, the new lines of those that run, by their numbers.
-    Nothing that was started goes on where whoever waits is interrupted.
+    Nothing but they has what is `added` to the environment. Nothing that was started goes on where
+    whoever waits is interrupted.
     """
     waiting, running, ended = list(enumerate(commands)), {}, {}
     given = 0
@@ -110,7 +111,7 @@ def run_beside(commands, most_seconds, watch=lambda lines: None):
         while given < len(commands):
             while waiting and len(running) < AT_ONCE:
                 number, command = waiting.pop(0)
-                running[number] = Beside(command, most_seconds)
+                running[number] = Beside(command, most_seconds, dict(added))
             watch({number: each.new_lines() for number, each in running.items()})
             for number in [number for number, each in running.items() if each.ended()]:
                 ended[number] = running.pop(number).result()

@@ -18,19 +18,15 @@ JOBS, TEMPORARY = "RT_JOBS", "TMPDIR"
 
 
 @contextlib.contextmanager
-def prover_settings(memory=IN_MEMORY):
-    """Within it `rt` runs so; what the environment sets already stays."""
+def prover_environment(memory=IN_MEMORY):
+    """What is added to the environment of `rt`, until the end; what is set already stays."""
     chosen = {JOBS: str(CHECKS_A_PROCESSOR * (os.cpu_count() or 1))}
     folder = folder_in(memory)
     if folder:
         chosen[TEMPORARY] = folder
-    added = {name: value for name, value in chosen.items() if name not in os.environ}
-    os.environ.update(added)
     try:
-        yield
+        yield {name: value for name, value in chosen.items() if name not in os.environ}
     finally:
-        for name in added:
-            del os.environ[name]
         if folder:
             shutil.rmtree(folder, ignore_errors=True)
 
