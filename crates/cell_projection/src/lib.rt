@@ -67,8 +67,8 @@ pub fn one_year(
     cell.next_year(rows, columns, k)
 }
 
-// The years of one projection of a model point from one on, until nothing is in force. Returns how
-// many years the projection has in all.
+// The years of one projection of a model point, from the start on until nothing is in force.
+// Returns how many years the projection has in all.
 pub fn alone(
     rows: &RateTable,
     point: ModelPoint,

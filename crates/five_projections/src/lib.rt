@@ -139,7 +139,7 @@ pub struct Stop {
 }
 
 // The years of all five side by side, from one to before another, while all have something in
-// force.
+// force. The columns are constants, made before the loop at no cost.
 fn together(
     rows: &RateTable,
     point: ModelPoint,
