@@ -1,6 +1,6 @@
 //! Links libxaropinto.a, on Windows the DLL by xaropinto.lib, of the folder that XAROPINTO_LIB_DIR
-//! names; without it, of the repository's target/lib, where `make lib` puts it, or of the lib/ of an
-//! unpacked archive.
+//! names; without it, of the repository's target/lib, where `make lib` puts it, or of the lib/ of
+//! an unpacked archive.
 
 use std::env;
 use std::path::PathBuf;

@@ -18,6 +18,7 @@ LISTED = re.findall(r"^(\w+):(.*)", (ROOT / "crates.txt").read_text(encoding="ut
 CRATES = [crate for crate, _ in LISTED]
 OUTSIDE = {word for _, needs in LISTED for word in needs.split()} - set(CRATES)
 WRAPPER = "xaropinto"
+CMAKE = ROOT / "packaging" / "xaropinto-config.cmake"
 
 # A path from the root, or below crates/ if it leads to definitions, proofs, code or edits.
 PATH = (r"(?<![\w./-])(?:(?:crates|docs|reference|tests|tools|samples|include|bindings|python"
@@ -127,9 +128,10 @@ def names():
 
 
 def functions():
-    """Functions named as CRATE::NAME are in the source of the crate, or of the Rust wrapper."""
+    """Functions named as CRATE::NAME are in the crate or the Rust wrapper, or targets of CMake."""
+    targets = re.findall(r"add_library\((\S+)", CMAKE.read_text(encoding="utf-8"))
     for where, match in matches(r"(?<![\w:])([a-z]\w*)::([a-z]\w*)"):
-        if match[1] not in OUTSIDE:
+        if match[1] not in OUTSIDE and match[0] not in targets:
             folder = "bindings/rust" if match[1] == WRAPPER else f"crates/{match[1]}"
             holds = defined(match[2], ROOT / folder / "src")
             yield where, holds, f"there is no function {match[0]}"

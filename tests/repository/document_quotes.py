@@ -36,6 +36,8 @@ SPAN = re.compile(r"(?<!`)`([^`]+)`(?!`)")
 # A function of a crate, which another rule finds in its source.
 FUNCTION = re.compile(r"[a-z]\w*::[a-z]\w*")
 REFUSAL = re.compile(r"(?:refused |Refused\()?(\d+)[ ,]+\d+\)?")
+# Endings of files named xaropinto.
+ENDINGS = "py|h|book|dll|lib|html|wasm|cmd"
 # Columns that explain notation by letters of their own.
 NOTATION = ("notation", "read")
 # A path, and a block that repeats the file.
@@ -106,8 +108,8 @@ def programs():
 
 
 def python_names():
-    """Names of the Python package in the documents are there."""
-    for where, match in matches(r"(?<![\w/.-])xaropinto\.(?!py\b|h\b|book\b)([A-Za-z]\w+)"):
+    """Names of the Python package in the documents are there; the endings of files are none."""
+    for where, match in matches(rf"(?<![\w/.-])xaropinto\.(?!(?:{ENDINGS})\b)([A-Za-z]\w+)"):
         holds = (ROOT / "python" / "xaropinto" / f"{match[1]}.py").is_file()
         holds = holds or hasattr(xaropinto, match[1])
         yield where, holds, f"the package has no {match[0]}"

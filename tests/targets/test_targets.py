@@ -19,11 +19,12 @@ from tools.targets.kit import run_tool
 from tools.targets.retarget import TARGETS, retarget
 
 NAMES = [call.name for call in calls()]
-# The only lines that may change: what names the target, and where a function of the C API begins.
-MAY_CHANGE = re.compile(r"target (?:datalayout|triple) = |attributes #0 = |define .*@xaropinto_")
+# The only lines that may change: what names the target, and where a function begins.
+MAY_CHANGE = re.compile(r"target (?:datalayout|triple) = |attributes #0 = |define ")
 EXTERNAL = re.compile(r"^define (?!internal).*@(\w+)\(", re.M)
-# Of a function's first line these may change: its own name, and what belongs to the convention.
-OF_CONVENTION = re.compile(r"hidden |x86_64_sysvcc | byval\(\[\d+ x i8\]\)|proved_")
+# Of a function's first line these may change: the name of a call, what belongs to the convention,
+# and whether it is inlined.
+OF_CONVENTION = re.compile(r"hidden |x86_64_sysvcc | byval\(\[\d+ x i8\]\)|proved_| alwaysinline")
 SHARED_NAME = re.compile(r"^SHARED := (\S+)$", re.M)
 LINUX = "x86_64-unknown-linux-gnu"
 WASM, DLL, SHARED, STATIC = (FOLDER / name for name in (

@@ -1,7 +1,8 @@
 """The captured module for another target: no instruction is changed.
 
-What changes is the data layout and the triple; what every function says of processor and stack; and
-on the calls of the C API what belongs to x86-64's System V convention.
+What changes is the data layout and the triple; what every function says of processor and stack;
+which functions are inlined; and on the calls of the C API what belongs to x86-64's System V
+convention.
 
 In the module a call takes the place of its reply as its first pointer, and a struct that is passed
 by value as a pointer to a copy. WebAssembly's C convention is the same. On Windows and arm64 the
@@ -18,6 +19,7 @@ from tools.targets.kit import run_tool
 FUNCTION_ATTRIBUTES = 'nounwind "probe-stack"="inline-asm" "target-cpu"="x86-64"'
 TARGET_LINE = re.compile(r"^target (?:datalayout|triple) = .*$", re.M)
 CALL_LINE = r"^define (?P<reply>.*) @(?P<name>{names})\((?P<arguments>.*)\) #0 \{{$"
+INNER_LINE = r'^(define internal .* @"(?:{names})"\(.*\) #0) \{{$'
 COPIED = re.compile(r" byval\(\[\d+ x i8\]\)")
 TWO_WORDS = "{ i64, i64 }"
 PROVED = "proved_"
@@ -28,7 +30,8 @@ class Target(NamedTuple):
 
     With adapters, the calls are the adapters', and the module's have other names and are, where
     the target knows that, hidden. A reply of two words is returned in two registers: by which
-    convention, where the target's own does not do so.
+    convention, where the target's own does not do so. Functions may be named that are inlined
+    wherever they are called.
     """
 
     name: str
@@ -37,10 +40,15 @@ class Target(NamedTuple):
     adapters: bool = False
     hidden: bool = False
     two_words: str = ""
+    inlined: tuple[str, ...] = ()
 
 
-# WebAssembly has a stack that traps at its end.
-WASM32 = Target("wasm32", "wasm32-unknown-unknown", "nounwind")
+# WebAssembly has a stack that traps at its end. At its level of optimisation little is inlined: the
+# year of a cell, and what is constant for all of them, would be called each time.
+WASM32 = Target("wasm32", "wasm32-unknown-unknown", "nounwind", inlined=(
+    "cell::Cell::next_year", "cell_projection::one_year", "settings::Columns::new",
+    "settings::FiveColumns::new", "settings::persistency_column", "settings::same_mortality",
+    "settings::survival_column", "settings::weight"))
 # Windows protects nothing below the stack pointer and unwinds by tables; it has its own probe of
 # the stack.
 WINDOWS = Target("windows-x86_64", "x86_64-pc-windows-gnu",
@@ -57,6 +65,8 @@ def retarget(module, target, names):
     module = changed(TARGET_LINE, lambda found: next(lines), module, 2)
     module = changed(re.escape(f"#0 = {{ {FUNCTION_ATTRIBUTES} }}"),
                      lambda found: f"#0 = {{ {target.attributes} }}", module, 1)
+    inner = re.compile(INNER_LINE.format(names="|".join(target.inlined)), re.M)
+    module = changed(inner, r"\1 alwaysinline {", module, len(target.inlined))
     pattern = re.compile(CALL_LINE.format(names="|".join(names)), re.M)
     return changed(pattern, lambda found: call_line(found, target), module, len(names))
 
