@@ -14,16 +14,17 @@ use Rattle.book.specs.Layout.{lastClass, chains, recordAt, classOf, linkAt}
 use Rattle.book.specs.Rules.{Rules}
 use Rattle.age_basis.specs.Conversion.{linkClassAt, chainClassAt, linkedClassAt, convertedByte, converted}
 use Rattle.age_basis.specs.Conversion.{NoLinkedClass, ConversionRules}
-use Rattle.age_basis.proofs.Places.{never, some-found, length-list, list-at, class-found, linked-here}
+use Rattle.age_basis.proofs.Places.{never, some-found, class-found, linked-here}
 use Rattle.age_basis.proofs.Places.{linked-elsewhere}
+use Rattle.lists.proofs.Each.{each-length, each-at}
 
 pub converted-length : (b : List ℕ) → length (converted b) ≡ length b
 unfolding converted
-converted-length b = length-list _ _
+converted-length b = each-length _ _
 
 pub converted-at : (b : List ℕ) (p : ℕ) → p < length b → byteAt (converted b) p ≡ convertedByte b p
 unfolding converted
-converted-at b p h = list-at _ _ p h
+converted-at b p h = each-at _ 0 _ p h
 
 module _ (b : List ℕ) (r : Rules 2 b) where
   -- a linked record lies in the book, and is at most 121 steps from its head

@@ -1,6 +1,6 @@
 -- Laws of a test over numbers, of a list given by its elements, and of the places of linked classes. Assumes nothing.
-use mathlib.Core.Path.{_≡_, refl, _∙_}
-use mathlib.Core.List.{List, [], _∷_}
+use mathlib.Core.Path.{_≡_, refl}
+use mathlib.Core.List.{List}
 use mathlib.Core.Logic.{⊎-elim}
 use mathlib.Core.Bool.{Bool, true, false, cond}
 use Prim.Native.Nat.{ℕ, zero, suc, _+_, _-_, _<_}
@@ -8,10 +8,8 @@ use native.Mathlib.Nat.{pos-of-ne-zero, eq-or-lt-of-le}
 use native.Mathlib.Omega.{arith}
 use borrow.Author.Tests.{eq-eqb, ne-eqb, eqb-true, eqb-false}
 use lib.Dec.{eqb}
-use lib.ListN.{length, length-append, getD, List·getD-append}
-use lib.Seq.{getD-at}
 use Rattle.book.specs.Layout.{lastClass, chains, recordAt, linkAt}
-use Rattle.age_basis.specs.Conversion.{someBelow, classAt, chainClassAt, linkedClassAt, listOf, NoLinkedClass}
+use Rattle.age_basis.specs.Conversion.{someBelow, classAt, chainClassAt, linkedClassAt, NoLinkedClass}
 
 pub never : false ≡ true → ⊥
 never e = let z : _≡_ {A = ℕ} 0 1 = cc in omega arith
@@ -57,22 +55,6 @@ some-more f j zero none = let e : j + 0 ≡ j = omega arith in rw e
 some-more f j (suc more) none =
     let e : j + suc more ≡ suc (j + more) = omega arith in
     rw (e, none more) (some-more f j more none)
-
--- a list given by its elements
-pub length-list : (f : ℕ → ℕ) (n : ℕ) → length (listOf f n) ≡ n
-unfolding listOf
-length-list f zero = refl
-length-list f (suc n) = omega (arith, length-append (listOf f n) (f n ∷ []), length-list f n)
-
-pub list-at : (f : ℕ → ℕ) (n p : ℕ) → p < n → getD (listOf f n) p 0 ≡ f p
-unfolding listOf
-list-at f zero p h = absurd (omega arith)
-list-at f (suc n) p h =
-    ⊎-elim
-    (λ (same : p ≡ n). rw same (getD-at (listOf f n) (f n) [] 0 n (length-list f n)))
-    (λ (less : p < n).
-    List·getD-append (listOf f n) (f n ∷ []) 0 p (omega (arith, length-list f n)) ∙ list-at f n p less)
-    (eq-or-lt-of-le (omega arith))
 
 -- where a class stands
 pub class-here : (p i : ℕ) → 0 < i → p ≡ recordAt i + 2 → classAt p i ≡ true

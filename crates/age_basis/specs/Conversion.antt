@@ -2,16 +2,17 @@
 -- all else is copied. Mortality goes by age, so its bytes are among those copied.
 use Prim.Native.Nat.{ℕ, zero, suc, _+_, _-_, _<_}
 use mathlib.Core.Path.{_≡_}
-use mathlib.Core.List.{List, [], _∷_, _++_}
+use mathlib.Core.List.{List}
 use mathlib.Core.Bool.{Bool, true, false, cond}
-use lib.ListN.{length, take, drop}
+use lib.ListN.{length, take}
 use lib.Dec.{leb, eqb}
 use Rattle.le_bytes.specs.Bytes.{byteAt}
 use Rattle.verdict.specs.Verdicts.{need, _andThen_, refusalOf, countOf}
 use Rattle.verdict.specs.declared.Verdict.{Verdict}
-use Rattle.verdict.specs.declared.Verdict.the-variants.{Accepted, Refused}
 use Rattle.book.specs.Layout.{lastClass, ageBasis, chains, recordAt, classOf, linkAt}
 use Rattle.book.specs.Check.{checkBook}
+use Rattle.buffer.specs.Replies.{bufferFor}
+use Rattle.lists.specs.Each.{each}
 
 -- f holds of some number below n
 unfoldable pub someBelow : (ℕ → Bool) → ℕ → Bool
@@ -38,26 +39,17 @@ linkedClassAt b p = someBelow (chainClassAt b p) chains
 unfoldable pub convertedByte : List ℕ → ℕ → ℕ
 convertedByte b p = cond (eqb p 1) 1 (cond (linkedClassAt b p) (byteAt b p - 1) (byteAt b p))
 
--- what f gives for 0, 1 and so on, n of them
-unfoldable pub listOf : (ℕ → ℕ) → ℕ → List ℕ
-listOf f zero = []
-listOf f (suc n) = listOf f n ++ f n ∷ []
-
 -- the converted book: these bytes, as many as the book has
 unfoldable pub converted : List ℕ → List ℕ
-converted b = listOf (convertedByte b) (length b)
+converted b = each (convertedByte b) (length b)
 
 -- 16 a buffer shorter than the book; then the book's own refusals, on basis 2
 unfoldable pub convertCheck : List ℕ → ℕ → Verdict
 convertCheck b capacity = need (leb (length b) capacity) 16 0 andThen checkBook 2 b
 
 -- the caller's buffer afterwards: the converted book, then what stood there; as it was where refused
-abbrev pub bufferOf : Verdict → List ℕ → List ℕ → List ℕ
-bufferOf (Accepted n) bytes before = bytes ++ drop (length bytes) before
-bufferOf (Refused number place) bytes before = before
-
 unfoldable pub convertedBuffer : List ℕ → List ℕ → List ℕ
-convertedBuffer b before = bufferOf (convertCheck b (length before)) (converted b) before
+convertedBuffer b before = bufferFor (convertCheck b (length before)) (converted b) before
 
 -- What the call promises: its reply and the buffer equal their definitions; and, where the reply has no refusal, the
 -- converted book, as it then stands in the buffer, passes the check on basis 1, with as many linked records that hold

@@ -31,10 +31,10 @@ use Rattle.book_contents.specs.Written.{twoBytes, twosComplement, number
 use Rattle.book_contents.specs.Written.{frontBytes, bookOf}
 use Rattle.book_contents.specs.Written.{bookSize}
 use Rattle.book_contents.specs.Limits.{curveRate, checkContents, Fit}
-use Rattle.book_contents.specs.Reading.{each, signedOf, firstIn, firstsOf, listIn, fieldList, valuesOf}
+use Rattle.book_contents.specs.Reading.{signedOf, firstIn, firstsOf, listIn, fieldList, valuesOf}
 use Rattle.book_contents.specs.Reading.{contentsOf}
 use Rattle.book_contents.specs.Reading.{OfBytes, InOrder}
-use Rattle.book_contents.proofs.Stands.{Stands, stands-whole, stands-both, each-length, each-at, each-all}
+use Rattle.book_contents.proofs.Stands.{Stands, stands-whole, stands-both, each-all}
 use Rattle.book_contents.proofs.Numbers.{two-stands, four-stands, two-length, u32-small, signed-back}
 use Rattle.book_contents.proofs.Numbers.{signed-rate}
 use Rattle.book_contents.proofs.Laid.{Laid, laid-stands, book-length}
@@ -42,6 +42,8 @@ use Rattle.book_contents.proofs.Fit.{fit-good}
 use Rattle.book_contents.proofs.Entries.{of-entry}
 use Rattle.book_contents.proofs.Linked.{head-none, head-some, next-last, next-more}
 use Rattle.book_contents.proofs.Lists.{firsts-at, firsts-size, lists-size, lists-at}
+use Rattle.lists.specs.Each.{each}
+use Rattle.lists.proofs.Each.{each-at}
 
 -- one step more along a chain, at its end
 pub link-last : (b : List ℕ) (j i : ℕ) → linkFrom b i (suc j) ≡ recordAfter b (linkFrom b i j)

@@ -15,7 +15,7 @@ use Rattle.buffer.proofs.Digits.{le-or-lt}
 use Rattle.book_contents.specs.Contents.{Contents, noClass, sizeOf}
 use Rattle.book_contents.specs.Written.{numberOf, bookOf}
 use Rattle.book_contents.specs.Limits.{checkContents, Fit, Shaped}
-use Rattle.book_contents.specs.Reading.{each, signedOf, firstIn, firstsOf, fieldList, valuesOf, contentsOf}
+use Rattle.book_contents.specs.Reading.{signedOf, firstIn, firstsOf, fieldList, valuesOf, contentsOf}
 use Rattle.book_contents.proofs.Stands.{stands-self, each-whole}
 use Rattle.book_contents.proofs.Numbers.{four-read, curve-small, curve-back}
 use Rattle.book_contents.proofs.Laid.{Laid, stands-laid}
@@ -24,6 +24,7 @@ use Rattle.book_contents.proofs.Linked.{head-none, head-some, edition-i
 use Rattle.book_contents.proofs.Linked.{class-of-entry, count-of-entry}
 use Rattle.book_contents.proofs.Linked.{lapse-of-entry, premium-of-entry, claims-of-entry, link-in}
 use Rattle.book_contents.proofs.Lists.{lists-whole}
+use Rattle.lists.specs.Each.{each}
 
 module _ (b : List ℕ) (v : Contents) (f : Fit v) (x : Laid b v) where
   first-is : (k : ℕ) → k < chains → firstIn b k ≡ getD (v .values .first) k 0

@@ -8,8 +8,8 @@ use Rattle.book.specs.Layout.{chains, fieldOf, linkAt}
 use Rattle.buffer.specs.Text.{joined}
 use Rattle.book_contents.specs.Contents.{noClass, sizeOf, recordsBefore}
 use Rattle.book_contents.specs.Reading.{firstIn, firstsOf, listIn, fieldList}
-use Rattle.book_contents.proofs.Stands.{stands-self, stands-whole, stands-part, stands-joined, each-length}
-use Rattle.book_contents.proofs.Stands.{each-at}
+use Rattle.book_contents.proofs.Stands.{stands-self, stands-whole, stands-part, stands-joined}
+use Rattle.lists.proofs.Each.{each-length, each-at}
 
 -- the first classes of a book, one by one
 pub firsts-at : (b : List ℕ) (k : ℕ) → k < chains → getD (firstsOf b) k 0 ≡ firstIn b k

@@ -1,12 +1,12 @@
 -- What a pass along the chains of an accepted book takes, and runs of numbers, one more at a time. Assumes nothing.
-use mathlib.Core.Path.{_≡_, refl, sym, ap, _∙_}
+use mathlib.Core.Path.{_≡_, refl, ap, _∙_}
 use mathlib.Core.List.{List, [], _∷_, _++_}
 use Prim.Native.Nat.{ℕ, _+_, _-_, _<_, _≤_}
 use native.Mathlib.Numerals.{add-one}
 use native.Mathlib.Omega.{arith}
 use borrow.Author.Tests.{leb-true}
-use lib.ListN.{length, take, set, drop}
-use lib.Seq.{sets, length-sets, take-all, take-suc-set}
+use lib.ListN.{length, drop}
+use lib.Seq.{sets, length-sets}
 use Rattle.verdict.specs.Verdicts.{_andThen_}
 use Rattle.verdict.specs.declared.Verdict.{Verdict}
 use Rattle.verdict.specs.declared.Verdict.the-variants.{Accepted, Refused}
@@ -20,9 +20,10 @@ use Rattle.book.proofs.Exact.{accepted-rules}
 use Rattle.buffer.specs.Text.{Wrote}
 use Rattle.buffer.proofs.Digits.{_then_, from-start}
 use Rattle.book_contents.specs.Contents.{noClass, recordsBefore}
-use Rattle.book_contents.specs.Reading.{each, firstIn, firstsOf, fieldList, checkRead, Sound}
+use Rattle.book_contents.specs.Reading.{firstIn, firstsOf, fieldList, checkRead, Sound}
 use Rattle.book_contents.proofs.Lists.{firsts-size, lists-size}
 use Rattle.book_contents.proofs.Again.{link-last, links-some, first-most}
+use Rattle.lists.specs.Each.{each}
 
 -- the book has its header, and every head leads into it
 pub sound-long : (b : List ℕ) → Sound b → headerSize ≤ length b
@@ -52,17 +53,7 @@ pub sound-size : (b : List ℕ) (offset : ℕ) → length (fieldList b offset) �
 unfolding fieldList
 sound-size b offset = lists-size b (firstsOf b) (firsts-size b) offset chains (omega arith)
 
--- runs of numbers: stored one by one from the start of a list
-module _ {A : Type 0} (f : ℕ → A) where
-  pub each-set : (l : List A) (j : ℕ) (a : A) → j < length l → a ≡ f j → take j l ≡ each f j
-      → take (j + 1) (set l j a) ≡ each f (j + 1)
-  unfolding each
-  each-set l j a h is so = rw (add-one j, take-suc-set l j a h, so, is)
-
-  pub each-done : (l : List A) (n : ℕ) → length l ≡ n → take n l ≡ each f n → l ≡ each f n
-  each-done l n e so = sym (take-all n l (omega arith)) ∙ so
-
--- and written one after the other
+-- numbers written one after the other
 pub each-wrote : {e x y : List ℕ} {at r q : ℕ} (f : ℕ → ℕ) (j : ℕ) → Wrote e at (each f j) x r
     → Wrote x r (f j ∷ []) y q → Wrote e at (each f (j + 1)) y q
 unfolding each

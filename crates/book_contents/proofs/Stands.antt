@@ -1,7 +1,7 @@
 -- A text that stands in a list from a place on: its parts stand there, and what is made of parts does. Assumes nothing.
 use mathlib.Core.Path.{_≡_, refl, sym, ap, subst, _∙_}
 use mathlib.Core.Logic.{⊎-elim}
-use mathlib.Core.List.{List, [], _∷_, _++_}
+use mathlib.Core.List.{List, _++_}
 use Prim.Native.Nat.{ℕ, zero, suc, _+_, _-_, _*_, _<_, _≤_}
 use native.Mathlib.Nat.{zero-add, eq-or-lt-of-le, not-suc-le-zero}
 use native.Mathlib.Omega.{arith}
@@ -9,7 +9,8 @@ use lib.ListN.{length, getD, length-append, List·getD-append, List·getD-eq-def
 use lib.Seq.{getD-append-add, ext-getD}
 use Rattle.buffer.specs.Text.{joined}
 use Rattle.buffer.proofs.Digits.{le-or-lt}
-use Rattle.book_contents.specs.Reading.{each}
+use Rattle.lists.specs.Each.{each}
+use Rattle.lists.proofs.Each.{each-length, each-at}
 
 -- the numbers of t are those of b from a place on
 abbrev pub Stands : List ℕ → ℕ → List ℕ → Type 0
@@ -65,23 +66,6 @@ pub joined-length : (f : ℕ → List ℕ) (size n : ℕ) → ((k : ℕ) → len
 unfolding joined
 joined-length f size zero h = omega arith
 joined-length f size (suc n) h = omega (arith, length-append (joined f n) (f n), joined-length f size n h, h n)
-
--- what f gives, one by one
-pub each-length : {A : Type 0} (f : ℕ → A) (n : ℕ) → length (each f n) ≡ n
-unfolding each
-each-length f zero = refl
-each-length f (suc n) = omega (arith, length-append (each f n) (f n ∷ []), each-length f n)
-
-pub each-at : {A : Type 0} (f : ℕ → A) (d : A) (n j : ℕ) → j < n → getD (each f n) j d ≡ f j
-unfolding each
-each-at f d zero j h = absurd (not-suc-le-zero h)
-each-at f d (suc n) j h =
-    ⊎-elim
-    (λ (e : j ≡ n).
-    let w : j ≡ length (each f n) + 0 = omega (arith, each-length f n) in
-    ap (λ (q : ℕ). getD (each f n ++ f n ∷ []) q d) w ∙ getD-append-add (each f n) (f n ∷ []) 0 d ∙ ap f (sym e))
-    (λ (g : j < n). List·getD-append (each f n) (f n ∷ []) d j (omega (arith, each-length f n)) ∙ each-at f d n j g)
-    (eq-or-lt-of-le (omega arith))
 
 -- what holds of each that f gives, and of what is read past the end, holds of each of the list
 pub each-all : {A : Type 0} (P : A → Type 0) (f : ℕ → A) (d : A) (n : ℕ) → P d → ((j : ℕ) → j < n → P (f j)) → (j : ℕ)

@@ -22,7 +22,7 @@ use Rattle.book_contents.specs.Contents.{Contents, given, recordsBefore}
 use Rattle.book_contents.specs.Written.{bookOf}
 use Rattle.book_contents.specs.Limits.{checkContents, Shaped}
 use Rattle.book_contents.specs.Reading.{valuesOf, firstsOf, fieldList, contentsOf, OfBytes, InOrder}
-use Rattle.book_contents.specs.Contracts.{writeRefusal, writePlace, writeLength, writeReplyFor, leftFor}
+use Rattle.book_contents.specs.Contracts.{writeRefusal, writePlace, writeLength, writeReplyFor}
 use Rattle.book_contents.specs.Contracts.{writeReply}
 use Rattle.book_contents.specs.Contracts.{WriteContract, readFor, readVerdict, ReadContract}
 use Rattle.book_contents.proofs.Accepted.{written-accepted}
@@ -30,6 +30,7 @@ use Rattle.book_contents.proofs.Back.{read-written}
 use Rattle.book_contents.proofs.Again.{written-again, taken-again}
 use Rattle.book_contents.proofs.Projection.{sound-size, book-refused, read-sound}
 use Rattle.book_contents.proofs.ZeroAccepts.{zero-accepts-contents, zero-accepts-read}
+use Rattle.buffer.specs.Replies.{bufferFor}
 
 -- the first numbers of a list, where another follows
 take-first : (l m : List ℕ) (n : ℕ) → length l ≡ n → take n (l ++ m) ≡ l
@@ -60,7 +61,7 @@ written-for (Refused q p) size told e = let z : _≡_ {A = ℕ} 0 1 = cc (told e
 
 module _ (v : Contents) (entry exit : List ℕ) (r : WriteReply) (s : Shaped (v .values))
     (reply : r ≡ writeReply v (length entry))
-    (bytes : exit ≡ leftFor (checkContents v (length entry)) (bookOf v) entry) where
+    (bytes : exit ≡ bufferFor (checkContents v (length entry)) (bookOf v) entry) where
   -- what is written was not refused, and is the book
   written : writeRefusal r ≡ 0
       → (checkContents v (length entry) ≡ Accepted (countOf (checkContents v (length entry))))
@@ -88,11 +89,11 @@ module _ (v : Contents) (entry exit : List ℕ) (r : WriteReply) (s : Shaped (v 
 module _ (b counts lapses premiums claims counts′ lapses′ premiums′ claims′ : List ℕ) (r : ReadReply)
     (bytes : OfBytes b)
     (reply : r ≡ readFor (readVerdict b counts lapses premiums claims) (valuesOf b))
-    (counts-are : counts′ ≡ leftFor (readVerdict b counts lapses premiums claims) (fieldList b countOffset) counts)
-    (lapses-are : lapses′ ≡ leftFor (readVerdict b counts lapses premiums claims) (fieldList b lapseOffset) lapses)
-    (premiums-are : premiums′ ≡ leftFor (readVerdict b counts lapses premiums claims) (fieldList b premiumOffset)
+    (counts-are : counts′ ≡ bufferFor (readVerdict b counts lapses premiums claims) (fieldList b countOffset) counts)
+    (lapses-are : lapses′ ≡ bufferFor (readVerdict b counts lapses premiums claims) (fieldList b lapseOffset) lapses)
+    (premiums-are : premiums′ ≡ bufferFor (readVerdict b counts lapses premiums claims) (fieldList b premiumOffset)
     premiums)
-    (claims-are : claims′ ≡ leftFor (readVerdict b counts lapses premiums claims) (fieldList b claimsOffset) claims) where
+    (claims-are : claims′ ≡ bufferFor (readVerdict b counts lapses premiums claims) (fieldList b claimsOffset) claims) where
   -- a reply with refusal 0 is that of an accepted reading
   read-good : r .refusal ≡ 0
       → readVerdict b counts lapses premiums claims ≡ Accepted (countOf (readVerdict b counts lapses premiums claims))
@@ -102,7 +103,7 @@ module _ (b counts lapses premiums claims counts′ lapses′ premiums′ claims
   -- what a buffer holds, up to N
   list-back : (offset m : ℕ) (entry exit : List ℕ) → records b ≡ recordsBefore (firstsOf b) chains
       → readVerdict b counts lapses premiums claims ≡ Accepted m
-      → exit ≡ leftFor (readVerdict b counts lapses premiums claims) (fieldList b offset) entry
+      → exit ≡ bufferFor (readVerdict b counts lapses premiums claims) (fieldList b offset) entry
       → take (records b) exit ≡ fieldList b offset
   list-back offset m entry exit all g e =
       rw (e, g) (take-first (fieldList b offset) _ (records b) (sound-size b offset ∙ sym all))

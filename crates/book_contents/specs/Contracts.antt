@@ -3,9 +3,9 @@
 use mathlib.Core.Bool.{cond}
 use Prim.Native.Nat.{ℕ, _<_}
 use mathlib.Core.Path.{_≡_}
-use mathlib.Core.List.{List, _++_}
+use mathlib.Core.List.{List}
 use lib.Dec.{eqb}
-use lib.ListN.{length, getD, take, drop}
+use lib.ListN.{length, getD, take}
 use Rattle.verdict.specs.Verdicts.{refusalOf, placeOf, countOf}
 use Rattle.verdict.specs.declared.Verdict.{Verdict}
 use Rattle.verdict.specs.declared.Verdict.the-variants.{Accepted, Refused}
@@ -20,6 +20,7 @@ use Rattle.book_contents.specs.Contents.{Contents, given}
 use Rattle.book_contents.specs.Written.{bookOf}
 use Rattle.book_contents.specs.Limits.{checkContents}
 use Rattle.book_contents.specs.Reading.{valuesOf, fieldList, contentsOf, checkRead, noValues, InOrder}
+use Rattle.buffer.specs.Replies.{bufferFor}
 
 -- The paper's values of a reply to writing: the refusal's number and place, 0 and 0 where written; the length, 0 where
 -- refused.
@@ -40,11 +41,6 @@ abbrev pub writeReplyFor : Verdict → ℕ → WriteReply
 writeReplyFor (Accepted m) size = Written size
 writeReplyFor (Refused number place) size = WriteRefused number place
 
--- the caller's buffer afterwards: what was asked for and then its numbers as they were, or, where refused, as it was
-abbrev pub leftFor : Verdict → List ℕ → List ℕ → List ℕ
-leftFor (Accepted m) l entry = l ++ drop (length l) entry
-leftFor (Refused number place) l entry = entry
-
 unfoldable pub writeReply : Contents → ℕ → WriteReply
 writeReply v capacity = writeReplyFor (checkContents v capacity) (length (bookOf v))
 
@@ -59,7 +55,7 @@ pub record WriteContract (v : Contents) (entry exit : List ℕ) (r : WriteReply)
   pub refusal-is : writeRefusal r ≡ refusalOf (checkContents v (length entry))
   pub place-is : writePlace r ≡ placeOf (checkContents v (length entry))
   pub length-is : writeLength r ≡ cond (eqb (writeRefusal r) 0) (length (bookOf v)) 0
-  pub bytes-are : exit ≡ leftFor (checkContents v (length entry)) (bookOf v) entry
+  pub bytes-are : exit ≡ bufferFor (checkContents v (length entry)) (bookOf v) entry
   -- what was written is accepted by the check, with n the number of counts that are not 0
   pub accepted : writeRefusal r ≡ 0 → let w = checkBook 1 (take (writeLength r) exit) in
       (refusalOf w ≡ 0) × (countOf w ≡ notZero (v .counts))
@@ -83,11 +79,11 @@ readVerdict b counts lapses premiums claims =
 pub record ReadContract (b counts lapses premiums claims counts′ lapses′ premiums′ claims′ : List ℕ)
     (r : ReadReply) : Type 0 where
   pub reply-is : r ≡ readFor (readVerdict b counts lapses premiums claims) (valuesOf b)
-  pub counts-are : counts′ ≡ leftFor (readVerdict b counts lapses premiums claims) (fieldList b countOffset) counts
-  pub lapses-are : lapses′ ≡ leftFor (readVerdict b counts lapses premiums claims) (fieldList b lapseOffset) lapses
-  pub premiums-are : premiums′ ≡ leftFor (readVerdict b counts lapses premiums claims) (fieldList b premiumOffset)
+  pub counts-are : counts′ ≡ bufferFor (readVerdict b counts lapses premiums claims) (fieldList b countOffset) counts
+  pub lapses-are : lapses′ ≡ bufferFor (readVerdict b counts lapses premiums claims) (fieldList b lapseOffset) lapses
+  pub premiums-are : premiums′ ≡ bufferFor (readVerdict b counts lapses premiums claims) (fieldList b premiumOffset)
       premiums
-  pub claims-are : claims′ ≡ leftFor (readVerdict b counts lapses premiums claims) (fieldList b claimsOffset) claims
+  pub claims-are : claims′ ≡ bufferFor (readVerdict b counts lapses premiums claims) (fieldList b claimsOffset) claims
   -- a refused book gives its own refusal and place, however long the buffers are
   pub book-first : 0 < refusalOf (checkBook 1 b)
       → (r .refusal ≡ refusalOf (checkBook 1 b)) × (r .place ≡ placeOf (checkBook 1 b))

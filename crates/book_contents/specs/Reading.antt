@@ -1,8 +1,8 @@
 -- The contents of a book: its values and, along its chains, its lists. Records that no chain links are left out.
 use mathlib.Core.Bool.{cond}
-use Prim.Native.Nat.{ℕ, zero, suc, _+_, _-_, _*_, _<_}
+use Prim.Native.Nat.{ℕ, _+_, _-_, _*_, _<_}
 use mathlib.Core.Path.{_≡_}
-use mathlib.Core.List.{List, [], _∷_, _++_}
+use mathlib.Core.List.{List}
 use lib.Dec.{leb, eqb}
 use lib.IntN.{ℤ, pos, negsuc}
 use lib.ListN.{replicate}
@@ -15,13 +15,9 @@ use Rattle.book.specs.Layout.{costPlace, curvePlace, mortalityPlace, countOffse
 use Rattle.book.specs.Layout.{claimsOffset}
 use Rattle.book.specs.Check.{checkBook}
 use Rattle.buffer.specs.Text.{joined}
+use Rattle.lists.specs.Each.{each}
 use Rattle.book_contents.specs.declared.Values.{Values}
 use Rattle.book_contents.specs.Contents.{Contents, noClass, recordsBefore}
-
--- what f gives for 0, 1 and so on, n of them
-unfoldable pub each : {A : Type 0} → (ℕ → A) → ℕ → List A
-each f zero = []
-each f (suc n) = each f n ++ f n ∷ []
 
 -- the signed number that 32 bits hold, in two's complement
 unfoldable pub signedOf : ℕ → ℤ

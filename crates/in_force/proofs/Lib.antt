@@ -1,4 +1,3 @@
 pub mod Records
-pub mod Fifty
 pub mod InForceContract
 pub mod Unlinked

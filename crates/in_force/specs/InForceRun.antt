@@ -1,5 +1,5 @@
 -- One cell on the screen: what is in force of the linked record of a subgroup code, sex and class in the fifty years.
-use Prim.Native.Nat.{ℕ, zero, suc, _+_, _-_, _*_, _<_}
+use Prim.Native.Nat.{ℕ, _+_, _-_, _*_, _<_}
 use mathlib.Core.Path.{_≡_}
 use mathlib.Core.Bool.{not, cond}
 use mathlib.Core.List.{List, [], _∷_, _++_}
@@ -15,6 +15,7 @@ use Rattle.settings.specs.Settings.{decrementsOf}
 use Rattle.valuation.specs.Arithmetic.{rounded}
 use Rattle.valuation.specs.Steps.{inForce}
 use Rattle.valuation.specs.Portfolio.{cellOf, chainLinks}
+use Rattle.lists.specs.Each.{each}
 
 -- the chain of a subgroup code and a sex
 abbrev pub chainOf : ℕ → ℕ → ℕ
@@ -44,14 +45,9 @@ inForceCheck b setting code sex class numbers =
     checkBook 1 b andThen
     need (not (eqb (recordAtClass b code sex class) 0)) 26 0
 
--- what f gives for 0, 1 and so on, j of them
-unfoldable pub firstYears : (ℕ → ℕ) → ℕ → List ℕ
-firstYears f zero = []
-firstYears f (suc j) = firstYears f j ++ (f j ∷ [])
-
 -- step 1 for the cell of record i in a setting, in billionths of a contract: k = 0 to 49
 unfoldable pub inForceRun : List ℕ → ℕ → ℕ → List ℕ
-inForceRun b setting i = firstYears (inForce rounded (cellOf b (decrementsOf b setting) i)) 50
+inForceRun b setting i = each (inForce rounded (cellOf b (decrementsOf b setting) i)) 50
 
 -- the caller's numbers afterwards: those of the fifty years, then what stood there; as they were where refused
 abbrev pub numbersFor : Verdict → List ℕ → List ℕ → List ℕ

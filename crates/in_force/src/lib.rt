@@ -10,8 +10,9 @@ ghost use Rattle.cell.specs.States.{Ready, nextBy};
 ghost use Rattle.valuation.specs.Arithmetic.{rounded};
 ghost use Rattle.valuation.specs.Steps.{inForce};
 ghost use Rattle.valuation.specs.Portfolio.{cellOf, chainLinks};
-ghost use Rattle.in_force.specs.InForceRun.{chainOf, ofClass, askedCheck, firstYears};
+ghost use Rattle.in_force.specs.InForceRun.{chainOf, ofClass, askedCheck};
 ghost use Rattle.in_force.specs.InForceRun.{InForceContract};
+ghost use Rattle.lists.specs.Each.{each};
 use cell::Cell;
 use rate_table::COLUMNS;
 use rate_table::ROWS;
@@ -90,7 +91,7 @@ fn run(book: &[u8], setting: usize, chain: usize, i: usize, out: &mut [u64])
         × (chain < 14)
         × Standing (now book) 120 chain i
         × (50 ≤ length (now out)) ⌝ }
-    ensures { λ _. ⌜ now (out .exit) ≡ firstYears
+    ensures { λ _. ⌜ now (out .exit) ≡ each
         (inForce rounded (cellOf (now (book .entry)) (decrementsOf (now (book .entry)) setting) i))
         50 ++ drop 50 (now (out .entry)) ⌝ }
 {

@@ -16,10 +16,9 @@ use Rattle.buffer.proofs.Digits.{le-or-lt}
 use Rattle.book_contents.specs.declared.WriteReply.{WriteReply}
 use Rattle.book_contents.specs.Contents.{Contents, given, sizeOf, recordsBefore}
 use Rattle.book_contents.specs.Written.{bookSize}
-use Rattle.book_contents.specs.Reading.{each}
 use Rattle.book_contents.specs.Limits.{Fit, curveRate}
 use Rattle.book_contents.specs.Contracts.{notZero, WriteContract}
-use Rattle.book_contents.proofs.Stands.{each-length, each-all}
+use Rattle.book_contents.proofs.Stands.{each-all}
 use Rattle.book_contents.proofs.Accepted.{fit-accepted}
 use Rattle.book_contents.proofs.Laid.{book-length}
 use Rattle.generator.specs.declared.GeneratorState.{GeneratorState}
@@ -28,6 +27,8 @@ use Rattle.generator.proofs.DrawSequence.{after-after}
 use Rattle.practice_book.specs.Practice.{drawnNumber, drawnRate, recordDraw, drawnValues, drawnContents}
 use Rattle.practice_book.specs.Practice.{practiceContents, practiceBook, practiceSize}
 use Rattle.practice_book.proofs.DrawnLists.{later-run}
+use Rattle.lists.specs.Each.{each}
+use Rattle.lists.proofs.Each.{each-length}
 
 number-most : (span draw : ℕ) → drawnNumber span draw ≤ span
 unfolding drawnNumber

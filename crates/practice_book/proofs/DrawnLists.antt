@@ -1,14 +1,14 @@
 -- Draws one after the other, put into lists from their start on. Assumes nothing.
 use mathlib.Core.Path.{_≡_, refl, sym, ap, _∙_}
 use mathlib.Core.List.{List}
-use Prim.Native.Nat.{ℕ, zero, suc, _+_, _<_}
+use Prim.Native.Nat.{ℕ, _+_, _<_}
 use native.Mathlib.Omega.{arith}
 use lib.ListN.{length, take, set, length-set}
-use Rattle.book_contents.specs.Reading.{each}
-use Rattle.book_contents.proofs.Projection.{each-set, each-done}
 use Rattle.generator.specs.declared.GeneratorState.{GeneratorState}
 use Rattle.generator.specs.Draws.{step, drawOf, stateAfter, drawAt}
 use Rattle.generator.proofs.DrawSequence.{after-more, draw-later}
+use Rattle.lists.specs.Each.{each}
+use Rattle.lists.proofs.Each.{each-set, each-done, each-same}
 
 -- words that are n draws on: their next draw, and the words after it
 module _ (w : GeneratorState) {words : GeneratorState} (n : ℕ) (e : words ≡ stateAfter w n) where
@@ -40,16 +40,10 @@ module _ {A : Type 0} (f : ℕ → A) {n : ℕ} where
   pub filled-all : {l : List A} {j : ℕ} → j ≡ n → Filled f n l j → l ≡ each f n
   filled-all {l} {j} e so = each-done f l n (so .size) (rw e at (so .done))
 
--- what f and g give alike
-pub each-same : {A : Type 0} (f g : ℕ → A) (n : ℕ) → ((j : ℕ) → f j ≡ g j) → each f n ≡ each g n
-unfolding each
-each-same f g zero h = refl
-each-same f g (suc n) h = rw (each-same f g n h, h n)
-
 -- a run of draws from words that are a draws on
 pub later-run : {A : Type 0} (g : ℕ → A) (w : GeneratorState) {words : GeneratorState} (a n : ℕ) (f h : ℕ → ℕ)
     → words ≡ stateAfter w a
     → ((i : ℕ) → a + f i ≡ h i) → each (λ (i : ℕ). g (drawAt words (f i))) n ≡ each (λ (i : ℕ). g (drawAt w (h i))) n
 later-run g w a n f h e s =
     each-same _ _ n
-    (λ i. ap g (ap (λ (v : GeneratorState). drawAt v (f i)) e ∙ draw-later w a (f i) ∙ ap (drawAt w) (s i)))
+    (λ i _. ap g (ap (λ (v : GeneratorState). drawAt v (f i)) e ∙ draw-later w a (f i) ∙ ap (drawAt w) (s i)))

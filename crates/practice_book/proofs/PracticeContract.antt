@@ -13,13 +13,14 @@ use Rattle.verdict.specs.declared.Verdict.the-variants.{Accepted, Refused}
 use Rattle.verdict.proofs.Verdicts.{need-true, then-left, ZeroAccepts, zero-accepts-need, zero-accepts-then}
 use Rattle.book_contents.specs.declared.WriteReply.{WriteReply}
 use Rattle.book_contents.specs.Written.{bookSize}
-use Rattle.book_contents.specs.Contracts.{writeRefusal, writeLength, writeReplyFor, leftFor, writeReply, WriteContract}
+use Rattle.book_contents.specs.Contracts.{writeRefusal, writeLength, writeReplyFor, writeReply, WriteContract}
 use Rattle.book_contents.proofs.Fit.{fit-good}
 use Rattle.generator.specs.Draws.{seeded}
 use Rattle.practice_book.specs.Practice.{practiceContents, practiceBook, practiceSize, checkPractice}
 use Rattle.practice_book.specs.Practice.{practiceReply}
 use Rattle.practice_book.specs.Practice.{PracticeContract}
 use Rattle.practice_book.proofs.Drawn.{drawn-fit, drawn-size, practice-accepted, practice-length}
+use Rattle.buffer.specs.Replies.{bufferFor}
 
 -- refusal 0 is acceptance, of this call too
 practice-told : (start capacity : ℕ) → ZeroAccepts (checkPractice start capacity)
@@ -34,11 +35,11 @@ zero-accepts-reply (Refused q p) n told e = let z : _≡_ {A = ℕ} 0 1 = cc (to
 
 -- what was asked for stands at the start of the caller's buffer
 front-is : (v : Verdict) (m : ℕ) (l entry : List ℕ) (n : ℕ) → v ≡ Accepted m → length l ≡ n
-    → take n (leftFor v l entry) ≡ l
+    → take n (bufferFor v l entry) ≡ l
 front-is v m l entry n e size = rw e (take-at l (drop (length l) entry) n size)
 
 module _ (start : ℕ) (entry exit : List ℕ) (r : WriteReply) (reply-is : r ≡ practiceReply start (length entry))
-    (bytes-are : exit ≡ leftFor (checkPractice start (length entry)) (practiceBook start) entry) where
+    (bytes-are : exit ≡ bufferFor (checkPractice start (length entry)) (practiceBook start) entry) where
   -- without a refusal the book stands in the buffer
   written : writeRefusal r ≡ 0 → (writeLength r ≡ practiceSize) × (take practiceSize exit ≡ practiceBook start)
   unfolding practiceReply

@@ -13,10 +13,11 @@ use Rattle.book_contents.specs.declared.Values.{Values}
 use Rattle.book_contents.specs.declared.WriteReply.{WriteReply}
 use Rattle.book_contents.specs.Contents.{Contents, given}
 use Rattle.book_contents.specs.Written.{bookOf}
-use Rattle.book_contents.specs.Reading.{each}
-use Rattle.book_contents.specs.Contracts.{writeRefusal, writeLength, writeReplyFor, leftFor, notZero}
+use Rattle.book_contents.specs.Contracts.{writeRefusal, writeLength, writeReplyFor, notZero}
 use Rattle.generator.specs.declared.GeneratorState.{GeneratorState}
 use Rattle.generator.specs.Draws.{drawAt, seeded}
+use Rattle.lists.specs.Each.{each}
+use Rattle.buffer.specs.Replies.{bufferFor}
 
 -- A field out of a draw is the remainder by one more than its span, plus its lowest value: 0, and of a curve rate
 -- curveLift below 0.
@@ -84,7 +85,7 @@ practiceReply start capacity = writeReplyFor (checkPractice start capacity) prac
 -- proofs/Promised).
 pub record PracticeContract (start : ℕ) (entry exit : List ℕ) (r : WriteReply) : Type 0 where
   pub reply-is : r ≡ practiceReply start (length entry)
-  pub bytes-are : exit ≡ leftFor (checkPractice start (length entry)) (practiceBook start) entry
+  pub bytes-are : exit ≡ bufferFor (checkPractice start (length entry)) (practiceBook start) entry
   -- what was written is accepted by the check, with n the number of counts that are not 0
   pub accepted : writeRefusal r ≡ 0 → let v = checkBook 1 (take (writeLength r) exit) in
       (refusalOf v ≡ 0) × (countOf v ≡ notZero (practiceContents start .counts))

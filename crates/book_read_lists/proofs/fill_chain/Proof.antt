@@ -8,10 +8,11 @@ use Rattle.book.specs.Layout.{fieldOf, nextOf, linkFrom, linkAt}
 use Rattle.buffer.specs.Text.{Wrote}
 use Rattle.buffer.proofs.Digits.{nothing, kept}
 use Rattle.book_contents.specs.Contents.{noClass}
-use Rattle.book_contents.specs.Reading.{each, firstIn, listIn}
+use Rattle.book_contents.specs.Reading.{firstIn, listIn}
 use Rattle.book_contents.proofs.Projection.{sound-long, sound-inside, sound-next, each-wrote}
 use Rattle.book_read_lists.proofs.fill_chain.Statement.{statement}
 use Rattle.book_read_lists.proofs.fill_chain.Tie as tie
+use Rattle.lists.specs.Each.{each}
 
 abbrev Inv-loop : tie.InvT-loop
 Inv-loop book k offset list₀ at size i₀ next₀ counter₀ list i next counter =

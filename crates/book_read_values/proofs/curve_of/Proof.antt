@@ -7,10 +7,11 @@ use lib.ListN.{length, take, length-set}
 use mir.Syntax.{w64}
 use mir.ValLaws.{toZ-ofZ}
 use Rattle.le_bytes.specs.Bytes.{readU32}
-use Rattle.book_contents.specs.Reading.{each, signedOf}
-use Rattle.book_contents.proofs.Projection.{each-set, each-done}
+use Rattle.book_contents.specs.Reading.{signedOf}
 use Rattle.book_read_values.proofs.curve_of.Statement.{statement}
 use Rattle.book_read_values.proofs.curve_of.Tie as tie
+use Rattle.lists.specs.Each.{each}
+use Rattle.lists.proofs.Each.{each-set, each-done}
 
 abbrev Inv-loop : tie.InvT-loop
 Inv-loop book curve₀ j₀ curve j =

@@ -5,10 +5,10 @@ use Prim.Native.Nat.{ℕ, _+_, _-_, _*_, _≤_, _<_}
 use native.Mathlib.Omega.{arith}
 use lib.ListN.{length, take, length-set}
 use Rattle.le_bytes.specs.Bytes.{readU32}
-use Rattle.book_contents.specs.Reading.{each}
-use Rattle.book_contents.proofs.Projection.{each-set, each-done}
 use Rattle.book_read_values.proofs.fill_fields.Statement.{statement}
 use Rattle.book_read_values.proofs.fill_fields.Tie as tie
+use Rattle.lists.specs.Each.{each}
+use Rattle.lists.proofs.Each.{each-set, each-done}
 
 abbrev Inv-loop : tie.InvT-loop
 Inv-loop book at list₀ j₀ list j =

@@ -5,10 +5,11 @@ use mathlib.Core.Path.{_≡_, refl, ap, _∙_}
 use Prim.Native.Nat.{_-_, _≤_, _<_}
 use native.Mathlib.Omega.{arith}
 use lib.ListN.{length, take, length-set}
-use Rattle.book_contents.specs.Reading.{each, firstIn, firstsOf}
-use Rattle.book_contents.proofs.Projection.{each-set, each-done}
+use Rattle.book_contents.specs.Reading.{firstIn, firstsOf}
 use Rattle.book_read_values.proofs.firsts_of.Statement.{statement}
 use Rattle.book_read_values.proofs.firsts_of.Tie as tie
+use Rattle.lists.specs.Each.{each}
+use Rattle.lists.proofs.Each.{each-set, each-done}
 
 abbrev Inv-loop : tie.InvT-loop
 Inv-loop book first₀ k₀ first k = (k ≤ 14) × (length first ≡ 14) × (take k first ≡ each (firstIn book) k)

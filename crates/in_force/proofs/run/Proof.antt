@@ -13,8 +13,8 @@ use Rattle.cell.specs.declared.Cell.{Cell}
 use Rattle.cell.specs.States.{cellIn, stateIn, Projectable}
 use Rattle.cell.proofs.Cells.{state-ready, state-start, state-next, inforce-is, held-low, next-held}
 use Rattle.cell.proofs.Agreement.{projectable, inforce-same}
-use Rattle.in_force.specs.InForceRun.{firstYears}
-use Rattle.in_force.proofs.Fifty.{years-length, years-more, years-same}
+use Rattle.lists.specs.Each.{each}
+use Rattle.lists.proofs.Each.{each-behind-length, each-behind-more, each-same}
 use Rattle.in_force.proofs.run.Statement.{statement}
 use Rattle.in_force.proofs.run.Tie as tie
 
@@ -22,7 +22,7 @@ abbrev Inv-loop : tie.InvT-loop
 Inv-loop book setting chain i out₀ columns rows cell₀ k₀ out cell k =
     (k ≤ 50) × Projectable rows 0 (fieldOf book i countOffset)
     × (cell ≡ stateIn rows 0 (fieldOf book i countOffset) setting k)
-    × (out ≡ firstYears (inForce rounded (cellIn rows 0 (fieldOf book i countOffset) setting)) k ++ drop k out₀)
+    × (out ≡ each (inForce rounded (cellIn rows 0 (fieldOf book i countOffset) setting)) k ++ drop k out₀)
 
 abbrev μ-loop : tie.MeasureT-loop
 μ-loop book setting chain i out₀ columns rows cell₀ k₀ out cell k = 50 - k
@@ -48,7 +48,7 @@ new-requires-3 c κs =
     omega (arith, c .field-of .ensures .0, c .before .before .before .before .before .before .before .pre .3 .0 .count)
 
 loop-holds : tie.Need-loop-holds Inv-loop μ-loop
-unfolding firstYears rowAt
+unfolding each rowAt
 loop-holds c =
     let a = c .before .before .before .before .before .before .before .before in
     let g = a .args in
@@ -73,7 +73,7 @@ year-later-requires c κs =
 kept : (m : tie.At-loop Inv-loop μ-loop)
     → length (m .loop .out) ≡ length
     (m .before .before .before .before .before .before .before .before .before .args .out .now)
-kept m = years-length _ (m .loop .k) _ (m .loop .out) (omega arith) (m .loop .inv .3)
+kept m = each-behind-length _ (m .loop .k) _ (m .loop .out) (omega arith) (m .loop .inv .3)
 
 mul-out : tie.Need-mul-out Inv-loop μ-loop
 mul-out c = omega (arith, kept (c .before .before .before))
@@ -91,7 +91,7 @@ loop-again c =
           (m .before .before .before .before .before .before .new .ensures)
           (m .before .before .before .read-rows .last .1 .1 .1 .1 .0) (l .cell) _ (c .year-later .ensures) ∙ rw
           (l .inv .2) (state-next _ _ _ _ (l .k)),
-      years-more _ (l .k) _ (l .out) _ _
+      each-behind-more _ (l .k) _ (l .out) _ _
           (omega (
             arith,
             m .before .before .before .before .before .before .before .before .before .pre .4,
@@ -115,7 +115,7 @@ returns c =
     let same = inforce-same (g .book .now) (g .chain) (g .i) (a .pre .3) _
     (m .before .before .before .read-rows .ensures) 0 (omega arith) (g .setting) (a .pre .0) in
     (rw e at (l .inv .3)) ∙ ap (λ (x : List ℕ). x ++ drop 50 (g .out .now))
-    (years-same _ _ 50 (λ k h. same k (omega arith)))
+    (each-same _ _ 50 (λ k h. same k (omega arith)))
 
 pub run-spec : {M : Type 1} → statement M
 run-spec =
