@@ -17,7 +17,7 @@ use Rattle.cell.specs.declared.Cell.{Cell}
 use Rattle.cell.specs.States.{cellIn, stateIn, nextYear, Ready, Projectable}
 use Rattle.cell.proofs.Cells.{state-ready, state-next, inforce-is, premium-is, claims-is, premium-by-le, claims-by-le}
 use Rattle.cell_projection.specs.Tables.{amountBy, added, sumWithin, chosen, Among, twoMore, AtMost, yearMore}
-use Rattle.cell_projection.specs.Projected.{ReachedIn, ProjectedIn}
+use Rattle.cell_projection.specs.Projected.{ReachedIn, StoppedIn, ProjectedIn}
 use Rattle.cell_projection.proofs.Years.{two-added, added-rest, added-same, added-join, added-most}
 use Rattle.cell_projection.proofs.Years.{amount-premium, amount-claims, amount-each}
 use Rattle.cell_projection.proofs.Ends.{going-on, going-ends, going-out, nothing-later, no-premium, no-claims}
@@ -54,20 +54,20 @@ module _ (f : ℕ → ℕ) (s m k j : ℕ) where
       by true false true = h
       by true false false = omega arith
 
-  -- a year more
-  pub within-more : m ≤ k → sumWithin f s m k j + sumWithin f s k (k + 1) j ≡ sumWithin f s m (k + 1) j
+  -- years up to k, and from there on to before l
+  pub within-join : (l : ℕ) → m ≤ k → k ≤ l → sumWithin f s m k j + sumWithin f s k l j ≡ sumWithin f s m l j
   unfolding sumWithin
-  within-more h = by (eqb (j % 10 / 2) s) (ltb (j / 10) m) refl (ltb (j / 10) k) refl (ltb (j / 10) (k + 1)) refl
+  within-join l h g = by (eqb (j % 10 / 2) s) (ltb (j / 10) m) refl (ltb (j / 10) k) refl (ltb (j / 10) l) refl
     where
       by : (own early : Bool) → ltb (j / 10) m ≡ early → (before : Bool) → ltb (j / 10) k ≡ before → (upto : Bool)
-          → ltb (j / 10) (k + 1) ≡ upto
+          → ltb (j / 10) l ≡ upto
           → cond own (cond early 0 (cond before (f j) 0)) 0 + cond own (cond before 0 (cond upto (f j) 0)) 0 ≡ cond own
           (cond early 0 (cond upto (f j) 0)) 0
       by false early e before b upto u = omega arith
       by true true e true b upto u = omega arith
       by true true e false b upto u = absurd (omega (arith, ltb-true (j / 10) m e, ltb-false (j / 10) k b))
       by true false e true b true u = omega arith
-      by true false e true b false u = absurd (omega (arith, ltb-true (j / 10) k b, ltb-false (j / 10) (k + 1) u))
+      by true false e true b false u = absurd (omega (arith, ltb-true (j / 10) k b, ltb-false (j / 10) l u, g))
       by true false e false b upto u = zero-add _
 
 -- all projections or one
@@ -179,50 +179,89 @@ within-capacity t r n s m k u v w e most a j =
           (λ i l. within-le (amountBy (cellIn t r n)) s m k i 1_000_000_000_000 (amount-le t r n w i l)) most u a j,
     )
 
--- What a run over the years from m on keeps in year k: the projection has come there, and the table u has become v.
-abbrev pub RunIn : List ℕ → ℕ → ℕ → ℕ → ℕ → ℕ → Cell → List ℕ → List ℕ → Type 0
-RunIn t r n s m k c u v =
-    (m ≤ k) × (k ≤ 50) × ReachedIn t r n s k c × (v ≡ added (sumWithin (amountBy (cellIn t r n)) s m k) 500 u)
+-- what is in force where a projection has come to
+in-force : (t : List ℕ) (r n s k : ℕ) (c : Cell) → ReachedIn t r n s k c
+    → c .inforce ≡ inForce rounded (cellIn t r n s) k
+in-force t r n s k c reached = ap (λ (x : Cell). x .inforce) (reached .state) ∙ inforce-is t r n s k
 
-module _ (t : List ℕ) (r n s m k : ℕ) (c : Cell) (u v : List ℕ) (run : RunIn t r n s m k c u v) where
-  in-force : c .inforce ≡ inForce rounded (cellIn t r n s) k
-  in-force = ap (λ (x : Cell). x .inforce) (run .2 .state) ∙ inforce-is t r n s k
+-- What a run over the years from m to before `to` keeps in year k: the projection has come there, and the table u has
+-- become v.
+abbrev pub RunIn : List ℕ → ℕ → ℕ → ℕ → ℕ → ℕ → ℕ → Cell → List ℕ → List ℕ → Type 0
+RunIn t r n s m to k c u v =
+    (m ≤ k) × (k ≤ to) × ReachedIn t r n s k c × (v ≡ added (sumWithin (amountBy (cellIn t r n)) s m k) 500 u)
 
+module _ (t : List ℕ) (r n s m to k : ℕ) (c : Cell) (u v : List ℕ) (run : RunIn t r n s m to k c u v) where
   -- the next year can be computed
   pub run-ready : Projectable t r n → k < 50 → Ready t c
   run-ready w h = rw (run .2 .state) (state-ready t r n s w k h)
 
   -- and it is then computed
-  pub run-more : s < 5 → k < 50 → 0 < c .inforce → (c′ : Cell) (v′ : List ℕ) → c′ ≡ nextYear t s k c
-      → v′ ≡ yearMore t s k c v → RunIn t r n s m (k + 1) c′ u v′
-  run-more l h some c′ v′ ec ev = (
-    omega (arith, run .0),
-    omega (arith, h),
-    record {
-      state = ec ∙ rw (run .2 .state) (state-next t r n s k);
-      going = going-on (cellIn t r n s) k h (λ z. omega (arith, some, in-force, z)) (run .2 .going);
-    },
-    added-join (sumWithin (amountBy (cellIn t r n)) s m k) (sumWithin (amountBy (cellIn t r n)) s k (k + 1)) _ 500 u v
-        v′ (run .3)
-        (ev ∙ rw (run .2 .state)
-        (year-added (amountBy (cellIn t r n)) s k l h v _ _
-        (premium-is t r n s k ∙ sym (amount-premium (cellIn t r n) k s l))
-        (claims-is t r n s k ∙ sym (amount-claims (cellIn t r n) k s l))))
-        (λ j a. within-more _ s m k j (run .0)),
-  )
+  pub run-more : s < 5 → k < to → to ≤ 50 → 0 < c .inforce → (c′ : Cell) (v′ : List ℕ) → c′ ≡ nextYear t s k c
+      → v′ ≡ yearMore t s k c v → RunIn t r n s m to (k + 1) c′ u v′
+  run-more l before all some c′ v′ ec ev =
+      let h : k < 50 = omega (arith, before, all) in (
+        omega (arith, run .0),
+        omega (arith, before),
+        record {
+          state = ec ∙ rw (run .2 .state) (state-next t r n s k);
+          going = going-on (cellIn t r n s) k h (λ z. omega (arith, some, in-force t r n s k c (run .2), z)) (run .2 .going);
+        },
+        added-join (sumWithin (amountBy (cellIn t r n)) s m k) (sumWithin (amountBy (cellIn t r n)) s k (k + 1)) _ 500 u v
+            v′ (run .3)
+            (ev ∙ rw (run .2 .state)
+            (year-added (amountBy (cellIn t r n)) s k l h v _ _
+            (premium-is t r n s k ∙ sym (amount-premium (cellIn t r n) k s l))
+            (claims-is t r n s k ∙ sym (amount-claims (cellIn t r n) k s l))))
+            (λ j a. within-join _ s m k j (k + 1) (run .0) (omega arith)),
+      )
 
-  -- where it stops
-  pub run-ended : k < 50 → c .inforce ≤ 0 → ProjectedIn t r n s m k u v
-  run-ended h none-left =
-      let z : inForce rounded (cellIn t r n s) k ≡ 0 = omega (arith, in-force, none-left) in
+  -- it stops at its end, or where nothing is in force
+  pub run-stops : (k < to → c .inforce ≤ 0) → StoppedIn t r n s m to k c u v
+  run-stops none-left = record {
+    since = run .0;
+    most = run .1;
+    reached = run .2;
+    sums = run .3;
+    ended = λ early. omega (arith, none-left early);
+  }
+
+-- where it stops
+module _ (t : List ℕ) (r n s m to k : ℕ) (c : Cell) (u v : List ℕ) (stop : StoppedIn t r n s m to k c u v) where
+  -- before the end nothing is in force: it has no later years
+  pub stopped-early : k < to → to ≤ 50 → ProjectedIn t r n s m k u v
+  stopped-early early all =
+      let z : inForce rounded (cellIn t r n s) k ≡ 0 = sym (in-force t r n s k c (stop .reached)) ∙ stop .ended early in
       record {
-        sums = run .3 ∙ added-same _ _ 500 u (λ j l. within-ended (cellIn t r n) s k z m j l);
-        years-are = going-ends (cellIn t r n s) k h z (run .2 .going);
+        sums = stop .sums ∙ added-same _ _ 500 u (λ j l. within-ended (cellIn t r n) s k z m j l);
+        years-are = going-ends (cellIn t r n s) k (omega (arith, early, all)) z (stop .reached .going);
       }
 
-  pub run-out : k ≡ 50 → ProjectedIn t r n s m k u v
-  run-out e = record {
-    sums = run .3 ∙ ap (λ (x : ℕ). added (sumWithin (amountBy (cellIn t r n)) s m x) 500 u) e;
-    years-are = going-out
-        (cellIn t r n s) k e (run .2 .going);
+  -- at the end it goes on from there: its years are those up to there and those that it then has
+  at-end : to ≤ k → k ≡ to
+  at-end h = omega (arith, stop .most, h)
+
+  pub stopped-at-end : to ≤ k → ReachedIn t r n s to c
+  stopped-at-end h = rw (sym (at-end h)) (stop .reached)
+
+  pub stopped-then : to ≤ k → to ≤ 50 → (years : ℕ) (w : List ℕ) → ProjectedIn t r n s to years v w
+      → ProjectedIn t r n s m years u w
+  stopped-then h all years w rest = record {
+    sums = added-join
+        (sumWithin (amountBy (cellIn t r n)) s m k) (sumWithin (amountBy (cellIn t r n)) s k 50) _ 500 u v w (stop .sums)
+        (rw (at-end h) (rest .sums)) (λ j a. within-join _ s m k j 50 (stop .since) (omega (arith, at-end h, all)));
+    years-are = rest .years-are;
   }
+
+-- a run to the last year
+pub stopped-in-all : (t : List ℕ) (r n s m k : ℕ) (c : Cell) (u v : List ℕ) → StoppedIn t r n s m 50 k c u v
+    → ProjectedIn t r n s m k u v
+stopped-in-all t r n s m k c u v stop = by (ltb k 50) refl
+  where
+    by : (early : Bool) → ltb k 50 ≡ early → ProjectedIn t r n s m k u v
+    by true e = stopped-early t r n s m 50 k c u v stop (ltb-true _ _ e) (omega arith)
+    by false e =
+        let last : k ≡ 50 = omega (arith, ltb-false k 50 e, stop .most) in
+        record {
+          sums = stop .sums ∙ ap (λ (x : ℕ). added (sumWithin (amountBy (cellIn t r n)) s m x) 500 u) last;
+          years-are = going-out (cellIn t r n s) k last (stop .reached .going);
+        }

@@ -7,7 +7,7 @@ ghost use lib.ListN.{getD, set};
 ghost use Rattle.settings.specs.Settings.{columnsOf};
 ghost use Rattle.cell.specs.States.{premiumIn, claimsIn, nextYear, Ready, Projectable};
 ghost use Rattle.cell_projection.specs.Tables.{AtMost, twoMore};
-ghost use Rattle.cell_projection.specs.Projected.{ReachedIn, ProjectedIn};
+ghost use Rattle.cell_projection.specs.Projected.{ReachedIn, StoppedIn, ProjectedIn};
 use cell::Cell;
 use rate_table::RateTable;
 use settings::Columns;
@@ -16,6 +16,9 @@ use settings::Columns;
 pub const YEARS: usize = 50;
 
 pub const A_YEAR: usize = 10;
+
+// In these the weights of the first years hold, and in all later ones the others.
+pub const FIRST_YEARS: usize = 5;
 
 pub type YearSums = [u64; YEARS * A_YEAR];
 
@@ -30,6 +33,13 @@ pub struct ModelPoint {
 pub struct CellInYear {
     pub k: usize,
     pub cell: Cell,
+}
+
+// Years of a projection: from one to before another, and the state in the first.
+struct Stretch {
+    from: usize,
+    to: usize,
+    cell: Cell,
 }
 
 // Adds x to number j of the table.
@@ -67,6 +77,36 @@ pub fn one_year(
     cell.next_year(rows, columns, k)
 }
 
+// The years of a stretch of one projection of a model point, until nothing is in force. Returns
+// where it stops.
+fn project_stretch(
+    rows: &RateTable,
+    point: ModelPoint,
+    columns: Columns,
+    setting: usize,
+    stretch: Stretch,
+    sums: &mut YearSums,
+) -> CellInYear
+    requires { ⌜ Projectable (now rows) (point .row) (point .count)
+        × (setting < 5)
+        × (stretch .from ≤ stretch .to)
+        × (stretch .to ≤ 50)
+        × ReachedIn (now rows) (point .row) (point .count) setting (stretch .from) (stretch .cell)
+        × AtMost 3000000000000000 (now sums)
+        × (columns ≡ columnsOf setting) ⌝ }
+    ensures { λ r. ⌜ StoppedIn (now (rows .entry)) (point .row) (point .count) setting
+        (stretch .from) (stretch .to) (r .k) (r .cell) (now (sums .entry)) (now (sums .exit)) ⌝ }
+{
+    let to = stretch.to;
+    let mut cell = stretch.cell;
+    let mut k = stretch.from;
+    while k < to && 0 < cell.inforce {
+        cell = one_year(rows, cell, columns, setting, k, sums);
+        k += 1;
+    }
+    CellInYear { k, cell }
+}
+
 // The years of one projection of a model point, from the start on until nothing is in force.
 // Returns how many years the projection has in all.
 pub fn alone(
@@ -87,16 +127,17 @@ pub fn alone(
         ⌜ ProjectedIn (now (rows .entry)) (point .row) (point .count) setting (start .k) years
         (now (sums .entry)) (now (sums .exit)) ⌝ }
 {
-    let mut cell = start.cell;
-    let mut k = start.k;
-    while k < YEARS && 0 < cell.inforce {
-        cell = one_year(rows, cell, columns, setting, k, sums);
-        k += 1;
-    }
-    k
+    let cell = start.cell;
+    let stretch = Stretch {
+        from: start.k,
+        to: YEARS,
+        cell,
+    };
+    project_stretch(rows, point, columns, setting, stretch, sums).k
 }
 
-// A model point in one projection.
+// A model point in one projection. The first years have a loop of their own: in the later ones one
+// set of weights holds.
 pub fn project_in(
     rows: &RateTable,
     point: ModelPoint,
@@ -113,12 +154,19 @@ pub fn project_in(
         (now (sums .entry)) (now (sums .exit)) ⌝ }
 {
     let cell = Cell::new(point.row, point.count);
-    alone(
-        rows,
-        point,
-        columns,
-        setting,
-        CellInYear { k: 0, cell },
-        sums,
-    )
+    let first = Stretch {
+        from: 0,
+        to: FIRST_YEARS,
+        cell,
+    };
+    let stop = project_stretch(rows, point, columns, setting, first, sums);
+    if stop.k < FIRST_YEARS {
+        return stop.k;
+    }
+    let cell = stop.cell;
+    let later = CellInYear {
+        k: FIRST_YEARS,
+        cell,
+    };
+    alone(rows, point, columns, setting, later, sums)
 }

@@ -12,6 +12,7 @@ ghost use Rattle.five_projections.specs.Five.{fiveTimesMore, LeastInForc
 ghost use Rattle.five_projections.specs.SideBySide.{Reached, ProjectedTo, Projected};
 use cell::Cell;
 use cell_projection::CellInYear;
+use cell_projection::FIRST_YEARS;
 use cell_projection::ModelPoint;
 use cell_projection::YEARS;
 use cell_projection::YearSums;
@@ -186,9 +187,9 @@ fn side_by_side(rows: &RateTable, point: ModelPoint, sums: &mut YearSums) -> Sto
         return Stop { k: 0, cells: start };
     }
     let next = year_0(rows, point, sums);
-    let mut stop = together(rows, point, next, 1, 5, sums);
-    if stop.k == 5 {
-        stop = together(rows, point, stop.cells, 5, YEARS, sums);
+    let mut stop = together(rows, point, next, 1, FIRST_YEARS, sums);
+    if stop.k == FIRST_YEARS {
+        stop = together(rows, point, stop.cells, FIRST_YEARS, YEARS, sums);
     }
     stop
 }
