@@ -377,12 +377,10 @@ impl Columns {
         }
     }
 
-    // Whether these are the columns of a setting.
-    fn are_of(self, setting: usize) -> bool
-        requires { ⌜ setting < 8 ⌝ }
-        ensures { λ r. ⌜ r ≡ sameColumns self (columnsOf setting) ⌝ }
+    // Whether these are the same columns as others.
+    fn same_as(self, other: Columns) -> bool
+        ensures { λ r. ⌜ r ≡ sameColumns self other ⌝ }
     {
-        let other = Columns::new(setting);
         (self.firstlives == other.firstlives)
             & (self.firststays == other.firststays)
             & (self.laterlives == other.laterlives)
@@ -419,23 +417,23 @@ impl FiveColumns {
 }
 
 // Of the five projections, those of the settings 0 to 4, the one that serves a setting: it has the
-// setting's columns.
+// setting's columns. Those of the five are constants, made at no cost.
 pub fn projection_of(setting: usize) -> usize
     requires { ⌜ setting < 8 ⌝ }
     ensures { λ r. ⌜ (r ≡ projectionOf setting)
         × (r < 5) ⌝ }
 {
     let own = Columns::new(setting);
-    if own.are_of(0) {
+    if own.same_as(Columns::new(0)) {
         return 0;
     }
-    if own.are_of(1) {
+    if own.same_as(Columns::new(1)) {
         return 1;
     }
-    if own.are_of(2) {
+    if own.same_as(Columns::new(2)) {
         return 2;
     }
-    if own.are_of(3) { 3 } else { 4 }
+    if own.same_as(Columns::new(3)) { 3 } else { 4 }
 }
 
 // A setting as the years of a group are valued in it: its number, the projection that serves it,

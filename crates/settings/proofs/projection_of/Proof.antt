@@ -10,27 +10,25 @@ use Rattle.settings.proofs.projection_of.Statement.{statement}
 use Rattle.settings.proofs.projection_of.Tie as tie
 
 -- a test, read as one on the setting's columns
-read : (s p : ℕ) (own : Columns) (r t : Bool) → own ≡ columnsOf s → r ≡ sameColumns own (columnsOf p) → r ≡ t
-    → sameColumns (columnsOf s) (columnsOf p) ≡ t
-read s p own r t e er et = rw e at (sym er) ∙ et
+read : (s p : ℕ) (own other : Columns) (r t : Bool) → own ≡ columnsOf s → other ≡ columnsOf p → r ≡ sameColumns own other
+    → r ≡ t → sameColumns (columnsOf s) (columnsOf p) ≡ t
+read s p own other r t e eo er et = rw (e, eo) at (sym er) ∙ et
 
-first : (m : tie.After-are-of) (t : Bool) → m .are-of .result ≡ t
-    → sameColumns (columnsOf (m .before .before .args .setting)) (columnsOf 0) ≡ t
-first m t e = read _ 0 _ _ t (m .before .new .ensures) (m .are-of .ensures) e
+first : (m : tie.After-same-as) (t : Bool) → m .same-as .result ≡ t
+    → sameColumns (columnsOf (m .before .before .before .args .setting)) (columnsOf 0) ≡ t
+first m t e = read _ 0 _ _ _ t (m .before .before .new .ensures) (m .before .new2 .ensures) (m .same-as .ensures) e
 
-second : (m : tie.After-are-of2) (t : Bool) → m .are-of2 .result ≡ t
-    → sameColumns (columnsOf (m .before .before .before .before .args .setting)) (columnsOf 1) ≡ t
-second m t e = read _ 1 _ _ t (m .before .before .before .new .ensures) (m .are-of2 .ensures) e
+second : (m : tie.After-same-as2) (t : Bool) → m .same-as2 .result ≡ t
+    → sameColumns (columnsOf (m .before .before .before .before .before .before .args .setting)) (columnsOf 1) ≡ t
+second m t e = read _ 1 _ _ _ t (m .before .before .before .before .before .new .ensures) (m .before .new3 .ensures) (m .same-as2 .ensures) e
 
-third : (m : tie.After-are-of3) (t : Bool) → m .are-of3 .result ≡ t
-    → sameColumns (columnsOf (m .before .before .before .before .before .before .args .setting)) (columnsOf 2) ≡ t
-third m t e = read _ 2 _ _ t (m .before .before .before .before .before .new .ensures) (m .are-of3 .ensures) e
+third : (m : tie.After-same-as3) (t : Bool) → m .same-as3 .result ≡ t
+    → sameColumns (columnsOf (m .before .before .before .before .before .before .before .before .before .args .setting)) (columnsOf 2) ≡ t
+third m t e = read _ 2 _ _ _ t (m .before .before .before .before .before .before .before .before .new .ensures) (m .before .new4 .ensures) (m .same-as3 .ensures) e
 
-fourth : (m : tie.After-are-of4) (t : Bool) → m .are-of4 .result ≡ t
-    → sameColumns (columnsOf (m .before .before .before .before .before .before .before .before .args .setting))
-    (columnsOf 3) ≡ t
-fourth m t e = read _ 3 _ _ t (m .before .before .before .before .before .before .before .new .ensures)
-    (m .are-of4 .ensures) e
+fourth : (m : tie.After-same-as4) (t : Bool) → m .same-as4 .result ≡ t
+    → sameColumns (columnsOf (m .before .before .before .before .before .before .before .before .before .before .before .before .args .setting)) (columnsOf 3) ≡ t
+fourth m t e = read _ 3 _ _ _ t (m .before .before .before .before .before .before .before .before .before .before .before .new .ensures) (m .before .new5 .ensures) (m .same-as4 .ensures) e
 
 returns : tie.Need-returns
 unfolding projectionOf
@@ -40,56 +38,38 @@ returns-2 : tie.Need-returns-2
 unfolding projectionOf
 returns-2 c =
     let m = c .before in
-    (rw (first (m .before .before) false (m .before .if1 .left), second m true (c .if2 .taken)), omega arith)
+    let n = m .before .before in
+    (rw (first (n .before) false (n .if1 .left), second m true (c .if2 .taken)), omega arith)
 
 returns-3 : tie.Need-returns-3
 unfolding projectionOf
 returns-3 c =
     let m = c .before in
-    let n = m .before .before in (
-      rw (
-        first (n .before .before) false (n .before .if1 .left),
-        second n false (m .before .if2 .left),
-        third m true
-            (c .if3 .taken),
-      ),
-      omega arith,
-    )
+    let n = m .before .before in
+    let o = n .before .before .before in
+    (rw (first (o .before) false (o .if1 .left), second (n .before) false (n .if2 .left), third m true (c .if3 .taken)), omega arith)
 
 returns-4 : tie.Need-returns-4
 unfolding projectionOf
 returns-4 c =
     let m = c .before in
     let n = m .before .before in
-    let o = n .before .before in (
-      rw (
-        first (o .before .before) false (o .before .if1 .left),
-        second o false (n .before .if2 .left),
-        third n false
-            (m .before .if3 .left),
-        fourth m true (c .if4 .taken),
-      ),
-      omega arith,
-    )
+    let o = n .before .before .before in
+    let p = o .before .before .before in
+    (rw (first (p .before) false (p .if1 .left), second (o .before) false (o .if2 .left), third (n .before) false (n .if3 .left), fourth m true (c .if4 .taken)), omega arith)
 
 returns-5 : tie.Need-returns-5
 unfolding projectionOf
 returns-5 c =
     let m = c .before in
     let n = m .before .before in
-    let o = n .before .before in (
-      rw (
-        first (o .before .before) false (o .before .if1 .left),
-        second o false (n .before .if2 .left),
-        third n false
-            (m .before .if3 .left),
-        fourth m false (c .if4 .left),
-      ),
-      omega arith,
-    )
+    let o = n .before .before .before in
+    let p = o .before .before .before in
+    (rw (first (p .before) false (p .if1 .left), second (o .before) false (o .if2 .left), third (n .before) false (n .if3 .left), fourth m false (c .if4 .left)), omega arith)
 
 pub projection-of-spec : {M : Type 1} → statement M
 projection-of-spec =
     tie.close
-    (tie.spec (λ c κs. search needs) (λ c κs. search needs) returns (λ c κs. search needs) returns-2
-    (λ c κs. search needs) returns-3 (λ c κs. search needs) returns-4 returns-5)
+    (tie.spec (λ c κs. search needs) (λ c κs. search needs) (λ c κs. search needs) returns (λ c κs. search needs)
+    (λ c κs. search needs) returns-2 (λ c κs. search needs) (λ c κs. search needs) returns-3 (λ c κs. search needs)
+    (λ c κs. search needs) returns-4 returns-5)
