@@ -1,9 +1,9 @@
 -- `cell_projection::alone` meets its contract. The invariant is `RunIn`; the measure is the number of years left.
 -- Assumes nothing.
-use mathlib.Core.Path.{_≡_, refl}
-use Prim.Native.Nat.{ℕ, _-_, _≤_, _<_}
+use Prim.Native.Nat.{ℕ, _-_}
 use native.Mathlib.Omega.{arith}
 use borrow.Author.Tests.{ltb-true, ltb-false}
+use Rattle.lists.proofs.AtMost.{most-higher}
 use Rattle.cell_projection.specs.Projected.{ReachedIn}
 use Rattle.cell_projection.proofs.Single.{RunIn, within-start, within-capacity, run-ready, run-more, run-ended}
 use Rattle.cell_projection.proofs.Single.{run-out}
@@ -38,8 +38,7 @@ one-year-requires c κs =
       run-ready _ _ _ _ _ _ _ _ _ (run m) (a .pre .0) year,
       a .pre .1,
       year,
-      λ j. omega
-          (arith, within-capacity _ _ _ _ _ _ _ _ (a .pre .0) (run m .3) 3000000000000000 (a .pre .4) j),
+      most-higher (within-capacity _ _ _ _ _ _ _ _ (a .pre .0) (run m .3) (a .pre .4)) (omega arith),
       a .pre .5,
     )
 

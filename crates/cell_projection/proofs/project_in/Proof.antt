@@ -1,6 +1,7 @@
 -- `cell_projection::project_in` meets its contract: one projection alone, from year 0 on. Assumes nothing.
 use mathlib.Core.Path.{sym, _∙_}
 use native.Mathlib.Omega.{arith}
+use Rattle.lists.proofs.AtMost.{most-higher}
 use Rattle.cell.proofs.Cells.{state-start}
 use Rattle.cell_projection.proofs.Ends.{going-start}
 use Rattle.cell_projection.proofs.project_in.Statement.{statement}
@@ -14,8 +15,7 @@ alone-requires c κs =
       omega arith,
       record
           { state = c .before .new .ensures ∙ sym (state-start _ _ _ _); going = going-start _ },
-      λ j. omega
-          (arith, a .pre .2 j),
+      most-higher (a .pre .2) (omega arith),
       a .pre .3,
     )
 
