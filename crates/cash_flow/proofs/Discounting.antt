@@ -11,9 +11,10 @@ use lib.ListN.{getD, set}
 use lib.Seq.{getD-set-other}
 use Rattle.arith.specs.Fractions.{IsFraction}
 use Rattle.arith.proofs.Division.{fraction-is}
+use Rattle.lists.specs.AtMost.{AtMost}
 use Rattle.valuation.specs.Arithmetic.{rounded}
 use Rattle.valuation.specs.Steps.{discounted}
-use Rattle.cash_flow.specs.CashFlow.{FirstAtMost, Stepped, Discounted, DiscountedIn}
+use Rattle.cash_flow.specs.CashFlow.{Stepped, Discounted, DiscountedIn}
 
 discounted-none : (d j x : ℕ) → j ≡ 0 → x ≡ discounted rounded d j x
 unfolding discounted
@@ -89,7 +90,7 @@ module _ (divisors : List ℕ) (from : ℕ) (before : List ℕ) where
 
 -- all years at once: for no year, and for one year more
 module _ (divisors : List ℕ) (to : ℕ) (before : List ℕ) where
-  pub in-none : (j : ℕ) → j ≡ 0 → FirstAtMost 4_000_000_000_000_000 to before → DiscountedIn divisors j to before before
+  pub in-none : (j : ℕ) → j ≡ 0 → AtMost 4_000_000_000_000_000 to before → DiscountedIn divisors j to before before
   in-none j e small = record { each = none }
     where
       none : (k : ℕ) → k < to → Discounted (getD divisors k 0) (min j k) (getD before k 0) (getD before k 0)
@@ -98,7 +99,7 @@ module _ (divisors : List ℕ) (to : ℕ) (before : List ℕ) where
           record {
             is = discounted-none (getD divisors k 0) (min j k) (getD before k 0) z;
             most = omega
-                (arith, small k h);
+                (arith, small .each k h);
           }
 
   pub in-more : (j : ℕ) (u v : List ℕ) → 0 < j → j < to → to ≤ 50 → ((k : ℕ) → k < to → 990_000 ≤ getD divisors k 0)
@@ -125,5 +126,5 @@ module _ (divisors : List ℕ) (to : ℕ) (before : List ℕ) where
 
   -- what is discounted leaves space for a further step
   pub capacity : (j : ℕ) (u : List ℕ) → j ≤ 49 → DiscountedIn divisors j to before u
-      → FirstAtMost 10_000_000_000_000_000 to u
-  capacity j u h p k l = omega (arith, p .each k l .most)
+      → AtMost 10_000_000_000_000_000 to u
+  capacity j u h p = record { each = λ k l. omega (arith, p .each k l .most) }

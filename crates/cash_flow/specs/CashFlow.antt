@@ -24,10 +24,6 @@ pub record Divisor (d fraction : ℕ) : Type 0 where
 abbrev pub Divisors : List ℕ → List ℕ → Type 0
 Divisors divisors fractions = (k : ℕ) → k < 50 → Divisor (getD divisors k 0) (getD fractions k 0)
 
--- no amount of a year before `to` is above m
-abbrev pub FirstAtMost : ℕ → ℕ → List ℕ → Type 0
-FirstAtMost m to amounts = (k : ℕ) → k < to → getD amounts k 0 ≤ m
-
 -- a year back in the years from `from` to before `to`, each at its own divisor; the other years stay
 pub record Stepped (divisors : List ℕ) (from to : ℕ) (before after : List ℕ) : Type 0 where
   pub stepped : (k : ℕ) → from ≤ k → k < to → getD after k 0 ≡ getD before k 0 * 1_000_000 / getD divisors k 0

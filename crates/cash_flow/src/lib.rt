@@ -6,12 +6,13 @@ ghost use mathlib.Core.List.{_++_};
 ghost use Prim.Native.Nat.{_+_, _*_, _/_, _<_, _≤_};
 ghost use lib.ListN.{length, getD, set, take, drop};
 ghost use Rattle.book.specs.Reading.{ValidBook};
+ghost use Rattle.lists.specs.AtMost.{AtMost};
 ghost use Rattle.settings.specs.Settings.{OutgoWeighed};
 ghost use Rattle.valuation.specs.Arithmetic.{rounded};
 ghost use Rattle.valuation.specs.Steps.{capped};
 ghost use Rattle.valuation.specs.Portfolio.{costRateOf, divisorOf};
 ghost use Rattle.arith.specs.Fractions.{IsFraction};
-ghost use Rattle.cash_flow.specs.CashFlow.{Divisor, Divisors, FirstAtMost, Stepped};
+ghost use Rattle.cash_flow.specs.CashFlow.{Divisor, Divisors, Stepped};
 ghost use Rattle.cash_flow.specs.CashFlow.{DiscountedIn, outgoOf, fourOf};
 use arith::Two;
 use arith::Weighted;
@@ -114,8 +115,8 @@ fn step_years(
     requires { ⌜ (from ≤ to)
         × (to ≤ 50)
         × Divisors (now divisors) (now fractions)
-        × FirstAtMost 10000000000000000 to (now premium)
-        × FirstAtMost 10000000000000000 to (now outgo) ⌝ }
+        × AtMost 10000000000000000 to (now premium)
+        × AtMost 10000000000000000 to (now outgo) ⌝ }
     ensures { λ _. ⌜ Stepped (now (divisors .entry)) from to (now (premium .entry))
         (now (premium .exit))
         × Stepped (now (divisors .entry)) from to (now (outgo .entry)) (now (outgo .exit)) ⌝ }
@@ -145,8 +146,8 @@ pub fn discount(
     requires { ⌜ (j < to)
         × (to ≤ 50)
         × Divisors (now divisors) (now fractions)
-        × FirstAtMost 4000000000000000 to (now premium)
-        × FirstAtMost 4000000000000000 to (now outgo) ⌝ }
+        × AtMost 4000000000000000 to (now premium)
+        × AtMost 4000000000000000 to (now outgo) ⌝ }
     ensures { λ _. ⌜ DiscountedIn (now (divisors .entry)) j to (now (premium .entry))
         (now (premium .exit))
         × DiscountedIn (now (divisors .entry)) j to (now (outgo .entry)) (now (outgo .exit)) ⌝ }

@@ -3,20 +3,20 @@
 use mathlib.Core.Path.{_≡_, refl, sym, ap, _∙_}
 use mathlib.Core.Bool.{Bool, true, false, cond}
 use mathlib.Core.List.{List}
-use mathlib.Core.Logic.{_⊎_, inl, inr}
+use mathlib.Core.Logic.{inl, inr}
 use Prim.Native.Nat.{ℕ, _+_, _-_, _*_, _/_, _%_, _≤_, _<_}
 use native.Mathlib.Nat.{add-zero, zero-add}
 use native.Mathlib.Omega.{arith}
 use borrow.Author.Tests.{lt-ltb, le-ltb, eq-eqb, ne-eqb, eqb-true, ltb-true, ltb-false}
 use lib.Dec.{eqb, ltb}
-use lib.ListN.{getD}
+use Rattle.lists.specs.AtMost.{AtMost}
 use Rattle.valuation.specs.Arithmetic.{rounded}
 use Rattle.valuation.specs.Steps as steps
 use Rattle.valuation.specs.Steps.{inForce}
 use Rattle.cell.specs.declared.Cell.{Cell}
-use Rattle.cell.specs.States.{cellIn, stateIn, nextYear, Ready, Projectable}
+use Rattle.cell.specs.States.{cellIn, nextYear, Ready, Projectable}
 use Rattle.cell.proofs.Cells.{state-ready, state-next, inforce-is, premium-is, claims-is, premium-by-le, claims-by-le}
-use Rattle.cell_projection.specs.Tables.{amountBy, added, sumWithin, chosen, Among, twoMore, AtMost, yearMore}
+use Rattle.cell_projection.specs.Tables.{amountBy, added, sumWithin, chosen, Among, twoMore, yearMore}
 use Rattle.cell_projection.specs.Projected.{ReachedIn, StoppedIn, ProjectedIn}
 use Rattle.cell_projection.proofs.Years.{two-added, added-rest, added-same, added-join, added-most}
 use Rattle.cell_projection.proofs.Years.{amount-premium, amount-claims, amount-each}
@@ -169,15 +169,11 @@ amount-le t r n w j h =
     (claims-by-le t r n (j % 10 / 2) w (j / 10) (omega arith))
 
 pub within-capacity : (t : List ℕ) (r n s m k : ℕ) (u v : List ℕ) → Projectable t r n
-    → v ≡ added (sumWithin (amountBy (cellIn t r n)) s m k) 500 u → (most : ℕ) → AtMost most u
-    → AtMost (most + 1_000_000_000_000) v
-within-capacity t r n s m k u v w e most a j =
-    omega (
-      arith,
-      ap (λ (l : List ℕ). getD l j 0) e,
-      added-most (sumWithin (amountBy (cellIn t r n)) s m k) 1_000_000_000_000 500
-          (λ i l. within-le (amountBy (cellIn t r n)) s m k i 1_000_000_000_000 (amount-le t r n w i l)) most u a j,
-    )
+    → v ≡ added (sumWithin (amountBy (cellIn t r n)) s m k) 500 u → {most : ℕ} → AtMost most 500 u
+    → AtMost (most + 1_000_000_000_000) 500 v
+within-capacity t r n s m k u v w e a =
+    rw e (added-most (sumWithin (amountBy (cellIn t r n)) s m k) 1_000_000_000_000 500
+    (λ i l. within-le (amountBy (cellIn t r n)) s m k i 1_000_000_000_000 (amount-le t r n w i l)) a)
 
 -- what is in force where a projection has come to
 in-force : (t : List ℕ) (r n s k : ℕ) (c : Cell) → ReachedIn t r n s k c

@@ -11,9 +11,11 @@ use borrow.Author.Tests.{lt-ltb, le-ltb, eq-eqb, ne-eqb}
 use lib.Dec.{eqb}
 use lib.ListN.{length, getD, set, length-set}
 use lib.Seq.{getD-set-same, getD-set-other, set-getD, set-comm}
+use Rattle.lists.specs.AtMost.{AtMost}
+use Rattle.lists.proofs.AtMost.{most-higher, most-set}
 use Rattle.valuation.specs.Steps.{Cell}
 use Rattle.cell.specs.States.{premiumBy, claimsBy}
-use Rattle.cell_projection.specs.Tables.{amountBy, added, late, oneMore, twoMore, AtMost}
+use Rattle.cell_projection.specs.Tables.{amountBy, added, late, oneMore, twoMore}
 
 pub length-added : (f : ℕ → ℕ) (n : ℕ) (t : List ℕ) → length (added f n t) ≡ length t
 unfolding added
@@ -47,22 +49,14 @@ pub added-more : (f : ℕ → ℕ) (n : ℕ) (t u v : List ℕ) (x : ℕ) → u 
 unfolding added
 added-more f n t u v x e w h = w ∙ rw (add-one n) (cc)
 
--- a store of at most m keeps a bound of m
-pub set-le : (u : List ℕ) (n v j m : ℕ) → getD u j 0 ≤ m → v ≤ m → getD (set u n v) j 0 ≤ m
-set-le [] n v j m p q = p
-set-le (x ∷ u) zero v zero m p q = q
-set-le (x ∷ u) zero v (suc j) m p q = p
-set-le (x ∷ u) (suc n) v zero m p q = p
-set-le (x ∷ u) (suc n) v (suc j) m p q = set-le u n v j m p q
-
 -- what a run adds at most
-pub added-most : (f : ℕ → ℕ) (z n : ℕ) → ((j : ℕ) → j < n → f j ≤ z) → (m : ℕ) (t : List ℕ) → AtMost m t
-    → AtMost (m + z) (added f n t)
+pub added-most : (f : ℕ → ℕ) (z n : ℕ) → ((j : ℕ) → j < n → f j ≤ z) → {m count : ℕ} {t : List ℕ} → AtMost m count t
+    → AtMost (m + z) count (added f n t)
 unfolding added
-added-most f z zero h m t a j = omega (arith, a j)
-added-most f z (suc n) h m t a j =
-    set-le (added f n t) n _ j (m + z) (added-most f z n (λ k l. h k (omega arith)) m t a j)
-    (omega (arith, added-later f n t n (omega arith), a n, h n (omega arith)))
+added-most f z zero h a = most-higher a (omega arith)
+added-most f z (suc n) h {t = t} a =
+    most-set (added-most f z n (λ k l. h k (omega arith)) a)
+    (λ l. omega (arith, added-later f n t n (omega arith), a .each n l, h n (omega arith)))
 
 -- numbers where f is 0 add nothing
 pub added-rest : (f : ℕ → ℕ) (n m : ℕ) (t : List ℕ) → ((j : ℕ) → n ≤ j → j < m + n → f j ≡ 0)
@@ -147,13 +141,13 @@ two-added f n t u x y e ex ey =
     let last : n + 1 + 1 ≡ n + 2 = omega arith in
     rw last at (added-more f (n + 1) t _ _ y (added-more f n t u _ x e refl ex) refl ey)
 
-pub two-most : (u : List ℕ) (j x y m z : ℕ) → AtMost m u → x ≤ z → y ≤ z → AtMost (m + z) (twoMore u j x y)
+pub two-most : {m n x y z : ℕ} {u v : List ℕ} (j : ℕ) → AtMost m n u → x ≤ z → y ≤ z → v ≡ twoMore u j x y
+    → AtMost (m + z) n v
 unfolding twoMore
-two-most u j x y m z a hx hy i =
-    let first : (k : ℕ) → getD (set u j (getD u j 0 + x)) k 0 ≤ m + z =
-    λ k. set-le u j _ k (m + z) (omega (arith, a k)) (omega (arith, a j)) in
-    set-le (set u j (getD u j 0 + x)) (j + 1) _ i (m + z) (first i)
-    (omega (arith, getD-set-other u j (j + 1) (getD u j 0 + x) 0 (λ e. omega arith), a (j + 1)))
+two-most {x = x} {u = u} j a hx hy e =
+    let other = getD-set-other u j (j + 1) (getD u j 0 + x) 0 (λ q. omega arith) in
+    rw e (most-set (most-set (most-higher a (omega arith)) (λ l. omega (arith, a .each j l)))
+    (λ l. omega (arith, other, a .each (j + 1) l)))
 
 -- the numbers of a year: for each projection premium, then claims
 module _ (c : ℕ → Cell) (k s : ℕ) (h : s < 5) where
@@ -184,10 +178,10 @@ amount-each P c j p q = by (eqb (j % 2) 0)
     by false = q
 
 -- after one addition every number but its own is as it was, and has space
-pub capacity : (t u : List ℕ) (j i x y : ℕ) → u ≡ oneMore t j x → (i ≡ j → ⊥) → AtMost 4000000000000000 t
-    → y ≤ 1000000000000 → getD u i 0 + y < 2 ^ 64
-capacity t u j i x y e o h l =
-    omega (arith, ap (λ (v : List ℕ). getD v i 0) e, getD-set-other t j i (getD t j 0 + x) 0 o, h i)
+pub capacity : {n : ℕ} (t u : List ℕ) (j i x y : ℕ) → u ≡ oneMore t j x → (i ≡ j → ⊥) → AtMost 4000000000000000 n t
+    → i < n → y ≤ 1000000000000 → getD u i 0 + y < 2 ^ 64
+capacity t u j i x y e o h here l =
+    omega (arith, ap (λ (v : List ℕ). getD v i 0) e, getD-set-other t j i (getD t j 0 + x) 0 o, h .each i here)
 
 -- two additions
 pub both : (t u v : List ℕ) (j x y p q : ℕ) → u ≡ oneMore t j x → v ≡ oneMore u (j + 1) y → x ≡ p → y ≡ q

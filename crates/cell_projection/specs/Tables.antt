@@ -4,7 +4,7 @@ use mathlib.Core.Bool.{cond}
 use mathlib.Core.List.{List, [], _∷_}
 use mathlib.Core.Logic.{_⊎_}
 use mathlib.Core.Path.{_≡_}
-use Prim.Native.Nat.{ℕ, zero, suc, _+_, _*_, _/_, _%_, _≤_}
+use Prim.Native.Nat.{ℕ, zero, suc, _+_, _*_, _/_, _%_}
 use lib.Dec.{ltb, eqb}
 use lib.ListN.{getD, set}
 use Rattle.settings.specs.Settings.{decrementsOf}
@@ -30,10 +30,6 @@ added f (suc n) t = set (added f n t) n (getD (added f n t) n 0 + f n)
 unfoldable pub addedAll : (ℕ → ℕ → ℕ) → List ℕ → List ℕ → List ℕ
 addedAll f [] t = t
 addedAll f (i ∷ links) t = addedAll f links (added (f i) 500 t)
-
--- no number of the table is above m
-abbrev pub AtMost : ℕ → List ℕ → Type 0
-AtMost m t = (j : ℕ) → getD t j 0 ≤ m
 
 -- f from number m on, and nothing before
 unfoldable pub late : ℕ → (ℕ → ℕ) → ℕ → ℕ

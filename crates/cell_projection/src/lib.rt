@@ -4,9 +4,10 @@
 ghost use mathlib.Core.Path.{_≡_};
 ghost use Prim.Native.Nat.{_+_, _*_, _<_, _≤_, _^_};
 ghost use lib.ListN.{getD, set};
+ghost use Rattle.lists.specs.AtMost.{AtMost};
 ghost use Rattle.settings.specs.Settings.{columnsOf};
 ghost use Rattle.cell.specs.States.{premiumIn, claimsIn, nextYear, Ready, Projectable};
-ghost use Rattle.cell_projection.specs.Tables.{AtMost, twoMore};
+ghost use Rattle.cell_projection.specs.Tables.{twoMore};
 ghost use Rattle.cell_projection.specs.Projected.{ReachedIn, StoppedIn, ProjectedIn};
 use cell::Cell;
 use rate_table::RateTable;
@@ -65,7 +66,7 @@ pub fn one_year(
     requires { ⌜ Ready (now rows) cell
         × (setting < 5)
         × (k < 50)
-        × AtMost 4000000000000000 (now sums)
+        × AtMost 4000000000000000 500 (now sums)
         × (columns ≡ columnsOf setting) ⌝ }
     ensures { λ r. ⌜ (r ≡ nextYear (now (rows .entry)) setting k cell)
         × (now (sums .exit) ≡ twoMore (now (sums .entry)) (10 * k + 2 * setting)
@@ -92,7 +93,7 @@ fn project_stretch(
         × (stretch .from ≤ stretch .to)
         × (stretch .to ≤ 50)
         × ReachedIn (now rows) (point .row) (point .count) setting (stretch .from) (stretch .cell)
-        × AtMost 3000000000000000 (now sums)
+        × AtMost 3000000000000000 500 (now sums)
         × (columns ≡ columnsOf setting) ⌝ }
     ensures { λ r. ⌜ StoppedIn (now (rows .entry)) (point .row) (point .count) setting
         (stretch .from) (stretch .to) (r .k) (r .cell) (now (sums .entry)) (now (sums .exit)) ⌝ }
@@ -121,7 +122,7 @@ pub fn alone(
         × (setting < 5)
         × (start .k ≤ 50)
         × ReachedIn (now rows) (point .row) (point .count) setting (start .k) (start .cell)
-        × AtMost 3000000000000000 (now sums)
+        × AtMost 3000000000000000 500 (now sums)
         × (columns ≡ columnsOf setting) ⌝ }
     ensures { λ years.
         ⌜ ProjectedIn (now (rows .entry)) (point .row) (point .count) setting (start .k) years
@@ -147,7 +148,7 @@ pub fn project_in(
 ) -> usize
     requires { ⌜ Projectable (now rows) (point .row) (point .count)
         × (setting < 5)
-        × AtMost 2000000000000000 (now sums)
+        × AtMost 2000000000000000 500 (now sums)
         × (columns ≡ columnsOf setting) ⌝ }
     ensures { λ years.
         ⌜ ProjectedIn (now (rows .entry)) (point .row) (point .count) setting 0 years

@@ -1,22 +1,17 @@
 -- What 17 and 18 of the accounts leave to the functions here.
-use Prim.Native.Nat.{ℕ, _≤_, _<_}
+use Prim.Native.Nat.{ℕ, _<_}
 use mathlib.Core.Path.{_≡_}
 use mathlib.Core.Bool.{false}
-use mathlib.Core.List.{List}
-use lib.ListN.{getD}
+use Rattle.lists.specs.AtMost.{AtMost}
 use Rattle.cost_rate_shares.specs.declared.Accounts.{Accounts}
 use Rattle.cost_rate_shares.specs.Rates.{figure, yearSum, isEmpty}
 
--- none of the first n figures is above 1,000,000,000
-pub record Limited (figures : List ℕ) (n : ℕ) : Type 0 where
-  pub each : (place : ℕ) → place < n → getD figures place 0 ≤ 1_000_000_000
-
--- accounts that pass 17
+-- accounts that pass 17: no figure is above 1,000,000,000
 pub record Bounded (a : Accounts) : Type 0 where
-  pub expenses : Limited (a .expenses) 3
-  pub stock : Limited (a .stock) 15
-  pub claims : Limited (a .claims) 15
-  pub premium : Limited (a .premium) 15
+  pub expenses : AtMost 1_000_000_000 3 (a .expenses)
+  pub stock : AtMost 1_000_000_000 15 (a .stock)
+  pub claims : AtMost 1_000_000_000 15 (a .claims)
+  pub premium : AtMost 1_000_000_000 15 (a .premium)
 
 -- accounts that pass 17 and 18
 pub record Usable (a : Accounts) : Type 0 where

@@ -2,9 +2,10 @@
 // stock and once by claims, and divided by the premium.
 ghost use mathlib.Core.Path.{_≡_};
 ghost use Prim.Native.Nat.{_≤_, _<_};
+ghost use Rattle.lists.specs.AtMost.{AtMost};
 ghost use Rattle.cost_rate_shares.specs.Rates.{figure, yearSum, lowered, share, yearRate};
 ghost use Rattle.cost_rate_shares.specs.Rates.{noneIn, isEmpty, accountsRate, ratesOf};
-ghost use Rattle.cost_rate_shares.specs.Usable.{Limited, Bounded, Usable};
+ghost use Rattle.cost_rate_shares.specs.Usable.{Bounded, Usable};
 
 // Three years, in the order in which they are given. The figure of year y, 0 to 2, and group g, 0
 // for PG1 to 4 for PG5, stands at 5 y + g. Stock is in contracts, all else in francs.
@@ -19,7 +20,7 @@ pub struct Accounts {
 pub fn figure(figures: [u64; 15], year: usize, group: usize) -> u64
     requires { ⌜ (year < 3)
         × (group < 5)
-        × Limited figures 15 ⌝ }
+        × AtMost 1000000000 15 figures ⌝ }
     ensures { λ r. ⌜ (r ≡ figure figures year group)
         × (r ≤ 1000000000) ⌝ }
 {
@@ -28,7 +29,7 @@ pub fn figure(figures: [u64; 15], year: usize, group: usize) -> u64
 
 pub fn year_sum(figures: [u64; 15], year: usize) -> u64
     requires { ⌜ (year < 3)
-        × Limited figures 15 ⌝ }
+        × AtMost 1000000000 15 figures ⌝ }
     ensures { λ r. ⌜ (r ≡ yearSum figures year)
         × (r ≤ 5000000000) ⌝ }
 {
@@ -41,7 +42,7 @@ pub fn year_sum(figures: [u64; 15], year: usize) -> u64
 
 fn lowered(expenses: [u64; 3], year: usize) -> u64
     requires { ⌜ (year < 3)
-        × Limited expenses 3 ⌝ }
+        × AtMost 1000000000 3 expenses ⌝ }
     ensures { λ r. ⌜ (r ≡ lowered expenses year)
         × (r ≤ 950000000) ⌝ }
 {
@@ -50,9 +51,11 @@ fn lowered(expenses: [u64; 3], year: usize) -> u64
 
 // A group's share of the year's lowered expenses, split by stock or by claims.
 fn share(expenses: [u64; 3], split: [u64; 15], year: usize, group: usize) -> u64
-    requires { ⌜
-        (year < 3) × (group < 5) × Limited expenses 3 × Limited split 15 × (0 < yearSum split year)
-        ⌝ }
+    requires { ⌜ (year < 3)
+        × (group < 5)
+        × AtMost 1000000000 3 expenses
+        × AtMost 1000000000 15 split
+        × (0 < yearSum split year) ⌝ }
     ensures { λ r. ⌜ (r ≡ share expenses split year group)
         × (r ≤ 950000000) ⌝ }
 {
@@ -78,7 +81,7 @@ fn year_rate(accounts: Accounts, year: usize, group: usize) -> u64
 
 fn none_in(figures: [u64; 15], group: usize) -> bool
     requires { ⌜ (group < 5)
-        × Limited figures 15 ⌝ }
+        × AtMost 1000000000 15 figures ⌝ }
     ensures { λ r. ⌜ r ≡ noneIn figures group ⌝ }
 {
     (figure(figures, 0, group) == 0)

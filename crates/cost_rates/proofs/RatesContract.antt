@@ -2,10 +2,10 @@
 use mathlib.Core.Path.{_≡_, refl, ap}
 use mathlib.Core.Bool.{Bool, true, false}
 use mathlib.Core.List.{[], _∷_}
-use Prim.Native.Nat.{ℕ, _≤_, _<_}
+use Prim.Native.Nat.{_<_}
 use native.Mathlib.Omega.{arith}
-use lib.ListN.{getD}
-use Rattle.conditions.specs.Every.{every}
+use Rattle.lists.specs.AtMost.{AtMost}
+use Rattle.lists.proofs.AtMost.{most-higher, most-replicate}
 use Rattle.cost_rate_shares.specs.declared.Accounts.{Accounts}
 use Rattle.cost_rate_shares.specs.Rates.{ratesOf}
 use Rattle.cost_rate_shares.specs.Usable.{Usable}
@@ -20,9 +20,8 @@ use Rattle.cost_rates.proofs.Replied.{replied-17, replied-18, replied-1
 numbered : (r s : CostRates) → r ≡ s → 0 < s .refusal → r .refusal ≡ 0 → ⊥
 numbered r s e h z = omega (arith, ap (λ (x : CostRates). x .refusal) e)
 
-none : (group : ℕ) → group < 5 → getD (0 ∷ 0 ∷ 0 ∷ 0 ∷ 0 ∷ []) group 0 ≤ highestRate
-unfolding allAtMost every
-none group h = each-at-most highestRate (0 ∷ 0 ∷ 0 ∷ 0 ∷ 0 ∷ []) 5 group refl h
+none : AtMost highestRate 5 (0 ∷ 0 ∷ 0 ∷ 0 ∷ 0 ∷ [])
+none = most-higher (most-replicate 5 0) (omega arith)
 
 module _ (a : Accounts) where
   -- a reply without a refusal is that of usable accounts
@@ -32,12 +31,11 @@ module _ (a : Accounts) where
   reply-usable true true limits sums z = usable a (bounded a limits) sums
 
   at-most : (t s r : Bool) → withinLimits a ≡ t → canCompute a ≡ s → allAtMost highestRate (ratesOf a) 5 ≡ r
-      → (group : ℕ) → group < 5 → getD (costRates a .rates) group 0 ≤ highestRate
-  at-most false s r limits sums rates group h = rw (replied-17 a limits) (none group h)
-  at-most true false r limits sums rates group h = rw (replied-18 a limits sums) (none group h)
-  at-most true true false limits sums rates group h = rw (replied-19 a limits sums rates) (none group h)
-  at-most true true true limits sums rates group h =
-      rw (replied-rates a limits sums rates) (each-at-most highestRate (ratesOf a) 5 group rates h)
+      → AtMost highestRate 5 (costRates a .rates)
+  at-most false s r limits sums rates = rw (replied-17 a limits) none
+  at-most true false r limits sums rates = rw (replied-18 a limits sums) none
+  at-most true true false limits sums rates = rw (replied-19 a limits sums rates) none
+  at-most true true true limits sums rates = rw (replied-rates a limits sums rates) (each-at-most _ _ _ rates)
 
   pub rates-promised : (reply : CostRates) → reply ≡ costRates a → RatesContract a reply
   rates-promised reply e =
@@ -45,5 +43,5 @@ module _ (a : Accounts) where
         reply-is = e;
         by-stock = λ year h z. split-whole _ _ year (reply-usable _ _ refl refl (rw e at z) .some-stock year h);
         by-claims = λ year h z. split-whole _ _ year (reply-usable _ _ refl refl (rw e at z) .some-claims year h);
-        limit = λ group h. rw e (at-most _ _ _ refl refl refl group h);
+        limit = rw e (at-most _ _ _ refl refl refl);
       }

@@ -2,30 +2,26 @@
 use mathlib.Core.Path.{_≡_}
 use mathlib.Core.Bool.{Bool, true, false, _&&_}
 use mathlib.Core.List.{List}
-use Prim.Native.Nat.{ℕ, _≤_, _<_}
-use native.Mathlib.Nat.{le-trans}
+use Prim.Native.Nat.{ℕ, _<_}
 use native.Mathlib.Omega.{arith}
 use lib.Dec.{leb, ltb}
 use lib.ListN.{getD}
 use borrow.Author.Tests.{leb-true, ltb-true}
+use Rattle.lists.specs.AtMost.{AtMost}
+use Rattle.lists.proofs.AtMost.{most-higher}
 use Rattle.conditions.specs.Every.{every}
 use Rattle.conditions.proofs.Joined.{and-left, and-right, or-other}
 use Rattle.conditions.proofs.Every.{every-holds}
 use Rattle.cost_rate_shares.specs.declared.Accounts.{Accounts}
 use Rattle.cost_rate_shares.specs.Rates.{figure, yearSum, isEmpty}
-use Rattle.cost_rate_shares.specs.Usable.{Limited, Bounded, Usable}
+use Rattle.cost_rate_shares.specs.Usable.{Bounded, Usable}
 use Rattle.cost_rates.specs.Refusals.{highestAmount, highestStock, allAtMost, withinLimits}
 use Rattle.cost_rates.specs.Refusals.{canSplit, isPaid, canCompute}
 
-pub each-at-most : (limit : ℕ) (figures : List ℕ) (n place : ℕ) → allAtMost limit figures n ≡ true → place < n
-    → getD figures place 0 ≤ limit
+pub each-at-most : (limit : ℕ) (figures : List ℕ) (n : ℕ) → allAtMost limit figures n ≡ true → AtMost limit n figures
 unfolding allAtMost
-each-at-most limit figures n place e h =
-    leb-true _ _ (every-holds (λ (place : ℕ). leb (getD figures place 0) limit) n place e h)
-
-limited : (limit : ℕ) (figures : List ℕ) (n : ℕ) → limit ≤ highestAmount → allAtMost limit figures n ≡ true
-    → Limited figures n
-limited limit figures n low e = record { each = λ place h. le-trans (each-at-most limit figures n place e h) low }
+each-at-most limit figures n e =
+    record { each = λ k h. leb-true _ _ (every-holds (λ (place : ℕ). leb (getD figures place 0) limit) n k e h) }
 
 -- 17 passed
 pub bounded : (a : Accounts) → withinLimits a ≡ true → Bounded a
@@ -38,10 +34,10 @@ bounded a e =
     let three = and-left (expenses && stock && claims) premium e in
     let two = and-left (expenses && stock) claims three in
     record {
-      expenses = limited highestAmount _ _ (omega arith) (and-left expenses stock two);
-      stock = limited highestStock _ _ (omega arith) (and-right expenses stock two);
-      claims = limited highestAmount _ _ (omega arith) (and-right (expenses && stock) claims three);
-      premium = limited highestAmount _ _ (omega arith) (and-right (expenses && stock && claims) premium e);
+      expenses = each-at-most _ _ _ (and-left expenses stock two);
+      stock = most-higher (each-at-most _ _ _ (and-right expenses stock two)) (omega arith);
+      claims = each-at-most _ _ _ (and-right (expenses && stock) claims three);
+      premium = each-at-most _ _ _ (and-right (expenses && stock && claims) premium e);
     }
 
 some-in : (split : List ℕ) → canSplit split ≡ true → (year : ℕ) → year < 3 → 0 < yearSum split year

@@ -2,7 +2,7 @@
 use Prim.Native.Nat.{ℕ, _+_, _≤_, _<_}
 use mathlib.Core.Path.{_≡_}
 use mathlib.Core.List.{List, [], _∷_}
-use lib.ListN.{getD}
+use Rattle.lists.specs.AtMost.{AtMost}
 use Rattle.verdict.specs.declared.Verdict.{Verdict}
 use Rattle.verdict.specs.declared.Verdict.the-variants.{Accepted, Refused}
 use Rattle.cost_rate_shares.specs.declared.Accounts.{Accounts}
@@ -34,4 +34,4 @@ pub record RatesContract (a : Accounts) (reply : CostRates) : Type 0 where
   pub reply-is : reply ≡ costRates a
   pub by-stock : (year : ℕ) → year < 3 → reply .refusal ≡ 0 → SplitWhole (a .expenses) (a .stock) year
   pub by-claims : (year : ℕ) → year < 3 → reply .refusal ≡ 0 → SplitWhole (a .expenses) (a .claims) year
-  pub limit : (group : ℕ) → group < 5 → getD (reply .rates) group 0 ≤ highestRate
+  pub limit : AtMost highestRate 5 (reply .rates)

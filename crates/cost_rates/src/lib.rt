@@ -5,7 +5,8 @@ ghost use mathlib.Core.List.{[]};
 ghost use lib.ListN.{length};
 ghost use Rattle.verdict.specs.declared.Verdict.the-variants.{Refused};
 ghost use Rattle.conditions.specs.Every.{every};
-ghost use Rattle.cost_rate_shares.specs.Usable.{Limited, Bounded};
+ghost use Rattle.lists.specs.AtMost.{AtMost};
+ghost use Rattle.cost_rate_shares.specs.Usable.{Bounded};
 ghost use Rattle.cost_rates.specs.Refusals.{allAtMost, withinLimits, canSplit, isPaid};
 ghost use Rattle.cost_rates.specs.Refusals.{canCompute};
 ghost use Rattle.cost_rates.specs.Replies.{ratesReplyFor, RatesContract};
@@ -61,7 +62,7 @@ fn within_limits(accounts: Accounts) -> bool
 
 // Whether each year's expenses can be split by these figures.
 fn can_split(split: [u64; 15]) -> bool
-    requires { ⌜ Limited split 15 ⌝ }
+    requires { ⌜ AtMost 1000000000 15 split ⌝ }
     ensures { λ r. ⌜ r ≡ canSplit split ⌝ }
 {
     (0 < year_sum(split, 0)) & (0 < year_sum(split, 1)) & (0 < year_sum(split, 2))

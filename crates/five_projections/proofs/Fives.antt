@@ -7,14 +7,13 @@ use Prim.Native.Nat.{ℕ, _+_, _-_, _*_, _/_, _%_, _≤_, _<_}
 use native.Mathlib.Omega.{arith}
 use borrow.Author.Tests.{lt-ltb, le-ltb, ltb-true, ltb-false}
 use lib.Dec.{ltb}
-use lib.ListN.{getD}
+use Rattle.lists.specs.AtMost.{AtMost}
 use Rattle.valuation.specs.Arithmetic.{rounded}
 use Rattle.valuation.specs.Steps.{inForce}
 use Rattle.cell.specs.declared.Cell.{Cell}
 use Rattle.cell.specs.States.{cellIn, stateIn, Projectable}
 use Rattle.cell.proofs.Cells.{state-ready, state-start, state-next, premium-is, claims-is}
-use Rattle.cell_projection.specs.Tables.{amountBy, added, late, sumWithin, AtMost}
-use Rattle.cell_projection.specs.Ends.{Going}
+use Rattle.cell_projection.specs.Tables.{amountBy, added, late, sumWithin}
 use Rattle.five_projections.specs.Five.{fiveIn, startOf, FiveReady, AllInForce, nextFive, tenMore}
 use Rattle.cell_projection.specs.Tables.{yearMore}
 use Rattle.five_projections.specs.SideBySide.{Reached, ProjectedTo}
@@ -124,14 +123,10 @@ module _ (t : List ℕ) (r n m k : ℕ) (cells : Five) (u v : List ℕ) (run : R
   pub run-ready : Projectable t r n → k < 50 → FiveReady t cells
   run-ready s h = rw (run .2 .states) (five-ready t r n s k h)
 
-  pub run-capacity : Projectable t r n → (most : ℕ) → AtMost most u → AtMost (most + 1_000_000_000_000) v
-  run-capacity s most a j =
-      omega (
-        arith,
-        ap (λ (l : List ℕ). getD l j 0) (run .3),
-        added-most _ 1_000_000_000_000 (10 * k)
-            (λ i l. late-le _ _ (10 * m) (amount-le t r n s) i (omega (arith, run .1))) most u a j,
-      )
+  pub run-capacity : Projectable t r n → {most : ℕ} → AtMost most 500 u → AtMost (most + 1_000_000_000_000) 500 v
+  run-capacity s a =
+      rw (run .3) (added-most _ 1_000_000_000_000 (10 * k)
+      (λ i l. late-le _ _ (10 * m) (amount-le t r n s) i (omega (arith, run .1))) a)
 
   -- and it is then computed
   pub run-more : k < 50 → AllInForce cells → (cells′ : Five) (v′ : List ℕ) → cells′ ≡ nextFive t k cells

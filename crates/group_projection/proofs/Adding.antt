@@ -6,8 +6,10 @@ use native.Mathlib.Numerals.{add-one}
 use native.Mathlib.Omega.{arith}
 use mathlib.Core.Bool.{Bool, true, false}
 use borrow.Author.Tests.{lt-ltb, eqb-true, eqb-false}
-use lib.Dec.{ltb, eqb}
+use lib.Dec.{eqb}
 use lib.ListN.{length, getD, replicate, length-replicate, getD-replicate}
+use Rattle.lists.specs.AtMost.{AtMost}
+use Rattle.lists.proofs.AtMost.{most-higher}
 use Rattle.book.specs.Layout.{headOf, classOf, nextOf}
 use Rattle.book.specs.Cells.{holds, heldFrom, heldIn, sumOf}
 use Rattle.book.specs.Reading.{ChainFrom, Standing, ValidBook}
@@ -20,7 +22,7 @@ use Rattle.valuation.specs.Steps.{held, sumCells, premiumSum, claimsSum}
 use Rattle.valuation.specs.Portfolio.{rowAt, linksFrom, chainLinks, linksOf, cellsOf}
 use Rattle.valuation.proofs.Rows.{chain-standing}
 use Rattle.valuation.proofs.Members.{counted, links-counted, held-links}
-use Rattle.cell_projection.specs.Tables.{added, addedAll, AtMost}
+use Rattle.cell_projection.specs.Tables.{added, addedAll}
 use Rattle.cell.specs.States.{premiumBy, claimsBy, premiumAt, claimsAt}
 use Rattle.cell_projection.proofs.Years.{length-added, added-at, added-most}
 
@@ -84,11 +86,11 @@ claims-sum-is b w k (i ∷ l) = rw (claims-sum-is b w k l)
 abbrev pub Carry : (ℕ → ℕ → ℕ) → List ℕ → ℕ → ℕ → List ℕ → ℕ → ℕ → List ℕ → Type 0
 Carry f b left head t₀ above i t =
     (addedAll f (counted b above i) t ≡ addedAll f (counted b left head) t₀)
-    × AtMost (1_000_000_000_000_000 + 1_000_000_000_000 * (left - above)) t
+    × AtMost (1_000_000_000_000_000 + 1_000_000_000_000 * (left - above)) 500 t
 
 module _ (f : ℕ → ℕ → ℕ) (b : List ℕ) (left head : ℕ) (t₀ : List ℕ) where
-  pub carry-start : AtMost 1_000_000_000_000_000 t₀ → Carry f b left head t₀ left head t₀
-  carry-start a = (refl, λ j. omega (arith, a j))
+  pub carry-start : AtMost 1_000_000_000_000_000 500 t₀ → Carry f b left head t₀ left head t₀
+  carry-start a = (refl, most-higher a (omega arith))
 
   pub carry-more : (above rest i : ℕ) (t u : List ℕ) → above ≡ rest + 1 → above ≤ left
       → Carry f b left head t₀ above i t
@@ -97,12 +99,7 @@ module _ (f : ℕ → ℕ → ℕ) (b : List ℕ) (left head : ℕ) (t₀ : List
   carry-more above rest i t u s hi c le e =
       let p : above ≡ suc rest = s ∙ add-one rest in (
         rw e (rw p at (c .0)),
-        λ k. omega (
-          arith,
-          ap (λ (l : List ℕ). getD l k 0) e,
-          added-most (f i) 1_000_000_000_000 500 (λ j l. le j)
-              (1_000_000_000_000_000 + 1_000_000_000_000 * (left - above)) t (c .1) k,
-        ),
+        rw e (most-higher (added-most (f i) 1_000_000_000_000 500 (λ j l. le j) (c .1)) (omega arith)),
       )
 
   pub carry-end : (above i : ℕ) (t u : List ℕ) → above ≡ 0 → Carry f b left head t₀ above i t → u ≡ added (f i) 500 t
@@ -160,45 +157,37 @@ abbrev pub Small : (ℕ → ℕ → ℕ) → List ℕ → Type 0
 Small f b = (k i : ℕ) → k < 14 → Standing b 120 k i → (j : ℕ) → f i j ≤ 1_000_000_000_000
 
 module _ (f : ℕ → ℕ → ℕ) (b : List ℕ) (small : Small f b) (k : ℕ) (few : k < 14) where
-  counted-most : (left i m : ℕ) (t : List ℕ) → left ≤ 120 → ChainFrom b 120 k left i → AtMost m t
-      → AtMost (m + 1_000_000_000_000 * (left + 1)) (addedAll f (counted b left i) t)
+  counted-most : (left i : ℕ) {m : ℕ} {t : List ℕ} → left ≤ 120 → ChainFrom b 120 k left i → AtMost m 500 t
+      → AtMost (m + 1_000_000_000_000 * (left + 1)) 500 (addedAll f (counted b left i) t)
   unfolding counted addedAll
-  counted-most zero i m t h c a j =
-      omega (
-        arith,
-        added-most (f i) 1_000_000_000_000 500 (λ n l. small k i few (chain-standing b k 0 i c h) n) m t a
-            j,
-      )
-  counted-most (suc left) i m t h c a j =
-      omega (
-        arith,
-        counted-most left (nextOf b i) (m + 1_000_000_000_000) (added (f i) 500 t) (omega arith)
-            (chain-next b 120 k (suc left) left i (omega arith) c)
-            (added-most (f i) 1_000_000_000_000 500 (λ n l. small k i few (chain-standing b k (suc left) i c h) n) m t
-            a) j,
-      )
+  counted-most zero i h c a =
+      most-higher (added-most (f i) 1_000_000_000_000 500 (λ n l. small k i few (chain-standing b k 0 i c h) n) a)
+      (omega arith)
+  counted-most (suc left) i h c a =
+      most-higher
+      (counted-most left (nextOf b i) (omega arith) (chain-next b 120 k (suc left) left i (omega arith) c)
+      (added-most (f i) 1_000_000_000_000 500 (λ n l. small k i few (chain-standing b k (suc left) i c h) n) a))
+      (omega arith)
 
-  pub links-most : ValidBook 1 b → (m : ℕ) (t : List ℕ) → AtMost m t
-      → AtMost (m + 121_000_000_000_000) (addedAll f (chainLinks b k) t)
+  pub links-most : ValidBook 1 b → {m : ℕ} {t : List ℕ} → AtMost m 500 t
+      → AtMost (m + 121_000_000_000_000) 500 (addedAll f (chainLinks b k) t)
   unfolding addedAll
-  links-most v m t a j = by-head (eqb (headOf b k) 0) refl
+  links-most v {m} {t} a = by-head (eqb (headOf b k) 0) refl
     where
-      by-head : (x : Bool) → eqb (headOf b k) 0 ≡ x → getD (addedAll f (chainLinks b k) t) j 0 ≤ m + 121_000_000_000_000
-      by-head true e = rw (links-empty b k (eqb-true _ _ e)) (omega (arith, a j))
+      by-head : (x : Bool) → eqb (headOf b k) 0 ≡ x
+          → AtMost (m + 121_000_000_000_000) 500 (addedAll f (chainLinks b k) t)
+      by-head true e = rw (links-empty b k (eqb-true _ _ e)) (most-higher a (omega arith))
       by-head false e =
           let some : headOf b k ≡ 0 → ⊥ = eqb-false _ _ e in
           rw (head-links b v k few (headOf b k) _ refl some refl)
-          (omega (
-            arith,
-            counted-most (120 - classOf b (headOf b k)) (headOf b k) m t (omega arith)
-                (head-chain b v k few (headOf b k) _ refl some refl) a j,
-          ))
+          (most-higher (counted-most (120 - classOf b (headOf b k)) (headOf b k) (omega arith)
+          (head-chain b v k few (headOf b k) _ refl some refl) a) (omega arith))
 
 -- What a run over the chains of a group keeps, before chain k of those up to `to`.
 abbrev pub Gather : (ℕ → ℕ → ℕ) → List ℕ → ℕ → ℕ → List ℕ → ℕ → List ℕ → Type 0
 Gather f b from to t₀ k t =
     (addedAll f (linksOf b k (to - k)) t ≡ addedAll f (linksOf b from (to - from)) t₀)
-    × AtMost (121_000_000_000_000 * (k - from)) t
+    × AtMost (121_000_000_000_000 * (k - from)) 500 t
 
 module _ (f : ℕ → ℕ → ℕ) (b : List ℕ) (small : Small f b) (v : ValidBook 1 b) (from to : ℕ) (t₀ : List ℕ) where
   pub gather-more : (k : ℕ) (t u : List ℕ) → Gather f b from to t₀ k t → from ≤ k → k < to → to ≤ 14
@@ -207,12 +196,7 @@ module _ (f : ℕ → ℕ → ℕ) (b : List ℕ) (small : Small f b) (v : Valid
   gather-more k t u g lo hi le e =
       let s : to - k ≡ suc (to - (k + 1)) = omega arith in (
         rw e (sym (added-append f (chainLinks b k) (linksOf b (k + 1) (to - (k + 1))) t) ∙ (rw s at (g .0))),
-        λ j. omega (
-          arith,
-          ap (λ (l : List ℕ). getD l j 0) e,
-          links-most f b small k (omega arith) v
-              (121_000_000_000_000 * (k - from)) t (g .1) j,
-        ),
+        rw e (most-higher (links-most f b small k (omega arith) v (g .1)) (omega arith)),
       )
 
   pub gather-end : (k : ℕ) (t : List ℕ) → k ≡ to → Gather f b from to t₀ k t
@@ -235,8 +219,3 @@ unfolding sumOf
 group-cells-end b n k to e =
     let z : to - k ≡ 0 = omega arith in
     rw z (omega arith)
-
-pub zero-most : (n : ℕ) → AtMost 0 (replicate n 0)
-zero-most zero j = omega arith
-zero-most (suc n) zero = omega arith
-zero-most (suc n) (suc j) = zero-most n j

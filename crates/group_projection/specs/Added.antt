@@ -3,13 +3,14 @@ use mathlib.Core.List.{List}
 use mathlib.Core.Path.{_≡_}
 use Prim.Native.Nat.{ℕ, _+_, _*_, _<_, _≤_}
 use lib.ListN.{getD}
+use Rattle.lists.specs.AtMost.{AtMost}
 use Rattle.book.specs.Layout.{lastClass}
 use Rattle.book.specs.Cells.{heldFrom, heldIn, heldOfGroup}
 use Rattle.settings.specs.Settings.{decrementsOf}
 use Rattle.valuation.specs.Arithmetic.{rounded}
 use Rattle.valuation.specs.Steps.{premiumSum, claimsSum}
 use Rattle.valuation.specs.Portfolio.{linksFrom, chainLinks, groupCells}
-use Rattle.cell_projection.specs.Tables.{amountIn, Among, addedAll, AtMost}
+use Rattle.cell_projection.specs.Tables.{amountIn, Among, addedAll}
 
 -- what the cells of the records from record i on make of the table u, and how many hold contracts
 pub record CellsAdded (b : List ℕ) (which i n : ℕ) (u v : List ℕ) : Type 0 where
@@ -29,7 +30,7 @@ pub record TableIn (b : List ℕ) (s g : ℕ) (t : List ℕ) : Type 0 where
       → getD t (10 * k + 2 * s) 0 ≡ premiumSum rounded (groupCells b (decrementsOf b s) g) k
   pub claims-is : (k : ℕ) → k < 50
       → getD t (10 * k + 2 * s + 1) 0 ≡ claimsSum rounded (groupCells b (decrementsOf b s) g) k
-  pub most : AtMost 726_000_000_000_000 t
+  pub most : AtMost 726_000_000_000_000 500 t
 
 -- and those of all
 abbrev pub TableOf : List ℕ → ℕ → List ℕ → Type 0

@@ -5,11 +5,11 @@
 ghost use mathlib.Core.Path.{_≡_};
 ghost use Prim.Native.Nat.{_+_, _*_, _<_, _≤_};
 ghost use lib.ListN.{replicate};
+ghost use Rattle.lists.specs.AtMost.{AtMost};
 ghost use Rattle.book.specs.Cells.{firstChain, chainsOf};
 ghost use Rattle.book.specs.Reading.{Standing, ValidBook};
 ghost use Rattle.settings.specs.Settings.{ShiftsOf, columnsOf};
 ghost use Rattle.rate_table.specs.Rows.{RowsOf};
-ghost use Rattle.cell_projection.specs.Tables.{AtMost};
 ghost use Rattle.group_projection.specs.Added.{CellsAdded, ChainAdded, SumsOf};
 use cell_projection::ModelPoint;
 use cell_projection::YearSums;
@@ -65,7 +65,7 @@ fn add_cells(
         × Standing (now book) 120 chain head
         × RowsOf (now book) chain head (now rows)
         × (which ≤ 5)
-        × AtMost 1000000000000000 (now sums) ⌝ }
+        × AtMost 1000000000000000 500 (now sums) ⌝ }
     ensures { λ n. ⌜ CellsAdded (now (book .entry)) which head n (now (sums .entry))
         (now (sums .exit)) ⌝ }
 {
@@ -101,7 +101,7 @@ fn add_chain(
         × ValidBook 1 (now book)
         × (k < 14)
         × (which ≤ 5)
-        × AtMost 1000000000000000 (now sums) ⌝ }
+        × AtMost 1000000000000000 500 (now sums) ⌝ }
     ensures { λ n. ⌜ ChainAdded (now (book .entry)) which k n (now (sums .entry)) (now (sums .exit))
         ⌝ }
 {

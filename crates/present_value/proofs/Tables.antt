@@ -7,10 +7,10 @@ use native.Mathlib.Nat.{eq-or-lt-of-le, zero-mul, zero-div}
 use native.Mathlib.Omega.{arith}
 use lib.ListN.{length, getD, set, replicate}
 use lib.Seq.{getD-set-same, getD-set-other}
+use Rattle.lists.proofs.AtMost.{most-higher, most-fewer, most-replicate}
 use Rattle.valuation.specs.Arithmetic.{rounded}
 use Rattle.valuation.specs.Steps.{discounted, sumYears}
 use Rattle.valuation.specs.Portfolio.{divisorOf}
-use Rattle.group_projection.proofs.Adding.{zero-most}
 use Rattle.cash_flow.specs.CashFlow.{Divisors, DiscountedIn}
 use Rattle.cash_flow.proofs.CashFlow.{sum-more}
 use Rattle.present_value.specs.Outcome.{CurveOf, InYears, NoneFrom}
@@ -26,14 +26,14 @@ stored P table k x l h p i lt =
 
 -- no year at first, then one more
 pub in-none : (f : ℕ → ℕ) (m from : ℕ) → InYears f m from from (replicate 50 0)
-in-none f m from = record { are = λ k h l. absurd (omega arith); most = λ k h. omega (arith, zero-most 50 k) }
+in-none f m from = record { are = λ k h l. absurd (omega arith); most = most-higher (most-replicate 50 0) (omega arith) }
 
 pub in-more : (f : ℕ → ℕ) (m from k x : ℕ) (table : List ℕ) → k < length table → InYears f m from k table → x ≡ f k
     → x ≤ m
     → InYears f m from (k + 1) (set table k x)
 in-more f m from k x table l h e small = record {
   are = stored (λ i y. from ≤ i → y ≡ f i) table k x l (h .are) (λ _. e);
-  most = stored (λ i y. y ≤ m) table k x l (h .most) small;
+  most = record { each = stored (λ i y. y ≤ m) table k x l (h .most .each) small };
 }
 
 pub curve-divisors : (b divisors fractions : List ℕ) → CurveOf b divisors fractions → Divisors divisors fractions
@@ -49,7 +49,7 @@ in-discounted b divisors fractions f g from j to before after c e last few u d =
   are = λ k h l.
       let z : min j k ≡ k = omega arith in
       d .each k h .is ∙ rw (z, c .divisors-are k (omega arith), u .are k h l) (sym (e k));
-  most = λ k h. omega (arith, d .each k h .most);
+  most = record { each = λ k h. omega (arith, d .each k h .most) };
 }
 
 -- nothing, discounted, is nothing
@@ -87,7 +87,7 @@ sum-to-end D f g m from end to table e y least most none =
 pub in-fewer : (f : ℕ → ℕ) (m from end to : ℕ) (table : List ℕ) → end ≤ to → InYears f m from to table
     → InYears f m from end table
 in-fewer f m from end to table l y =
-    record { are = λ k h. y .are k (omega arith); most = λ k h. y .most k (omega arith) }
+    record { are = λ k h. y .are k (omega arith); most = most-fewer (y .most) l }
 
 -- no year looked at yet, and one more without an amount
 pub none-at-all : (premium outgo : List ℕ) (from to : ℕ) → from ≤ to → NoneFrom premium outgo from to to

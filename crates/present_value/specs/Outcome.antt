@@ -5,6 +5,7 @@ use Prim.Native.Nat.{ℕ, _+_, _*_, _<_, _≤_}
 use lib.IntN.{ℤ}
 use lib.Signed.{mag}
 use lib.ListN.{getD, drop}
+use Rattle.lists.specs.AtMost.{AtMost}
 use Rattle.settings.specs.Settings.{decrementsOf}
 use Rattle.valuation.specs.Arithmetic.{rounded}
 use Rattle.valuation.specs.Steps.{outgo, countedPremium, discountedOutgo, discountedPremium, sumYears}
@@ -28,7 +29,7 @@ pub record CurveOf (b divisors fractions : List ℕ) : Type 0 where
 -- the amounts of the years from `from` to before `to` are f's, and no year's before `to` is above m
 pub record InYears (f : ℕ → ℕ) (m from to : ℕ) (amounts : List ℕ) : Type 0 where
   pub are : (k : ℕ) → k < to → from ≤ k → getD amounts k 0 ≡ f k
-  pub most : (k : ℕ) → k < to → getD amounts k 0 ≤ m
+  pub most : AtMost m to amounts
 
 -- premium after the cap and outgo of product group g by year
 abbrev pub premiumBefore : List ℕ → ℕ → ℕ → ℕ → ℕ

@@ -48,6 +48,6 @@ module _ (m c span : ℕ) (few : m ≤ 92233720368548) (small : c ≤ 1000000) (
       div-le-of-le-mul (1000 * span) (omega (arith, product-le {a = m} {b = c} 92233720368548 1000000 few small))
 
 -- 30 passed
-pub factors-most : (f : List ℤ) → factorsSmall f ≡ true → SizesTo 4 1000000 f
+pub factors-most : (f : List ℤ) → factorsSmall f ≡ true → SizesTo 1000000 4 f
 unfolding factorsSmall
 factors-most f e i h = leb-true _ _ (every-holds (λ (i : ℕ). leb (natAbs (numberAt f i)) 1000000) 4 i e h)

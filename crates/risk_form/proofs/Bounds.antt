@@ -26,7 +26,7 @@ sum-most f m (suc n) each =
 abbrev pub rowOf : List ℤ → List ℤ → ℕ → ℤ
 rowOf r f i = sumBelow (λ (j : ℕ). termOf r f i j) 4
 
-module _ (r f : List ℤ) (known : SizesTo 16 1000 r) (small : SizesTo 4 1_000_000 f) where
+module _ (r f : List ℤ) (known : SizesTo 1000 16 r) (small : SizesTo 1_000_000 4 f) where
   -- factor i times its correlation, and that times factor j
   pub half-most : (i j : ℕ) → i < 4 → j < 4 → natAbs (numberAt f i) * natAbs (correlationAt r i j) ≤ 1_000_000_000
   half-most i j hi hj = product-le 1_000_000 1000 (small i hi) (known (4 * i + j) (omega arith))

@@ -11,7 +11,7 @@ use signed::of_sixteen;
 // Factor i times correlation i j times factor j.
 fn term(correlation: &[i64; 16], f: &[i64; 4], i: usize, j: usize) -> Signed
     requires { ⌜
-        (i < 4) × (j < 4) × SizesTo 16 1000 (now correlation) × SizesTo 4 1000000 (now f)
+        (i < 4) × (j < 4) × SizesTo 1000 16 (now correlation) × SizesTo 1000000 4 (now f)
         ⌝ }
     ensures { λ r. ⌜ r .number ≡ termOf (now (correlation .entry)) (now (f .entry)) i j ⌝ }
 {
@@ -23,8 +23,8 @@ fn term(correlation: &[i64; 16], f: &[i64; 4], i: usize, j: usize) -> Signed
 // The terms of row i.
 fn row(correlation: &[i64; 16], f: &[i64; 4], i: usize) -> Signed
     requires { ⌜ (i < 4)
-        × SizesTo 16 1000 (now correlation)
-        × SizesTo 4 1000000 (now f) ⌝ }
+        × SizesTo 1000 16 (now correlation)
+        × SizesTo 1000000 4 (now f) ⌝ }
     ensures { λ r. ⌜
         r .number ≡ sumBelow (termOf (now (correlation .entry)) (now (f .entry)) i) 4
         ⌝ }
@@ -37,8 +37,8 @@ fn row(correlation: &[i64; 16], f: &[i64; 4], i: usize) -> Signed
 }
 
 pub fn form(correlation: &[i64; 16], f: &[i64; 4]) -> Signed
-    requires { ⌜ SizesTo 16 1000 (now correlation)
-        × SizesTo 4 1000000 (now f) ⌝ }
+    requires { ⌜ SizesTo 1000 16 (now correlation)
+        × SizesTo 1000000 4 (now f) ⌝ }
     ensures { λ r. ⌜ r .number ≡ formOf (now (correlation .entry)) (now (f .entry)) ⌝ }
 {
     let mut sum = Signed { number: 0 };

@@ -64,7 +64,7 @@ module _ (r : List ℤ) (e : correlationRight r ≡ true) where
       in-front : (i j : ℕ) → i < 4 → j < 4 → front i j ≡ true
       in-front i j hi hj = and-left (front i j) (diagonal i j) (right-each i j hi hj)
 
-  pub correlation-most : SizesTo 16 1000 r
+  pub correlation-most : SizesTo 1000 16 r
   correlation-most k h =
       let place : 4 * (k / 4) + k % 4 ≡ k = omega arith in
       rw place at (correlation-rules .range (k / 4) (k % 4) (omega arith) (omega arith))

@@ -22,6 +22,6 @@ unfoldable pub withSign : ℤ → ℕ → ℤ
 withSign (pos n) m = pos m
 withSign (negsuc n) m = negℤ (pos m)
 
--- none of the first so many numbers of the list passes m either way
+-- none of the first n numbers passes the limit either way
 abbrev pub SizesTo : ℕ → ℕ → List ℤ → Type 0
-SizesTo count m xs = (i : ℕ) → i < count → natAbs (numberAt xs i) ≤ m
+SizesTo limit n xs = (i : ℕ) → i < n → natAbs (numberAt xs i) ≤ limit

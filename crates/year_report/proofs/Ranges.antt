@@ -7,6 +7,8 @@ use native.Mathlib.Nat.{mul-le-mul, div-le-of-le-mul, le-trans}
 use native.Mathlib.Omega.{arith}
 use lib.Dec.{leb, eqb}
 use lib.ListN.{replicate}
+use Rattle.lists.specs.AtMost.{AtMost}
+use Rattle.lists.proofs.AtMost.{most-higher, most-replicate}
 use Rattle.book.specs.Cells.{firstChain, chainsOf}
 use Rattle.book.specs.Reading.{ValidBook}
 use Rattle.settings.specs.Settings.{decrementsOf}
@@ -19,8 +21,8 @@ use Rattle.valuation.specs.Portfolio.{chainLinks, linksOf, groupLinks, groupCel
 use Rattle.valuation.proofs.Accepted.{chains-few, divisor-low, good-terms}
 use Rattle.cell.specs.States.{premiumAt, claimsAt}
 use Rattle.cell.proofs.Agreement.{premium-at-le, claims-at-le}
-use Rattle.cell_projection.specs.Tables.{addedAll, AtMost}
-use Rattle.group_projection.proofs.Adding.{Small, sumOver, added-append, sum-from-zero, links-most, zero-most}
+use Rattle.cell_projection.specs.Tables.{addedAll}
+use Rattle.group_projection.proofs.Adding.{Small, sumOver, added-append, sum-from-zero, links-most}
 use Rattle.group_projection.proofs.Adding.{premium-sum-is, claims-sum-is}
 
 -- 121 classes a chain, 6 chains, and 1,000,000,000,000 a cell
@@ -29,15 +31,13 @@ mostSum = 726_000_000_000_000
 
 module _ (b : List ℕ) (v : ValidBook 1 b) where
   module _ (f : ℕ → ℕ → ℕ) (small : Small f b) where
-    chains-most : (left k m : ℕ) (t : List ℕ) → k + left ≤ 14 → AtMost m t
-        → AtMost (m + 121_000_000_000_000 * left) (addedAll f (linksOf b k left) t)
+    chains-most : (left k : ℕ) {m : ℕ} {t : List ℕ} → k + left ≤ 14 → AtMost m 500 t
+        → AtMost (m + 121_000_000_000_000 * left) 500 (addedAll f (linksOf b k left) t)
     unfolding linksOf addedAll
-    chains-most zero k m t few a j = omega (arith, a j)
-    chains-most (suc left) k m t few a j =
-        let first = links-most f b small k (omega arith) v m t a in
-        let more =
-        chains-most left (k + 1) (m + 121_000_000_000_000) (addedAll f (chainLinks b k) t) (omega arith) first j in
-        rw (added-append f (chainLinks b k) (linksOf b (k + 1) left) t) (omega (arith, more))
+    chains-most zero k few a = most-higher a (omega arith)
+    chains-most (suc left) k {t = t} few a =
+        rw (added-append f (chainLinks b k) (linksOf b (k + 1) left) t)
+        (most-higher (chains-most left (k + 1) (omega arith) (links-most f b small k (omega arith) v a)) (omega arith))
 
     group-most : (g k : ℕ) → g ≤ 5 → k < 500 → sumOver (λ i. f i k) (groupLinks b g) ≤ mostSum
     group-most g k hi year =
@@ -45,7 +45,7 @@ module _ (b : List ℕ) (v : ValidBook 1 b) where
         omega (
           arith,
           sum-from-zero f (groupLinks b g) (addedAll f (groupLinks b g) (replicate 500 0)) refl k year,
-          chains-most (chainsOf g) (firstChain g) 0 (replicate 500 0) (chains-few g hi) (zero-most 500) k,
+          chains-most (chainsOf g) (firstChain g) (chains-few g hi) (most-replicate 500 0) .each k year,
         )
 
   module _ (w : Decrements) (g k : ℕ) (hi : g ≤ 5) (year : k < 50) where

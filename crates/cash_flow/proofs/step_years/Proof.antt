@@ -25,8 +25,8 @@ step-year-requires c κs =
     let l = c .before .before .before .loop in
     let a = c .before .before .before .before in (
       omega arith,
-      rw (l .inv .2 .later (l .k) (omega arith)) (a .pre .3 (l .k) (omega arith)),
-      rw (l .inv .3 .later (l .k) (omega arith)) (a .pre .4 (l .k) (omega arith)),
+      rw (l .inv .2 .later (l .k) (omega arith)) (a .pre .3 .each (l .k) (omega arith)),
+      rw (l .inv .3 .later (l .k) (omega arith)) (a .pre .4 .each (l .k) (omega arith)),
       a .pre .2,
     )
 
@@ -38,8 +38,8 @@ step-year-requires-2 c κs =
     let p = stepped-more _ _ _ (l .k) (l .premium) _ (omega arith) (l .inv .2) (e .0) in
     let o = stepped-more _ _ _ (l .k) (l .outgo) _ (omega arith) (l .inv .3) (e .1) in (
       omega arith,
-      rw (p .later (l .k + 1) (omega arith)) (a .pre .3 (l .k + 1) (omega arith)),
-      rw (o .later (l .k + 1) (omega arith)) (a .pre .4 (l .k + 1) (omega arith)),
+      rw (p .later (l .k + 1) (omega arith)) (a .pre .3 .each (l .k + 1) (omega arith)),
+      rw (o .later (l .k + 1) (omega arith)) (a .pre .4 .each (l .k + 1) (omega arith)),
       a .pre .2,
     )
 
@@ -59,8 +59,8 @@ step-year-requires-3 c κs =
     let l = c .before .before .before .before .loop in
     let a = c .before .before .before .before .before in (
       omega arith,
-      rw (l .inv .2 .later (l .k) (omega arith)) (a .pre .3 (l .k) (omega arith)),
-      rw (l .inv .3 .later (l .k) (omega arith)) (a .pre .4 (l .k) (omega arith)),
+      rw (l .inv .2 .later (l .k) (omega arith)) (a .pre .3 .each (l .k) (omega arith)),
+      rw (l .inv .3 .later (l .k) (omega arith)) (a .pre .4 .each (l .k) (omega arith)),
       a .pre .2,
     )
 

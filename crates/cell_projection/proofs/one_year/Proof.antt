@@ -13,7 +13,7 @@ add-at-requires c κs =
       omega (arith, a .pre .1, a .pre .2),
       omega (
         arith,
-        a .pre .3 (10 * a .args .k + 2 * a .args .setting),
+        a .pre .3 .each (10 * a .args .k + 2 * a .args .setting) (omega (arith, a .pre .1, a .pre .2)),
         c .premium .ensures,
         premium-in-le _ _
             (a .pre .0),
@@ -26,7 +26,8 @@ add-at-requires-2 c κs =
       omega (arith, a .pre .1, a .pre .2),
       capacity (a .args .sums .now) _ (10 * a .args .k + 2 * a .args .setting) _
           (c .before .before .before .premium .result) _ (c .before .before .add-at .ensures) (λ q. omega (arith, q))
-          (a .pre .3) (omega (arith, c .claims .ensures, claims-in-le _ _ (a .pre .0))),
+          (a .pre .3) (omega (arith, a .pre .1, a .pre .2))
+          (omega (arith, c .claims .ensures, claims-in-le _ _ (a .pre .0))),
     )
 
 next-year-requires : tie.Need-next-year-requires

@@ -3,6 +3,7 @@
 use mathlib.Core.Path.{_≡_, sym, _∙_}
 use Prim.Native.Nat.{_<_}
 use native.Mathlib.Omega.{arith}
+use Rattle.lists.proofs.AtMost.{most-higher}
 use Rattle.cell.proofs.Cells.{state-start}
 use Rattle.cell_projection.proofs.Ends.{going-start}
 use Rattle.cell_projection.proofs.Single.{within-capacity, stopped-early, stopped-at-end, stopped-then}
@@ -17,7 +18,7 @@ project-stretch-requires c κs =
       omega arith,
       omega arith,
       record { state = c .before .new .ensures ∙ sym (state-start _ _ _ _); going = going-start _ },
-      λ j. omega (arith, a .pre .2 j),
+      most-higher (a .pre .2) (omega arith),
       a .pre .3,
     )
 
@@ -32,7 +33,7 @@ alone-requires c κs =
       a .pre .1,
       omega arith,
       stopped-at-end _ _ _ _ _ _ _ _ _ _ stop (c .before .before .if1 .left),
-      λ j. omega (arith, within-capacity _ _ _ _ _ _ _ _ (a .pre .0) (stop .sums) 2000000000000000 (a .pre .2) j),
+      most-higher (within-capacity _ _ _ _ _ _ _ _ (a .pre .0) (stop .sums) (a .pre .2)) (omega arith),
       a .pre .3,
     )
 

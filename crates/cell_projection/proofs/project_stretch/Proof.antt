@@ -4,6 +4,7 @@ use mathlib.Core.Path.{_≡_, refl}
 use Prim.Native.Nat.{ℕ, _-_, _≤_, _<_}
 use native.Mathlib.Omega.{arith}
 use borrow.Author.Tests.{ltb-true, ltb-false}
+use Rattle.lists.proofs.AtMost.{most-higher}
 use Rattle.cell_projection.specs.Projected.{ReachedIn}
 use Rattle.cell_projection.proofs.Single.{RunIn, within-start, within-capacity, run-ready, run-more, run-stops as stops}
 use Rattle.cell_projection.proofs.project_stretch.Statement.{statement}
@@ -38,8 +39,7 @@ one-year-requires c κs =
       run-ready _ _ _ _ _ _ _ _ _ _ (run m) (a .pre .0) year,
       a .pre .1,
       year,
-      λ j. omega
-          (arith, within-capacity _ _ _ _ _ _ _ _ (a .pre .0) (run m .3) 3000000000000000 (a .pre .5) j),
+      most-higher (within-capacity _ _ _ _ _ _ _ _ (a .pre .0) (run m .3) (a .pre .5)) (omega arith),
       a .pre .6,
     )
 

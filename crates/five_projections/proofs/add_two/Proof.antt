@@ -2,20 +2,23 @@
 -- nothing.
 use mathlib.Core.Path.{refl}
 use native.Mathlib.Omega.{arith}
-use borrow.Author.Needs.{needs}
 use Rattle.cell_projection.proofs.Years.{capacity, both}
 use Rattle.five_projections.proofs.add_two.Statement.{statement}
 use Rattle.five_projections.proofs.add_two.Tie as tie
 
 add-at-requires : tie.Need-add-at-requires
-add-at-requires c κs = let a = c .before in (omega (arith, a .pre .0), omega (arith, a .pre .1, a .pre .3 (a .args .j)))
+add-at-requires c κs = let a = c .before in (
+  omega (arith, a .pre .0),
+  omega (arith, a .pre .1, a .pre .3 .each (a .args .j) (omega (arith, a .pre .0))),
+)
 
 add-at-requires-2 : tie.Need-add-at-requires-2
 add-at-requires-2 c κs =
     let a = c .before .before .before in (
       omega (arith, a .pre .0),
       capacity (a .args .sums .now) _ (a .args .j) _ (a .args .x) _
-          (c .before .add-at .ensures) (λ q. omega (arith, q)) (a .pre .3) (a .pre .2),
+          (c .before .add-at .ensures) (λ q. omega (arith, q)) (a .pre .3)
+          (omega (arith, a .pre .0)) (a .pre .2),
     )
 
 returns : tie.Need-returns

@@ -1,10 +1,10 @@
 -- `five_projections::project` meets its contract: all five side by side, and then each alone. Assumes nothing.
-use mathlib.Core.Path.{_≡_, ap}
-use Prim.Native.Nat.{ℕ, _≤_, _<_}
+use mathlib.Core.Path.{ap}
 use native.Mathlib.Omega.{arith}
+use Rattle.lists.specs.AtMost.{AtMost}
+use Rattle.lists.proofs.AtMost.{most-higher}
 use Rattle.settings.specs.Settings.{fiveColumns}
 use Rattle.settings.specs.declared.FiveColumns.{FiveColumns}
-use Rattle.cell_projection.specs.Tables.{AtMost}
 use Rattle.five_projections.specs.Five.{fiveIn}
 use Rattle.five_projections.specs.declared.Five.{Five}
 use Rattle.cell_projection.proofs.Single.{within-capacity}
@@ -17,30 +17,26 @@ module _ (m : tie.After-side-by-side) where
   abbrev start : tie.Start
   start = m .before .before .before
 
-  capacity : AtMost 2001000000000000 (m .side-by-side .last .1 .1 .0)
-  capacity j =
+  capacity : AtMost 2001000000000000 500 (m .side-by-side .last .1 .1 .0)
+  capacity =
       let w = m .side-by-side .ensures in
-      omega (
-        arith,
-        run-capacity _ _ _ 0 _ _ _ _ (w .since, w .most, w .reached, w .sums) (start .pre .0) 2000000000000000
-            (start .pre .1) j,
-      )
+      run-capacity _ _ _ 0 _ _ _ _ (w .since, w .most, w .reached, w .sums) (start .pre .0) (start .pre .1)
 
-capacity-1 : (m : tie.After-alone) → AtMost 2002000000000000 (m .alone .last .1 .1 .1 .1 .1 .0)
+capacity-1 : (m : tie.After-alone) → AtMost 2002000000000000 500 (m .alone .last .1 .1 .1 .1 .1 .0)
 capacity-1 m = within-capacity _ _ _ 0 _ 50 _ _ (start (m .before .before .before .before) .pre .0) (m .alone .ensures .sums)
-    2001000000000000 (capacity (m .before .before .before .before))
+    (capacity (m .before .before .before .before))
 
-capacity-2 : (m : tie.After-alone2) → AtMost 2003000000000000 (m .alone2 .last .1 .1 .1 .1 .1 .0)
+capacity-2 : (m : tie.After-alone2) → AtMost 2003000000000000 500 (m .alone2 .last .1 .1 .1 .1 .1 .0)
 capacity-2 m = within-capacity _ _ _ 1 _ 50 _ _ (start (m .before .before .before .before .before .before .before) .pre .0) (m .alone2 .ensures .sums)
-    2002000000000000 (capacity-1 (m .before .before .before))
+    (capacity-1 (m .before .before .before))
 
-capacity-3 : (m : tie.After-alone3) → AtMost 2004000000000000 (m .alone3 .last .1 .1 .1 .1 .1 .0)
+capacity-3 : (m : tie.After-alone3) → AtMost 2004000000000000 500 (m .alone3 .last .1 .1 .1 .1 .1 .0)
 capacity-3 m = within-capacity _ _ _ 2 _ 50 _ _ (start (m .before .before .before .before .before .before .before .before .before .before) .pre .0) (m .alone3 .ensures .sums)
-    2003000000000000 (capacity-2 (m .before .before .before))
+    (capacity-2 (m .before .before .before))
 
-capacity-4 : (m : tie.After-alone4) → AtMost 2005000000000000 (m .alone4 .last .1 .1 .1 .1 .1 .0)
+capacity-4 : (m : tie.After-alone4) → AtMost 2005000000000000 500 (m .alone4 .last .1 .1 .1 .1 .1 .0)
 capacity-4 m = within-capacity _ _ _ 3 _ 50 _ _ (start (m .before .before .before .before .before .before .before .before .before .before .before .before .before) .pre .0) (m .alone4 .ensures .sums)
-    2004000000000000 (capacity-3 (m .before .before .before))
+    (capacity-3 (m .before .before .before))
 
 alone-requires : tie.Need-alone-requires
 unfolding fiveIn fiveColumns
@@ -52,7 +48,7 @@ alone-requires c κs =
       omega arith,
       w .most,
       record { state = ap (λ (x : Five). x .base) (w .reached .states); going = w .reached .going 0 (omega arith) },
-      λ j. omega (arith, capacity (c .before .before .before) j),
+      most-higher (capacity (c .before .before .before)) (omega arith),
       ap (λ (x : FiveColumns). x .base) (m .before .before .new .ensures),
     )
 
@@ -66,7 +62,7 @@ alone-requires-2 c κs =
       omega arith,
       w .most,
       record { state = ap (λ (x : Five). x .«mortality_up») (w .reached .states); going = w .reached .going 1 (omega arith) },
-      λ j. omega (arith, capacity-1 (c .before .before) j),
+      most-higher (capacity-1 (c .before .before)) (omega arith),
       ap (λ (x : FiveColumns). x .«mortality_up») (m .before .before .new .ensures),
     )
 
@@ -80,7 +76,7 @@ alone-requires-3 c κs =
       omega arith,
       w .most,
       record { state = ap (λ (x : Five). x .«mortality_down») (w .reached .states); going = w .reached .going 2 (omega arith) },
-      λ j. omega (arith, capacity-2 (c .before .before) j),
+      most-higher (capacity-2 (c .before .before)) (omega arith),
       ap (λ (x : FiveColumns). x .«mortality_down») (m .before .before .new .ensures),
     )
 
@@ -94,7 +90,7 @@ alone-requires-4 c κs =
       omega arith,
       w .most,
       record { state = ap (λ (x : Five). x .«lapse_up») (w .reached .states); going = w .reached .going 3 (omega arith) },
-      λ j. omega (arith, capacity-3 (c .before .before) j),
+      most-higher (capacity-3 (c .before .before)) (omega arith),
       ap (λ (x : FiveColumns). x .«lapse_up») (m .before .before .new .ensures),
     )
 
@@ -108,7 +104,7 @@ alone-requires-5 c κs =
       omega arith,
       w .most,
       record { state = ap (λ (x : Five). x .«lapse_down») (w .reached .states); going = w .reached .going 4 (omega arith) },
-      λ j. omega (arith, capacity-4 (c .before .before) j),
+      most-higher (capacity-4 (c .before .before)) (omega arith),
       ap (λ (x : FiveColumns). x .«lapse_down») (m .before .before .new .ensures),
     )
 

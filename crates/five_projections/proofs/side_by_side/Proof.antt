@@ -1,7 +1,8 @@
 -- `five_projections::side_by_side` meets its contract: year 0, the first five years, and the later ones where all have
 -- something in force. Assumes nothing.
-use mathlib.Core.Path.{_≡_, refl}
+use mathlib.Core.Path.{_≡_}
 use native.Mathlib.Omega.{arith}
+use Rattle.lists.proofs.AtMost.{most-higher}
 use Rattle.five_projections.specs.SideBySide.{ProjectedTo}
 use Rattle.cell_projection.proofs.Years.{late-start}
 use Rattle.five_projections.proofs.Fives.{Run, run-capacity, reached-start, first-run, run-then}
@@ -39,8 +40,7 @@ together-requires c κs =
       omega arith,
       omega arith,
       run .2,
-      λ j. omega
-          (arith, run-capacity _ _ _ _ _ _ _ _ run (a .pre .0) 2000000000000000 (a .pre .1) j),
+      most-higher (run-capacity _ _ _ _ _ _ _ _ run (a .pre .0) (a .pre .1)) (omega arith),
     )
 
 -- the first five years, as far as all have something in force
@@ -62,11 +62,8 @@ together-requires-2 c κs =
       omega arith,
       omega arith,
       rw five at (w .reached),
-      λ j. omega (
-        arith,
-        run-capacity _ _ _ 0 _ _ _ _ (w .since, omega (arith, w .most), w .reached, w .sums)
-            (a .pre .0) 2000000000000000 (a .pre .1) j,
-      ),
+      most-higher (run-capacity _ _ _ 0 _ _ _ _ (w .since, omega (arith, w .most), w .reached, w .sums)
+          (a .pre .0) (a .pre .1)) (omega arith),
     )
 
 returns-2 : tie.Need-returns-2

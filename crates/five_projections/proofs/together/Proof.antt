@@ -1,8 +1,8 @@
 -- `five_projections::together` meets its contract. The invariant is `Run`; the measure is the number of years left.
 -- Assumes nothing.
-use mathlib.Core.Path.{_≡_, refl}
 use Prim.Native.Nat.{ℕ, _-_, _≤_, _<_}
 use native.Mathlib.Omega.{arith}
+use Rattle.lists.proofs.AtMost.{most-higher}
 use Rattle.five_projections.specs.SideBySide.{Reached, ProjectedTo}
 use Rattle.cell_projection.proofs.Years.{late-start}
 use Rattle.five_projections.proofs.Fives.{Run, run-ready, run-capacity, run-more}
@@ -44,8 +44,7 @@ year-requires c κs =
     let year : m .loop .k < 50 = omega (arith, c .before .before .before .loop-test .taken, a .pre .2) in (
       run-ready _ _ _ _ _ _ _ _ (run m) (a .pre .0) year,
       year,
-      λ j. omega
-          (arith, run-capacity _ _ _ _ _ _ _ _ (run m) (a .pre .0) 2500000000000000 (a .pre .4) j),
+      most-higher (run-capacity _ _ _ _ _ _ _ _ (run m) (a .pre .0) (a .pre .4)) (omega arith),
       m .before .new .ensures,
     )
 

@@ -1,15 +1,15 @@
 -- `five_projections::year` meets its contract: five times one year, each at its own places. Assumes nothing.
-use mathlib.Core.Path.{_≡_, ap, _∙_}
+use mathlib.Core.Path.{_≡_, ap}
 use mathlib.Core.List.{List}
-use Prim.Native.Nat.{ℕ, _+_, _*_, _≤_, _<_}
+use Prim.Native.Nat.{ℕ, _+_, _*_}
 use native.Mathlib.Omega.{arith}
-use lib.ListN.{getD}
+use Rattle.lists.specs.AtMost.{AtMost}
+use Rattle.lists.proofs.AtMost.{most-higher}
 use Rattle.settings.specs.Settings.{fiveColumns}
 use Rattle.settings.specs.declared.FiveColumns.{FiveColumns}
 use Rattle.cell.specs.declared.Cell.{Cell}
 use Rattle.cell.specs.States.{Ready}
 use Rattle.cell.proofs.Cells.{premium-in-le, claims-in-le}
-use Rattle.cell_projection.specs.Tables.{AtMost}
 use Rattle.five_projections.specs.Five.{nextFive, tenMore}
 use Rattle.cell_projection.specs.Tables.{yearMore}
 use Rattle.five_projections.specs.declared.Five.{Five}
@@ -18,33 +18,27 @@ use Rattle.five_projections.proofs.year.Statement.{statement}
 use Rattle.five_projections.proofs.year.Tie as tie
 
 -- how much a year of one projection adds at most
-more : (t : List ℕ) (setting k m : ℕ) (c : Cell) (u v : List ℕ) → Ready t c → AtMost m u → v ≡ yearMore t setting k c u
-    → AtMost (m + 1000000000000) v
-more t setting k m c u v r a e j =
-    omega (
-      arith,
-      ap (λ (l : List ℕ). getD l j 0) e,
-      two-most u (10 * k + 2 * setting) _ _ m 1000000000000 a
-          (premium-in-le t c r) (claims-in-le t c r) j,
-    )
+more : {m : ℕ} (t : List ℕ) (setting k : ℕ) (c : Cell) (u v : List ℕ) → Ready t c → AtMost m 500 u
+    → v ≡ yearMore t setting k c u → AtMost (m + 1000000000000) 500 v
+more t setting k c u v r a e = two-most (10 * k + 2 * setting) a (premium-in-le t c r) (claims-in-le t c r) e
 
 -- the table after each of the first four
-after : (m : tie.After-one-year) → AtMost 3001000000000000 (m .one-year .last .1 .1 .1 .1 .1 .0)
-after m = let a = m .before .before in more _ 0 _ _ _ _ _ (a .pre .0 .base) (a .pre .2) (m .one-year .ensures .1)
+after : (m : tie.After-one-year) → AtMost 3001000000000000 500 (m .one-year .last .1 .1 .1 .1 .1 .0)
+after m = let a = m .before .before in more _ 0 _ _ _ _ (a .pre .0 .base) (a .pre .2) (m .one-year .ensures .1)
 
-after-2 : (m : tie.After-one-year2) → AtMost 3002000000000000 (m .one-year2 .last .1 .1 .1 .1 .1 .0)
+after-2 : (m : tie.After-one-year2) → AtMost 3002000000000000 500 (m .one-year2 .last .1 .1 .1 .1 .1 .0)
 after-2 m = let a =
-    m .before .before .before .before in more _ 1 _ _ _ _ _ (a .pre .0 .mortality-up) (after (m .before .before))
+    m .before .before .before .before in more _ 1 _ _ _ _ (a .pre .0 .mortality-up) (after (m .before .before))
     (m .one-year2 .ensures .1)
 
-after-3 : (m : tie.After-one-year3) → AtMost 3003000000000000 (m .one-year3 .last .1 .1 .1 .1 .1 .0)
+after-3 : (m : tie.After-one-year3) → AtMost 3003000000000000 500 (m .one-year3 .last .1 .1 .1 .1 .1 .0)
 after-3 m = let a =
-    m .before .before .before .before .before .before in more _ 2 _ _ _ _ _ (a .pre .0 .mortality-down)
+    m .before .before .before .before .before .before in more _ 2 _ _ _ _ (a .pre .0 .mortality-down)
     (after-2 (m .before .before)) (m .one-year3 .ensures .1)
 
-after-4 : (m : tie.After-one-year4) → AtMost 3004000000000000 (m .one-year4 .last .1 .1 .1 .1 .1 .0)
+after-4 : (m : tie.After-one-year4) → AtMost 3004000000000000 500 (m .one-year4 .last .1 .1 .1 .1 .1 .0)
 after-4 m = let a =
-    m .before .before .before .before .before .before .before .before in more _ 3 _ _ _ _ _ (a .pre .0 .lapse-up)
+    m .before .before .before .before .before .before .before .before in more _ 3 _ _ _ _ (a .pre .0 .lapse-up)
     (after-3 (m .before .before)) (m .one-year4 .ensures .1)
 
 one-year-requires : tie.Need-one-year-requires
@@ -54,7 +48,7 @@ one-year-requires c κs =
       a .pre .0 .base,
       omega arith,
       a .pre .1,
-      λ j. omega (arith, a .pre .2 j),
+      most-higher (a .pre .2) (omega arith),
       ap (λ (x : FiveColumns). x .base)
           (a .pre .3),
     )
@@ -66,7 +60,7 @@ one-year-requires-2 c κs =
       a .pre .0 .mortality-up,
       omega arith,
       a .pre .1,
-      λ j. omega (arith, after (c .before) j),
+      most-higher (after (c .before)) (omega arith),
       ap
           (λ (x : FiveColumns). x .«mortality_up») (a .pre .3),
     )
@@ -78,7 +72,7 @@ one-year-requires-3 c κs =
       a .pre .0 .mortality-down,
       omega arith,
       a .pre .1,
-      λ j. omega (arith, after-2 (c .before) j),
+      most-higher (after-2 (c .before)) (omega arith),
       ap
           (λ (x : FiveColumns). x .«mortality_down») (a .pre .3),
     )
@@ -90,7 +84,7 @@ one-year-requires-4 c κs =
       a .pre .0 .lapse-up,
       omega arith,
       a .pre .1,
-      λ j. omega (arith, after-3 (c .before) j),
+      most-higher (after-3 (c .before)) (omega arith),
       ap
           (λ (x : FiveColumns). x .«lapse_up») (a .pre .3),
     )
@@ -102,7 +96,7 @@ one-year-requires-5 c κs =
       a .pre .0 .lapse-down,
       omega arith,
       a .pre .1,
-      λ j. omega (arith, after-4 (c .before) j),
+      most-higher (after-4 (c .before)) (omega arith),
       ap
           (λ (x : FiveColumns). x .«lapse_down») (a .pre .3),
     )

@@ -3,8 +3,9 @@
 -- classes above. Assumes nothing.
 use mathlib.Core.Path.{_≡_, refl, sym, ap, _∙_}
 use mathlib.Core.List.{List}
-use Prim.Native.Nat.{ℕ, _+_, _-_, _<_, _≤_}
+use Prim.Native.Nat.{ℕ, _+_, _-_, _≤_}
 use native.Mathlib.Omega.{arith}
+use Rattle.lists.proofs.AtMost.{most-higher}
 use Rattle.book.specs.Layout.{classOf, fieldOf, countOffset}
 use Rattle.book.specs.Cells.{heldFrom}
 use Rattle.book.specs.Rules.{RecordRules}
@@ -114,8 +115,7 @@ project-by-requires c κs =
     let m = c .before .before in (
       projectable m _ (c .before .field-of .ensures .0),
       start m .pre .3,
-      λ j. omega
-          (arith, m .loop .inv .5 .1 j, few-left m),
+      most-higher (m .loop .inv .5 .1) (omega (arith, few-left m)),
       m .before .before
           .columns-in .ensures,
     )

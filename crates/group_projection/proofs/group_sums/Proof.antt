@@ -6,6 +6,7 @@ use Prim.Native.Nat.{ℕ, _+_, _-_, _*_, _<_, _≤_}
 use native.Mathlib.Omega.{arith}
 use borrow.Author.Needs.{needs}
 use lib.ListN.{getD, replicate}
+use Rattle.lists.proofs.AtMost.{most-higher, most-replicate}
 use Rattle.book.specs.Cells.{heldIn, sumOf, chainsOf, heldOfGroup}
 use Rattle.settings.specs.Settings.{decrementsOf}
 use Rattle.valuation.specs.Arithmetic.{rounded}
@@ -14,7 +15,7 @@ use Rattle.valuation.specs.Portfolio.{groupLinks, groupCells}
 use Rattle.cell_projection.specs.Tables.{amountIn, Among, addedAll}
 use Rattle.cell_projection.proofs.Records.{amount-in-le, premium-at, claims-at}
 use Rattle.group_projection.proofs.Adding.{Gather, gather-more, gather-end, group-cells-more, group-cells-end}
-use Rattle.group_projection.proofs.Adding.{zero-most, sum-from-zero, sum-same, premium-sum-is, claims-sum-is}
+use Rattle.group_projection.proofs.Adding.{sum-from-zero, sum-same, premium-sum-is, claims-sum-is}
 use Rattle.group_projection.proofs.group_sums.Statement.{statement}
 use Rattle.group_projection.proofs.group_sums.Tie as tie
 
@@ -40,7 +41,7 @@ loop-holds c =
       omega arith,
       omega arith,
       omega arith,
-      (rw none, rw none (λ j. omega (arith, zero-most 500 j))),
+      (rw none, rw none (most-higher (most-replicate 500 0) (omega arith))),
       omega arith,
     )
 
@@ -49,7 +50,7 @@ add-chain-requires c κs =
     let m = c .before .before .before in
     let a = m .before .before .before in
     let l = m .loop in
-    (a .pre .0, a .pre .1, omega arith, a .pre .4, λ j. omega (arith, l .inv .3 .1 j))
+    (a .pre .0, a .pre .1, omega arith, a .pre .4, most-higher (l .inv .3 .1) (omega arith))
 
 loop-again : tie.Need-loop-again Inv-loop μ-loop
 loop-again c =
@@ -104,7 +105,7 @@ returns c =
           record {
             premium-is = λ k q. premium-sum b (a .args .which) g s k (l .numbers) p h among q;
             claims-is = λ k q. claims-sum b (a .args .which) g s k (l .numbers) p h among q;
-            most = λ j. omega (arith, l .inv .3 .1 j);
+            most = most-higher (l .inv .3 .1) (omega arith);
           };
       n-is = sym (group-cells-end b (l .n) (l .k) to e) ∙ (rw (some, f .ensures .0) at (l .inv .4));
     }

@@ -4,6 +4,7 @@
 use mathlib.Core.Path.{_≡_, _∙_}
 use Prim.Native.Nat.{_+_, _-_, _*_, _≤_}
 use native.Mathlib.Omega.{arith}
+use Rattle.lists.proofs.AtMost.{most-fewer}
 use Rattle.valuation.specs.Arithmetic.{rounded}
 use Rattle.valuation.specs.Steps.{sumYears}
 use Rattle.valuation.specs.Portfolio.{divisorOf}
@@ -67,8 +68,8 @@ discount-requires c κs =
       omega arith,
       omega (arith, n .most, a .pre .0 .4),
       curve-divisors _ _ _ (a .pre .1),
-      λ k h. y .premium-in .most k (omega (arith, n .most)),
-      λ k h. y .outgo-in .most k (omega (arith, n .most)),
+      most-fewer (y .premium-in .most) (n .most),
+      most-fewer (y .outgo-in .most) (n .most),
     )
 
 loop-holds : tie.Need-loop-holds Inv-loop μ-loop
@@ -97,10 +98,10 @@ loop-holds c =
     )
 
 add-paid : tie.Need-add-paid Inv-loop μ-loop
-add-paid c = let l = c .before .loop in omega (arith, l .inv .6 .most (l .k) (c .loop-test .taken))
+add-paid c = let l = c .before .loop in omega (arith, l .inv .6 .most .each (l .k) (c .loop-test .taken))
 
 add-earned : tie.Need-add-earned Inv-loop μ-loop
-add-earned c = let l = c .before .loop in omega (arith, l .inv .7 .most (l .k) (c .loop-test .taken))
+add-earned c = let l = c .before .loop in omega (arith, l .inv .7 .most .each (l .k) (c .loop-test .taken))
 
 loop-again : tie.Need-loop-again Inv-loop μ-loop
 loop-again c =
@@ -112,8 +113,8 @@ loop-again c =
       omega arith,
       omega (arith, sum-more _ (l .k) _ _ (l .inv .2) (o .are (l .k) lt (l .inv .0))),
       omega (arith, sum-more _ (l .k) _ _ (l .inv .3) (p .are (l .k) lt (l .inv .0))),
-      omega (arith, o .most (l .k) lt),
-      omega (arith, p .most (l .k) lt),
+      omega (arith, o .most .each (l .k) lt),
+      omega (arith, p .most .each (l .k) lt),
       o,
       p,
     )

@@ -41,9 +41,8 @@ outgo-requires c κs =
     let a = c .before .before .before .before .before .before .before in (
       a .pre .0 .weighed,
       c .before .before .before .before .before .cost-rate-of .ensures .1,
-      a .pre .6 .most _,
-      a .pre
-          .6 .most _,
+      a .pre .6 .most .each _ (omega (arith, here (c .before .before))),
+      a .pre .6 .most .each _ (omega (arith, here (c .before .before))),
     )
 
 loop-again : tie.Need-loop-again Inv-loop μ-loop
@@ -73,7 +72,7 @@ loop-again c =
       length-set (l .outgo) (l .k) _ ∙ l .inv .3,
       in-more _ _ _ (l .k) _ (l .premium) (omega (arith, l .inv .2)) (l .inv .4)
           (premium-of b s g (l .k) due (o .result) (c .counted .result) (c .counted .ensures .0) due-is eo)
-          (omega (arith, c .counted .ensures .1, t .most (10 * l .k + 2 * p))),
+          (omega (arith, c .counted .ensures .1, t .most .each (10 * l .k + 2 * p) (omega (arith, here (c .before .before .before .before))))),
       in-more _ _ _ (l .k) _ (l .outgo) (omega (arith, l .inv .3)) (l .inv .5) eo (omega (arith, o .ensures .1)),
     )
 

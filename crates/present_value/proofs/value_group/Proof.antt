@@ -110,13 +110,13 @@ add-paid : tie.Need-add-paid Inv-loop μ-loop
 add-paid c =
     let m = c .before .before .before .before in
     let l = m .before .loop in
-    omega (arith, l .inv .9 .most (l .k) (m .loop-test .taken))
+    omega (arith, l .inv .9 .most .each (l .k) (m .loop-test .taken))
 
 add-earned : tie.Need-add-earned Inv-loop μ-loop
 add-earned c =
     let m = c .before .before .before .before in
     let l = m .before .loop in
-    omega (arith, l .inv .8 .most (l .k) (m .loop-test .taken))
+    omega (arith, l .inv .8 .most .each (l .k) (m .loop-test .taken))
 
 loop-again : tie.Need-loop-again Inv-loop μ-loop
 loop-again c =
@@ -136,8 +136,8 @@ loop-again c =
       years-more t cs (l .k) _ (a .table .now) (l .table) (w .last .0) e (omega arith) (l .inv .1) (w .ensures),
       sum-more _ (l .k) _ _ (l .inv .2) (o .are (l .k) lt (omega arith)),
       sum-more _ (l .k) _ _ (l .inv .3) (p .are (l .k) lt (omega arith)),
-      omega (arith, o .most (l .k) lt),
-      omega (arith, p .most (l .k) lt),
+      omega (arith, o .most .each (l .k) lt),
+      omega (arith, p .most .each (l .k) lt),
       l .inv .6,
       l .inv .7,
       p,

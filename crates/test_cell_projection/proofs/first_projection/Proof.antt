@@ -1,14 +1,15 @@
 -- `test_cell_projection::first_projection` is safe: the reading of the rows and the projection have what they ask for,
 -- from the check. Assumes nothing.
-use mathlib.Core.Path.{_≡_, refl, sym, _∙_}
+use mathlib.Core.Path.{refl, sym, _∙_}
 use Prim.Native.Nat.{_<_}
 use native.Mathlib.Omega.{arith}
 use borrow.Author.Needs.{needs}
+use Rattle.lists.proofs.AtMost.{most-higher, most-replicate}
 use Rattle.book.specs.Reading.{Standing, ValidBook}
 use Rattle.book.proofs.Valid.{valid}
 use Rattle.valuation.specs.Portfolio.{rowAt}
 use Rattle.valuation.proofs.Rows.{chain-standing}
-use Rattle.group_projection.proofs.Adding.{head-chain, zero-most}
+use Rattle.group_projection.proofs.Adding.{head-chain}
 use Rattle.cell_projection.proofs.Records.{projectable-here}
 use Rattle.test_cell_projection.proofs.first_projection.Statement.{statement}
 use Rattle.test_cell_projection.proofs.first_projection.Tie as tie
@@ -58,7 +59,7 @@ project-requires c κs =
     let read = c .before .before .before .read-rows .ensures in (
       projectable-here _ _ _ (stands m) _ read 0 _ _ (omega arith) refl
           (c .before .before .field-of .ensures .0),
-      λ j. omega (arith, zero-most 500 j),
+      most-higher (most-replicate 500 0) (omega arith),
     )
 
 years-of-requires : tie.Need-years-of-requires
