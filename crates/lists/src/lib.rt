@@ -1,2 +1,2 @@
-// A list by what a function gives for each index. It has no code: the definition stands in specs,
-// its laws in proofs.
+// Lists and sums by what a function gives for each index. It has no code: the definitions stand in
+// specs, their laws in proofs.
