@@ -1,2 +1,3 @@
 pub mod AtMost
 pub mod Each
+pub mod Sums

@@ -2,29 +2,24 @@
 use mathlib.Core.Path.{_≡_, refl}
 use mathlib.Core.Bool.{Bool, true, false}
 use mathlib.Core.List.{List}
-use Prim.Native.Nat.{ℕ, zero, suc, _+_, _*_, _≤_, _<_}
+use Prim.Native.Nat.{ℕ, _+_, _*_, _≤_, _<_}
 use native.Mathlib.Omega.{arith}
 use native.Mathlib.Nat.{mul-le-mul, lt-irrefl}
 use borrow.Author.Tests.{leb-true, leb-false}
 use lib.Dec.{leb}
 use lib.IntN.{ℤ, natAbs, _*ℤ_}
 use Rattle.arith.proofs.Division.{product-le}
+use Rattle.lists.specs.Sums.{signedSumBelow}
+use Rattle.lists.proofs.Sums.{sum-most}
 use Rattle.signed.specs.Signs.{numberAt, SizesTo}
 use Rattle.signed.proofs.Sizes.{abs-plus, abs-times}
 use Rattle.risk_model.specs.Model.{correlationAt}
-use Rattle.risk_form.specs.Form.{termOf, sumBelow, formOf}
+use Rattle.risk_form.specs.Form.{termOf, formOf}
 use Rattle.risk_form.specs.Root.{IntegerSquareRoot}
-
--- a sum of numbers of which none passes m either way
-pub sum-most : (f : ℕ → ℤ) (m n : ℕ) → ((i : ℕ) → i < n → natAbs (f i) ≤ m) → natAbs (sumBelow f n) ≤ m * n
-unfolding sumBelow
-sum-most f m zero each = omega arith
-sum-most f m (suc n) each =
-    omega (arith, abs-plus (sumBelow f n) (f n), sum-most f m n (λ i h. each i (omega arith)), each n (omega arith))
 
 -- the terms of row i, added
 abbrev pub rowOf : List ℤ → List ℤ → ℕ → ℤ
-rowOf r f i = sumBelow (λ (j : ℕ). termOf r f i j) 4
+rowOf r f i = signedSumBelow (λ (j : ℕ). termOf r f i j) 4
 
 module _ (r f : List ℤ) (known : SizesTo 1000 16 r) (small : SizesTo 1_000_000 4 f) where
   -- factor i times its correlation, and that times factor j
@@ -40,11 +35,11 @@ module _ (r f : List ℤ) (known : SizesTo 1000 16 r) (small : SizesTo 1_000_000
   pub term-most : (i j : ℕ) → i < 4 → j < 4 → natAbs (termOf r f i j) ≤ 1_000_000_000_000_000
   term-most i j hi hj = rw (abs-times (numberAt f i *ℤ correlationAt r i j) (numberAt f j)) (whole-most i j hi hj)
 
-  pub row-most : (i n : ℕ) → i < 4 → n ≤ 4 → natAbs (sumBelow (termOf r f i) n) ≤ 1_000_000_000_000_000 * n
-  row-most i n hi hn = sum-most (termOf r f i) _ n (λ j h. term-most i j hi (omega arith))
+  pub row-most : (i n : ℕ) → i < 4 → n ≤ 4 → natAbs (signedSumBelow (termOf r f i) n) ≤ 1_000_000_000_000_000 * n
+  row-most i n hi hn = sum-most _ _ natAbs refl abs-plus (termOf r f i) _ n (λ j h. term-most i j hi (omega arith))
 
-  pub rows-most : (n : ℕ) → n ≤ 4 → natAbs (sumBelow (rowOf r f) n) ≤ 4_000_000_000_000_000 * n
-  rows-most n hn = sum-most (rowOf r f) _ n (λ i h. omega (arith, row-most i 4 (omega arith) (omega arith)))
+  pub rows-most : (n : ℕ) → n ≤ 4 → natAbs (signedSumBelow (rowOf r f) n) ≤ 4_000_000_000_000_000 * n
+  rows-most n hn = sum-most _ _ natAbs refl abs-plus (rowOf r f) _ n (λ i h. omega (arith, row-most i 4 (omega arith) (omega arith)))
 
   pub form-most : natAbs (formOf r f) ≤ 16_000_000_000_000_000
   unfolding formOf

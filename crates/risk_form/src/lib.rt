@@ -1,8 +1,9 @@
 // The quadratic form of four factors with their correlation, and the whole root (FINMA 5.2.1).
 ghost use mathlib.Core.Path.{_≡_};
 ghost use Prim.Native.Nat.{_<_};
+ghost use Rattle.lists.specs.Sums.{signedSumBelow};
 ghost use Rattle.signed.specs.Signs.{SizesTo};
-ghost use Rattle.risk_form.specs.Form.{termOf, sumBelow, formOf};
+ghost use Rattle.risk_form.specs.Form.{termOf, formOf};
 ghost use Rattle.risk_form.specs.Root.{IntegerSquareRoot};
 use signed::Signed;
 use signed::of_four;
@@ -26,7 +27,7 @@ fn row(correlation: &[i64; 16], f: &[i64; 4], i: usize) -> Signed
         × SizesTo 1000 16 (now correlation)
         × SizesTo 1000000 4 (now f) ⌝ }
     ensures { λ r. ⌜
-        r .number ≡ sumBelow (termOf (now (correlation .entry)) (now (f .entry)) i) 4
+        r .number ≡ signedSumBelow (termOf (now (correlation .entry)) (now (f .entry)) i) 4
         ⌝ }
 {
     let mut sum = Signed { number: 0 };

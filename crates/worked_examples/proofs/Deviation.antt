@@ -4,12 +4,13 @@ use mathlib.Core.Path.{_≡_, refl, sym, ap, _∙_}
 use mathlib.Core.List.{List, [], _∷_}
 use native.Mathlib.Omega.{arith}
 use lib.IntN.{ℤ, pos, negsuc}
+use Rattle.lists.specs.Sums.{sumBy}
 use Rattle.verdict.specs.declared.Verdict.the-variants.{Accepted}
 use Rattle.conditions.specs.Every.{every}
 use Rattle.signed.specs.Signs.{numberAt}
 use Rattle.risk_model.specs.declared.RiskModel.{RiskModel}
 use Rattle.risk_model.specs.Model.{coefficientsRight, rightAt, correlationRight, modelValid}
-use Rattle.risk_form.specs.Form.{sumBelow, formOf}
+use Rattle.risk_form.specs.Form.{formOf}
 use Rattle.risk_form.specs.Root.{rootOf}
 use Rattle.risk_form.proofs.Squares.{root-is}
 use Rattle.risk_factors.specs.Factors.{scaledOf, factorsOf}
@@ -40,12 +41,12 @@ unfolding worked differences factorsOf scaledOf numberAt
 worked-factors = refl
 
 pub worked-form : formFor differences worked ≡ pos 7_479_308_595_000
-unfolding worked differences formFor formOf sumBelow factorsOf scaledOf numberAt
+unfolding worked differences formFor formOf sumBy factorsOf scaledOf numberAt
 worked-form = refl
 
 passed : Passed differences worked
 unfolding worked differences modelValid coefficientsRight correlationRight rightAt factorsSmall every formFor formOf
-    sumBelow factorsOf scaledOf numberAt
+    sumBy factorsOf scaledOf numberAt
 passed = record { model = refl; small = refl; form = refl }
 
 pub worked-example : factorsReply differences worked ≡ record { refusal = 0; place = 0; deviation = 86_482 }

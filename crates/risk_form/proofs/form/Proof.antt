@@ -3,21 +3,22 @@
 use mathlib.Core.Path.{_≡_, refl}
 use Prim.Native.Nat.{_-_, _≤_}
 use native.Mathlib.Omega.{arith}
-use Rattle.risk_form.specs.Form.{sumBelow, formOf}
-use Rattle.risk_form.proofs.Sums.{sum-more}
+use Rattle.lists.specs.Sums.{sumBy, signedSumBelow}
+use Rattle.lists.proofs.Sums.{sum-more}
+use Rattle.risk_form.specs.Form.{formOf}
 use Rattle.risk_form.proofs.Bounds.{rowOf, row-most, rows-most}
 use Rattle.risk_form.proofs.form.Statement.{statement}
 use Rattle.risk_form.proofs.form.Tie as tie
 
 abbrev Inv-loop : tie.InvT-loop
 Inv-loop correlation f sum₀ i₀ sum i =
-    (i ≤ 4) × (sum .number ≡ sumBelow (rowOf correlation f) i)
+    (i ≤ 4) × (sum .number ≡ signedSumBelow (rowOf correlation f) i)
 
 abbrev μ-loop : tie.MeasureT-loop
 μ-loop correlation f sum₀ i₀ sum i = 4 - i
 
 loop-holds : tie.Need-loop-holds Inv-loop μ-loop
-unfolding sumBelow
+unfolding sumBy
 loop-holds c = (omega arith, refl)
 
 row-requires : tie.Need-row-requires Inv-loop μ-loop
@@ -43,7 +44,7 @@ loop-again c =
     let a = m .before .args in
     let l = m .loop in (
       omega arith,
-      sum-more (rowOf (a .correlation .now) (a .f .now)) (l .i) _ _ _ (l .inv .1) (t .ensures) (c .plus .ensures),
+      sum-more _ _ (rowOf (a .correlation .now) (a .f .now)) (l .i) _ _ _ (l .inv .1) (t .ensures) (c .plus .ensures),
     )
 
 returns : tie.Need-returns Inv-loop μ-loop

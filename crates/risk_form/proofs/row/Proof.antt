@@ -3,21 +3,22 @@
 use mathlib.Core.Path.{_≡_, refl}
 use Prim.Native.Nat.{_-_, _≤_}
 use native.Mathlib.Omega.{arith}
-use Rattle.risk_form.specs.Form.{termOf, sumBelow}
-use Rattle.risk_form.proofs.Sums.{sum-more}
+use Rattle.lists.specs.Sums.{sumBy, signedSumBelow}
+use Rattle.lists.proofs.Sums.{sum-more}
+use Rattle.risk_form.specs.Form.{termOf}
 use Rattle.risk_form.proofs.Bounds.{term-most, row-most}
 use Rattle.risk_form.proofs.row.Statement.{statement}
 use Rattle.risk_form.proofs.row.Tie as tie
 
 abbrev Inv-loop : tie.InvT-loop
 Inv-loop correlation f i sum₀ j₀ sum j =
-    (j ≤ 4) × (sum .number ≡ sumBelow (termOf correlation f i) j)
+    (j ≤ 4) × (sum .number ≡ signedSumBelow (termOf correlation f i) j)
 
 abbrev μ-loop : tie.MeasureT-loop
 μ-loop correlation f i sum₀ j₀ sum j = 4 - j
 
 loop-holds : tie.Need-loop-holds Inv-loop μ-loop
-unfolding sumBelow
+unfolding sumBy
 loop-holds c = (omega arith, refl)
 
 term-requires : tie.Need-term-requires Inv-loop μ-loop
@@ -43,7 +44,7 @@ loop-again c =
     let a = m .before .args in
     let l = m .loop in (
       omega arith,
-      sum-more (termOf (a .correlation .now) (a .f .now) (a .i)) (l .j) _ _ _ (l .inv .1) (t .ensures)
+      sum-more _ _ (termOf (a .correlation .now) (a .f .now) (a .i)) (l .j) _ _ _ (l .inv .1) (t .ensures)
           (c .plus .ensures),
     )
 
