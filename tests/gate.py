@@ -42,7 +42,7 @@ def script(name, module, least):
     return Part(name, [sys.executable, "-m", module], least)
 
 
-PROOFS = Part("proofs, must-fail edits and programs", ["rt", "ci"], 420)
+PROOFS = Part("proofs, must-fail edits and programs", ["rt", "ci"], 421)
 # The proofs of `quick`: a crate that is as it was when it was proved is not proved again.
 QUICK_PROOFS = Part("proofs and programs", ["rt", "check"], 62)
 # What runs on the proved programs, two parts at once.
