@@ -9,13 +9,14 @@ use native.Mathlib.Omega.{arith}
 use borrow.Author.Tests.{eqb-true, eqb-false}
 use lib.Dec.{eqb}
 use Rattle.le_bytes.specs.Bytes.{readU32}
+use Rattle.lists.proofs.Sums.{sum-same}
 use Rattle.verdict.specs.declared.Verdict.the-variants.{Accepted}
 use Rattle.le_bytes.proofs.Same.{Same, u16-same, u32-same}
 use Rattle.book.specs.Layout.{headerSize, recordSize, lastClass, edition, percentPlace, percentAt, chains, records}
 use Rattle.book.specs.Layout.{headPlace, headOf, costPlace}
 use Rattle.book.specs.Layout.{curvePlace, mortalityPlace, recordAt, classOf, nextOf, fieldOf, countOffset}
 use Rattle.book.specs.Layout.{lapseOffset, premiumOffset, claimsOffset, linkFrom, linkAt}
-use Rattle.book.specs.Cells.{holds, heldFrom, heldIn, sumOf, heldInAll}
+use Rattle.book.specs.Cells.{holds, heldFrom, heldIn, heldInAll}
 use Rattle.book.specs.Check.{checkFrom, checkBook}
 use Rattle.book.specs.Rules.{HeaderRules, TableRules, RecordRules, ChainRules, Rules}
 use Rattle.book.proofs.Cells.{held-none}
@@ -159,16 +160,6 @@ module _ (b c : List ℕ) (t : ConversionRules b c) where
     rules-turned : Rules 1 c
     rules-turned = record { header = header-turned; tables = tables-turned; chain = chain-turned }
 
--- sums of numbers that are alike one by one
-sum-same : (f g : ℕ → ℕ) (left k : ℕ) → ((j : ℕ) → k ≤ j → j < k + left → f j ≡ g j) → sumOf f k left ≡ sumOf g k left
-unfolding sumOf
-sum-same f g zero k same = refl
-sum-same f g (suc left) k same =
-    rw (
-      same k (omega arith) (omega arith),
-      sum-same f g left (k + 1) (λ j lo hi. same j (omega arith) (omega arith)),
-    )
-
 -- what keeps the rules of a conversion is accepted, with the same n
 pub conversion-accepted : (b c : List ℕ) (n : ℕ) → ConversionRules b c → checkBook 2 b ≡ Accepted n
     → checkBook 1 c ≡ Accepted n
@@ -176,7 +167,7 @@ unfolding heldInAll
 conversion-accepted b c n t e =
     let r = accepted-rules 2 b n e in
     rules-accepted 1 c (rules-turned b c t r)
-    ∙ ap Accepted (sum-same _ _ chains 0 (λ k lo hi. chain-held b c t r k (omega arith)) ∙ sym (accepted-held 2 b n e))
+    ∙ ap Accepted (sum-same 0 _+_ _ _ chains (λ k few. chain-held b c t r k few) ∙ sym (accepted-held 2 b n e))
 
 -- every converted book passes the check, with the same n
 pub converted-accepted : (b : List ℕ) (n : ℕ) → checkBook 2 b ≡ Accepted n → checkBook 1 (converted b) ≡ Accepted n

@@ -6,8 +6,9 @@ use Prim.Native.Nat.{ℕ, zero, suc, _<_, _≤_}
 use native.Mathlib.Omega.{arith}
 use borrow.Author.Tests.{ne-eqb}
 use lib.Dec.{eqb}
+use Rattle.lists.specs.Sums.{sumBy, sumFrom}
 use Rattle.book.specs.Layout.{fieldOf, countOffset}
-use Rattle.book.specs.Cells.{holds, heldFrom, sumOf, heldOfGroup, heldInAll}
+use Rattle.book.specs.Cells.{holds, heldFrom, heldOfGroup, heldInAll}
 
 pub holds-some : (b : List ℕ) (i : ℕ) → 0 < i → holds b i ≡ cond (eqb (fieldOf b i countOffset) 0) 0 1
 unfolding holds
@@ -29,6 +30,6 @@ held-none b zero = refl
 held-none b (suc m) = rw (held-none b m)
 
 -- the five groups' n together are n over all groups
-pub groups-held : (b : List ℕ) (last : ℕ) → sumOf (heldOfGroup b last) 1 5 ≡ heldInAll b last
-unfolding sumOf heldOfGroup heldInAll
+pub groups-held : (b : List ℕ) (last : ℕ) → sumFrom (heldOfGroup b last) 1 5 ≡ heldInAll b last
+unfolding sumBy heldOfGroup heldInAll
 groups-held b last = omega arith

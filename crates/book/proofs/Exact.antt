@@ -1,7 +1,7 @@
 -- A book is accepted exactly where it keeps the rules, and then n is the number of its linked records that hold
 -- contracts.
 -- No record is linked twice. Assumes nothing.
-use mathlib.Core.Path.{_≡_, refl, sym}
+use mathlib.Core.Path.{_≡_, refl, sym, ap, _∙_}
 use mathlib.Core.Logic.{⊎-elim}
 use mathlib.Core.List.{List}
 use mathlib.Core.Bool.{Bool, true, false, cond}
@@ -11,6 +11,8 @@ use native.Mathlib.Omega.{arith}
 use borrow.Author.Tests.{le-leb, eq-eqb, ne-eqb, eqb-true, eqb-false}
 use lib.Dec.{leb, eqb}
 use lib.ListN.{length}
+use Rattle.lists.specs.Sums.{sumBy, sumFrom}
+use Rattle.lists.proofs.Sums.{sum-start, sum-first}
 use Rattle.verdict.specs.Verdicts.{_andThen_, need, joinAll}
 use Rattle.verdict.specs.declared.Verdict.{Verdict}
 use Rattle.verdict.specs.declared.Verdict.the-variants.{Accepted}
@@ -21,7 +23,7 @@ use Rattle.book.specs.Layout.{recordAt, classOf, nextOf, fieldOf, linkFr
 use Rattle.book.specs.Check.{checkSpare, checkPercents, checkByEdition, checkHeader, checkTables, checkOwner}
 use Rattle.book.specs.Check.{checkClass, checkAmounts, endsRight, checkLink, checkFrom, checkChain, checkChains}
 use Rattle.book.specs.Check.{checkBook}
-use Rattle.book.specs.Cells.{heldFrom, heldIn, sumOf, heldInAll}
+use Rattle.book.specs.Cells.{heldFrom, heldIn, heldInAll}
 use Rattle.book.specs.Rules.{HeaderRules, TableRules, RecordRules, ChainRules, Rules}
 use Rattle.book.specs.Reading.{ChainFrom, ValidBook}
 use Rattle.book.proofs.Cells.{held-none}
@@ -207,15 +209,15 @@ module _ (b : List ℕ) (last k : ℕ) where
 
 -- accepted runs, their counts added
 all-counted : (f : ℕ → Verdict) (g : ℕ → ℕ) (left k : ℕ) → ((j : ℕ) → k ≤ j → j < k + left → f j ≡ Accepted (g j))
-    → joinAll f k left ≡ Accepted (sumOf g k left)
-unfolding joinAll sumOf
+    → joinAll f k left ≡ Accepted (sumFrom g k left)
+unfolding joinAll sumBy
 all-counted f g zero k each = refl
 all-counted f g (suc left) k each =
     rw (
       each k (omega arith) (omega arith),
-      all-counted f g left (k + 1)
-          (λ j lo hi. each j (omega arith) (omega arith)),
+      all-counted f g left (k + 1) (λ j lo hi. each j (omega arith) (omega arith)),
     )
+    (ap Accepted (sym (sum-first g k left)))
 
 -- a book that keeps the rules is accepted, and n is as defined
 pub rules-accepted : (basis : ℕ) (b : List ℕ) → Rules basis b
@@ -227,7 +229,8 @@ rules-accepted basis b r =
     (then-good _ _ _ _
     (then-good _ _ _ _ (need-good _ _ _ (le-leb _ _ long)) (header-good basis b (r .header)))
     (tables-good b (r .tables)))
-    (all-counted _ _ chains 0 (λ k lo hi. chain-good b (lastClass basis) k (r .chain k (omega arith))))
+    (all-counted _ _ chains 0 (λ k lo hi. chain-good b (lastClass basis) k (r .chain k (omega arith)))
+    ∙ ap Accepted (sum-start (heldIn b (lastClass basis)) chains))
 
 -- n of an accepted book is the number of its linked records that hold contracts
 pub accepted-held : (basis : ℕ) (b : List ℕ) (n : ℕ) → checkBook basis b ≡ Accepted n

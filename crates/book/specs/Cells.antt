@@ -3,6 +3,7 @@ use mathlib.Core.Bool.{cond}
 use Prim.Native.Nat.{ℕ, zero, suc, _+_, _*_}
 use mathlib.Core.List.{List}
 use lib.Dec.{eqb}
+use Rattle.lists.specs.Sums.{sumBelow, sumFrom}
 use Rattle.book.specs.Layout.{chains, headOf, fieldOf, countOffset, recordAfter}
 
 -- 1 where record i holds contracts; 0 where its count is 0, and for no record
@@ -18,11 +19,6 @@ heldFrom b i (suc m) = holds b i + heldFrom b (recordAfter b i) m
 unfoldable pub heldIn : List ℕ → ℕ → ℕ → ℕ
 heldIn b last k = heldFrom b (headOf b k) (last + 1)
 
--- what f gives for k, k + 1 and so on, left of them, added
-unfoldable pub sumOf : (ℕ → ℕ) → ℕ → ℕ → ℕ
-sumOf f k zero = 0
-sumOf f k (suc left) = f k + sumOf f (k + 1) left
-
 -- Product group g, 1 to 5: PG1 has the chains of codes 1, 2 and 3, each later group those of one code.
 abbrev pub firstChain : ℕ → ℕ
 firstChain g = cond (eqb g 1) 0 (2 * g + 2)
@@ -32,8 +28,8 @@ chainsOf g = cond (eqb g 1) 6 2
 
 -- n of product group g
 unfoldable pub heldOfGroup : List ℕ → ℕ → ℕ → ℕ
-heldOfGroup b last g = sumOf (heldIn b last) (firstChain g) (chainsOf g)
+heldOfGroup b last g = sumFrom (heldIn b last) (firstChain g) (chainsOf g)
 
 -- n over all groups
 unfoldable pub heldInAll : List ℕ → ℕ → ℕ
-heldInAll b last = sumOf (heldIn b last) 0 chains
+heldInAll b last = sumBelow (heldIn b last) chains

@@ -4,15 +4,16 @@ use mathlib.Core.Path.{_≡_, refl, sym, ap, _∙_}
 use mathlib.Core.Logic.{⊎-elim}
 use mathlib.Core.List.{List}
 use Prim.Native.Nat.{ℕ, zero, suc, _+_, _-_, _<_, _≤_}
-use native.Mathlib.Nat.{add-zero, zero-add, eq-or-lt-of-le}
-use native.Mathlib.Numerals.{add-one}
+use native.Mathlib.Nat.{eq-or-lt-of-le}
 use native.Mathlib.Omega.{arith}
 use lib.Dec.{eqb}
 use lib.ListN.{length, getD}
+use Rattle.lists.specs.Sums.{sumBy, sumBelow, sumFrom}
+use Rattle.lists.proofs.Sums.{sum-first, sum-split}
 use Rattle.le_bytes.specs.Bytes.{readU16}
 use Rattle.verdict.specs.declared.Verdict.the-variants.{Accepted}
 use Rattle.book.specs.Layout.{edition, spareBytes, percentAt, mostPercent, chains, headOf}
-use Rattle.book.specs.Cells.{holds, heldFrom, heldIn, sumOf, heldInAll}
+use Rattle.book.specs.Cells.{holds, heldFrom, heldIn, heldInAll}
 use Rattle.book.specs.Check.{checkBook}
 use Rattle.book.specs.Rules.{HeaderRules, TableRules, ChainRules, Rules}
 use Rattle.book.proofs.Cells.{holds-some, held-none}
@@ -90,14 +91,6 @@ module _ (b : List ℕ) (v : Contents) (f : Fit v) (x : Laid b v) where
 abbrev some : List ℕ → ℕ → ℕ
 some l i = cond (eqb (getD l i 0) 0) 0 1
 
-sum-split : (g : ℕ → ℕ) (m n a : ℕ) → sumOf g a (m + n) ≡ sumOf g a m + sumOf g (a + m) n
-unfolding sumOf
-sum-split g zero n a = rw (zero-add n, add-zero, zero-add)
-sum-split g (suc m) n a =
-    let e : suc m + n ≡ suc (m + n) = omega arith in
-    let p : a + 1 + m ≡ a + suc m = omega arith in
-    rw (e, ← p) (omega (arith, sum-split g m n (a + 1)))
-
 -- n is counted along the entries.
 module _ (b : List ℕ) (v : Contents) (f : Fit v) (x : Laid b v) where
   holds-entry : (k j : ℕ) → k < chains → j < sizeOf (v .values .first) k
@@ -106,15 +99,15 @@ module _ (b : List ℕ) (v : Contents) (f : Fit v) (x : Laid b v) where
       ∙ rw (count-of-entry b v f x k j few h)
 
   held-steps : (k : ℕ) → k < chains → (m j : ℕ) → j < sizeOf (v .values .first) k → sizeOf (v .values .first) k ≤ j + m
-      → heldFrom b (numberOf (v .values .first) k j) m ≡ sumOf (some (v .counts))
+      → heldFrom b (numberOf (v .values .first) k j) m ≡ sumFrom (some (v .counts))
       (recordsBefore (v .values .first) k + j)
       (sizeOf (v .values .first) k - j)
-  unfolding heldFrom sumOf
+  unfolding heldFrom sumBy
   held-steps k few zero j h g = absurd (omega arith)
   held-steps k few (suc m) j h g =
       ⊎-elim
       (λ (e : j + 1 ≡ sizeOf (v .values .first) k).
-      let left : sizeOf (v .values .first) k - j ≡ 1 = omega arith in
+      let left : sizeOf (v .values .first) k - j ≡ suc 0 = omega arith in
       rw (
         holds-entry k j few h,
         after-some b (numberOf (v .values .first) k j) (omega arith),
@@ -122,6 +115,7 @@ module _ (b : List ℕ) (v : Contents) (f : Fit v) (x : Laid b v) where
         next-last (v .values .first) k j e,
         held-none b m,
         left,
+        sum-first (some (v .counts)) (recordsBefore (v .values .first) k + j) 0,
       ))
       (λ (l : j + 1 < sizeOf (v .values .first) k).
       let left : sizeOf (v .values .first) k - j ≡ suc (sizeOf (v .values .first) k - (j + 1)) = omega arith in
@@ -133,14 +127,15 @@ module _ (b : List ℕ) (v : Contents) (f : Fit v) (x : Laid b v) where
         next-of-entry b v f x k j few h,
         next-more (v .values .first) k j l,
         left,
+        sum-first (some (v .counts)) (recordsBefore (v .values .first) k + j) (sizeOf (v .values .first) k - (j + 1)),
         held-steps k few m (j + 1) l (omega arith),
         place,
       ))
       (eq-or-lt-of-le (omega arith))
 
   held-chain : (k : ℕ) → k < chains
-      → heldIn b 120 k ≡ sumOf (some (v .counts)) (recordsBefore (v .values .first) k) (sizeOf (v .values .first) k)
-  unfolding heldIn sumOf
+      → heldIn b 120 k ≡ sumFrom (some (v .counts)) (recordsBefore (v .values .first) k) (sizeOf (v .values .first) k)
+  unfolding heldIn sumBy
   held-chain k few =
       ⊎-elim
       (λ (z : sizeOf (v .values .first) k ≤ 0).
@@ -151,26 +146,26 @@ module _ (b : List ℕ) (v : Contents) (f : Fit v) (x : Laid b v) where
       let left : sizeOf (v .values .first) k - 0 ≡ sizeOf (v .values .first) k = omega arith in
       let e = held-steps k few 121 0 s (omega (arith, size-most (v .values .first) k)) in
       rw (head-is b v f x k few, head-some (v .values .first) k s) (e
-      ∙ ap (λ (p : ℕ). sumOf (some (v .counts)) p (sizeOf (v .values .first) k - 0)) place
-      ∙ ap (sumOf (some (v .counts)) (recordsBefore (v .values .first) k)) left))
+      ∙ ap (λ (p : ℕ). sumFrom (some (v .counts)) p (sizeOf (v .values .first) k - 0)) place
+      ∙ ap (λ (n : ℕ). sumFrom (some (v .counts)) (recordsBefore (v .values .first) k) n) left))
       (le-or-lt (sizeOf (v .values .first) k) 0)
 
-  -- the chains from k on, after those before k
-  held-chains : (left k : ℕ) → k + left ≡ chains
-      → sumOf (some (v .counts)) 0 (recordsBefore (v .values .first) k) + sumOf (heldIn b 120) k left ≡ sumOf
-      (some (v .counts)) 0 (recordsBefore (v .values .first) chains)
-  unfolding sumOf recordsBefore
-  held-chains zero k e =
-      let same : k ≡ 14 = omega arith in
-      rw same (add-zero _)
-  held-chains (suc left) k e =
-      let split = rw (zero-add (recordsBefore (v .values .first) k)) at
-      (sum-split (some (v .counts)) (recordsBefore (v .values .first) k) (sizeOf (v .values .first) k) 0) in
-      rw (add-one k) (omega (arith, held-chain k (omega arith), split, held-chains left (suc k) (omega arith)))
+  -- over the chains before k
+  held-chains : (k : ℕ) → k ≤ chains
+      → sumBelow (heldIn b 120) k ≡ sumBelow (some (v .counts)) (recordsBefore (v .values .first) k)
+  unfolding sumBy
+  held-chains zero h = refl
+  held-chains (suc k) h =
+      omega (
+        arith,
+        held-chain k (omega arith),
+        sum-split (some (v .counts)) (recordsBefore (v .values .first) k) (sizeOf (v .values .first) k),
+        held-chains k (omega arith),
+      )
 
   held-all : heldInAll b 120 ≡ notZero (v .counts)
-  unfolding heldInAll notZero sumOf recordsBefore
-  held-all = rw (f .counts-size) (omega (arith, held-chains chains 0 (omega arith)))
+  unfolding heldInAll notZero
+  held-all = rw (f .counts-size) (held-chains chains (omega arith))
 
 -- Contents that keep the rules give a book that is accepted.
 pub fit-accepted : (v : Contents) → Fit v → checkBook 1 (bookOf v) ≡ Accepted (notZero (v .counts))

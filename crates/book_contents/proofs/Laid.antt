@@ -7,6 +7,7 @@ use Prim.Native.Nat.{ℕ, zero, suc, _+_, _*_, _<_}
 use native.Mathlib.Omega.{arith}
 use lib.IntN.{pos}
 use lib.ListN.{length, getD, length-append}
+use Rattle.lists.specs.Sums.{sumBy}
 use Rattle.book.specs.Layout.{headerSize, recordSize, chains, headPlace, costPlace, curvePlace, mortalityPlace}
 use Rattle.buffer.specs.Text.{joined}
 use Rattle.book_contents.specs.Contents.{Contents, sizeOf, recordsBefore}
@@ -46,7 +47,7 @@ module _ (v : Contents) where
   chain-length k = joined-length (recordBytesOf v k) 24 (sizeOf (v .values .first) k) (entry-length k)
 
   chains-length : (k : ℕ) → length (joined (chainBytes v) k) ≡ 24 * recordsBefore (v .values .first) k
-  unfolding joined recordsBefore
+  unfolding joined sumBy
   chains-length zero = refl
   chains-length (suc k) =
       omega (arith, length-append (joined (chainBytes v) k) (chainBytes v k), chains-length k, chain-length k)

@@ -1,13 +1,14 @@
 -- A list in which the book of values that are not refused is laid: its header, its heads, its records and their links.
 -- Assumes nothing.
-use mathlib.Core.Path.{_≡_, ap, _∙_}
+use mathlib.Core.Path.{_≡_, refl, ap, _∙_}
 use mathlib.Core.Logic.{_⊎_, ⊎-elim}
 use mathlib.Core.List.{List}
 use Prim.Native.Nat.{ℕ, zero, suc, _+_, _*_, _<_, _≤_}
-use native.Mathlib.Nat.{eq-or-lt-of-le, not-suc-le-zero}
+use native.Mathlib.Nat.{eq-or-lt-of-le}
 use native.Mathlib.Omega.{arith}
 use borrow.Author.Tests.{eq-eqb, ne-eqb}
 use lib.ListN.{getD}
+use Rattle.lists.proofs.Sums.{sum-most, sum-within}
 use Rattle.le_bytes.specs.Bytes.{byteAt, readU16}
 use Rattle.book.specs.Layout.{headerSize, recordSize, chains, records, headPlace, headOf, recordAt, classOf, nextOf}
 use Rattle.book.specs.Layout.{fieldOf, countOffset, lapseOffset, premiumOffset, claimsOffset, linkFrom, linkAt}
@@ -28,19 +29,11 @@ module _ (first : List ℕ) where
   size-most k = omega arith
 
   pub before-most : (n : ℕ) → recordsBefore first n ≤ 121 * n
-  unfolding recordsBefore
-  before-most zero = omega arith
-  before-most (suc n) = omega (arith, before-most n, size-most n)
+  before-most n = sum-most 0 _+_ (λ x. x) refl (λ x y. omega arith) (sizeOf first) 121 n (λ k h. size-most k)
 
   -- a chain's numbers come before those of later chains
   pub before-more : (n k : ℕ) → k < n → recordsBefore first k + sizeOf first k ≤ recordsBefore first n
-  unfolding recordsBefore
-  before-more zero k h = absurd (not-suc-le-zero h)
-  before-more (suc n) k h =
-      ⊎-elim
-      (λ (e : k ≡ n). rw e (omega arith))
-      (λ (g : k < n). omega (arith, before-more n k g))
-      (eq-or-lt-of-le (omega arith))
+  before-more n k h = sum-within (sizeOf first) n k h
 
   -- heads and nexts
   pub head-none : (k : ℕ) → sizeOf first k ≡ 0 → headFor first k ≡ 0

@@ -4,6 +4,7 @@ use mathlib.Core.List.{List}
 use Prim.Native.Nat.{ℕ, zero, suc, _+_, _-_, _<_, _≤_}
 use native.Mathlib.Omega.{arith}
 use lib.ListN.{length, getD, length-append}
+use Rattle.lists.specs.Sums.{sumBy}
 use Rattle.book.specs.Layout.{chains, fieldOf, linkAt}
 use Rattle.buffer.specs.Text.{joined}
 use Rattle.book_contents.specs.Contents.{noClass, sizeOf, recordsBefore}
@@ -26,7 +27,7 @@ module _ (b first : List ℕ) (sizes : (k : ℕ) → k < chains → noClass - fi
   list-size k few = each-length _ (noClass - firstIn b k) ∙ sizes k few
 
   pub lists-size : (n : ℕ) → n ≤ chains → length (joined (listIn b offset) n) ≡ recordsBefore first n
-  unfolding joined recordsBefore
+  unfolding joined sumBy
   lists-size zero h = refl
   lists-size (suc n) h =
       omega (

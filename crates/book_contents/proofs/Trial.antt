@@ -1,15 +1,14 @@
 -- The paper's book of one record, from values and lists: no hypothesis of the theorems is empty. Assumes nothing.
 use mathlib.Core.Path.{_≡_, refl}
-use mathlib.Core.List.{List, [], _∷_}
-use Prim.Native.Nat.{ℕ}
+use mathlib.Core.List.{[], _∷_}
 use lib.IntN.{pos}
 use lib.ListN.{replicate}
+use Rattle.lists.specs.Sums.{sumBy}
 use Rattle.verdict.specs.Verdicts.{need, _andThen_, joinAll}
 use Rattle.le_bytes.specs.Fields.{within}
 use Rattle.verdict.specs.declared.Verdict.the-variants.{Accepted}
-use Rattle.book.specs.Cells.{sumOf}
 use Rattle.book.specs.Check.{checkBook}
-use Rattle.book_contents.specs.Contents.{Contents, given, sizeOf, recordsBefore}
+use Rattle.book_contents.specs.Contents.{Contents, given, sizeOf}
 use Rattle.book_contents.specs.Written.{bookOf}
 use Rattle.book_contents.specs.Limits.{checkMost, curveRate, checkCurve, checkLengths, checkGivenPercents}
 use Rattle.book_contents.specs.Limits.{checkEdition}
@@ -42,11 +41,11 @@ shaped = record { cost = refl; curve = refl; mortality = refl; first = refl }
 pub one-record-taken : checkContents oneRecord 1244 ≡ Accepted 0
 unfolding checkContents checkLengths checkGivenPercents checkEdition checkGivenTables checkLists checkMost checkCurve
     curveRate
-    joinAll need _andThen_ within sizeOf recordsBefore
+    joinAll need _andThen_ within sizeOf sumBy
 one-record-taken = refl
 
 pub one-record-accepted : checkBook 1 (bookOf oneRecord) ≡ Accepted 1
-unfolding notZero sumOf
+unfolding notZero sumBy
 one-record-accepted = written-accepted oneRecord 1244 0 one-record-taken
 
 pub one-record-back : contentsOf (bookOf oneRecord) ≡ oneRecord

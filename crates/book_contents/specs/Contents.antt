@@ -1,7 +1,8 @@
 -- What a user has who wants a book (W-205): the header's values, a first class for each chain, and four lists.
-use Prim.Native.Nat.{ℕ, zero, suc, _+_, _-_}
+use Prim.Native.Nat.{ℕ, _+_, _-_}
 use mathlib.Core.List.{List}
 use lib.ListN.{getD}
+use Rattle.lists.specs.Sums.{sumBelow}
 use Rattle.book.specs.Layout.{lastClass}
 use Rattle.book_contents.specs.declared.Values.{Values}
 
@@ -29,6 +30,5 @@ unfoldable pub sizeOf : List ℕ → ℕ → ℕ
 sizeOf first k = noClass - getD first k 0
 
 -- how many the chains before chain k have together
-unfoldable pub recordsBefore : List ℕ → ℕ → ℕ
-recordsBefore first zero = 0
-recordsBefore first (suc k) = recordsBefore first k + sizeOf first k
+abbrev pub recordsBefore : List ℕ → ℕ → ℕ
+recordsBefore first k = sumBelow (sizeOf first) k

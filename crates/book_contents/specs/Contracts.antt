@@ -6,11 +6,11 @@ use mathlib.Core.Path.{_≡_}
 use mathlib.Core.List.{List}
 use lib.Dec.{eqb}
 use lib.ListN.{length, getD, take}
+use Rattle.lists.specs.Sums.{sumBelow}
 use Rattle.verdict.specs.Verdicts.{refusalOf, placeOf, countOf}
 use Rattle.verdict.specs.declared.Verdict.{Verdict}
 use Rattle.verdict.specs.declared.Verdict.the-variants.{Accepted, Refused}
 use Rattle.book.specs.Layout.{records, countOffset, lapseOffset, premiumOffset, claimsOffset}
-use Rattle.book.specs.Cells.{sumOf}
 use Rattle.book.specs.Check.{checkBook}
 use Rattle.book_contents.specs.declared.Values.{Values}
 use Rattle.book_contents.specs.declared.WriteReply.{WriteReply}
@@ -46,7 +46,7 @@ writeReply v capacity = writeReplyFor (checkContents v capacity) (length (bookOf
 
 -- how many numbers of a list are not 0
 unfoldable pub notZero : List ℕ → ℕ
-notZero l = sumOf (λ (i : ℕ). cond (eqb (getD l i 0) 0) 0 1) 0 (length l)
+notZero l = sumBelow (λ (i : ℕ). cond (eqb (getD l i 0) 0) 0 1) (length l)
 
 -- Write: of contents v, with the caller's bytes from entry to exit
 pub record WriteContract (v : Contents) (entry exit : List ℕ) (r : WriteReply) : Type 0 where

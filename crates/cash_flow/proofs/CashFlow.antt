@@ -1,16 +1,17 @@
--- Laws of the year table, of the sums over the years, and of a difference with its sign. Assumes nothing.
+-- Laws of the year table, of a year, and of the liability. Assumes nothing.
 use mathlib.Core.Path.{_≡_, refl, sym, ap, _∙_}
 use mathlib.Core.List.{List, [], _∷_, _++_, append-assoc}
-use Prim.Native.Nat.{ℕ, suc, _+_, _-_, _*_, _≤_}
+use Prim.Native.Nat.{ℕ, suc, _+_, _*_, _≤_}
 use native.Mathlib.Numerals.{add-one}
 use native.Mathlib.Omega.{arith}
 use lib.IntN.{pos, _-ℤ_}
 use lib.ListN.{length, set, take, drop, length-append, length-drop}
 use lib.Seq.{sets-eq, take-at, drop-at, drop-drop}
+use Rattle.lists.specs.Sums.{sumBelow}
 use Rattle.settings.specs.Settings.{decrementsOf, outgoingsOf}
 use Rattle.valuation.specs.Arithmetic.{rounded}
 use Rattle.valuation.specs.Steps.{Cell, Terms, premiumSum, claimsSum, outgo, capped, countedPremium, discounted}
-use Rattle.valuation.specs.Steps.{discountedOutgo, discountedPremium, sumYears, totalOutgo, totalPremium, liability}
+use Rattle.valuation.specs.Steps.{discountedOutgo, discountedPremium, totalOutgo, totalPremium, liability}
 use Rattle.valuation.specs.Portfolio.{costRateOf, divisorOf, termsOf, groupCells}
 use Rattle.valuation.specs.Replies.{groupLiability, yearTable}
 use Rattle.valuation.proofs.GroupContract.{length-years}
@@ -64,11 +65,6 @@ pub year-is : (t : Terms) (cs : List Cell) (k a b c d : ℕ) → a ≡ countedPr
 unfolding yearOf
 year-is t cs k a b c d h1 h2 h3 h4 = rw (h1, h2, h3, h4)
 
--- one year more in a sum over the years
-pub sum-more : (f : ℕ → ℕ) (n x y : ℕ) → x ≡ sumYears rounded n f → y ≡ f n → x + y ≡ sumYears rounded (n + 1) f
-unfolding sumYears
-sum-more f n x y e h = rw (add-one n) (cc)
-
 module _ (b : List ℕ) (s g : ℕ) where
   -- outgo and cap of the year's sums are the valuation's
   pub outgo-of : (k rate p c x : ℕ) → x ≡ outgoOf (outgoingsOf s) k rate p c → rate ≡ costRateOf b g
@@ -98,8 +94,8 @@ module _ (b : List ℕ) (s g : ℕ) where
   premium-discounted k = refl
 
   pub liability-is : (k paid earned : ℕ) → k ≡ 50
-      → paid ≡ sumYears rounded k (discountedOutgo rounded (termsOf b s g) (groupCells b (decrementsOf b s) g))
-      → earned ≡ sumYears rounded k (discountedPremium rounded (termsOf b s g) (groupCells b (decrementsOf b s) g))
+      → paid ≡ sumBelow (discountedOutgo rounded (termsOf b s g) (groupCells b (decrementsOf b s) g)) k
+      → earned ≡ sumBelow (discountedPremium rounded (termsOf b s g) (groupCells b (decrementsOf b s) g)) k
       → pos paid -ℤ pos earned ≡ groupLiability b s g
   unfolding groupLiability liability totalOutgo totalPremium
   liability-is k paid earned h hp he =
@@ -107,4 +103,4 @@ module _ (b : List ℕ) (s g : ℕ) where
       let o = rw h at hp in
       let p = rw h at he in
       ap (λ (x : ℕ). pos x -ℤ pos earned) o ∙ ap
-      (λ (x : ℕ). pos (sumYears rounded 50 (discountedOutgo rounded (termsOf b s g) cs)) -ℤ pos x) p
+      (λ (x : ℕ). pos (sumBelow (discountedOutgo rounded (termsOf b s g) cs) 50) -ℤ pos x) p

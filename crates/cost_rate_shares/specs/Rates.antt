@@ -5,19 +5,16 @@ use mathlib.Core.List.{List, [], _∷_}
 use lib.ListN.{getD}
 use lib.Dec.{eqb}
 use Rattle.conditions.specs.Every.{every}
+use Rattle.lists.specs.Sums.{sumBelow}
 use Rattle.cost_rate_shares.specs.declared.Accounts.{Accounts}
 
 -- the figure of a year, 0 to 2, and a group, 0 for PG1 to 4 for PG5
 unfoldable pub figure : List ℕ → ℕ → ℕ → ℕ
 figure figures year group = getD figures (5 * year + group) 0
 
--- what f gives for the five groups, added
-unfoldable pub overGroups : (ℕ → ℕ) → ℕ
-overGroups f = f 0 + f 1 + f 2 + f 3 + f 4
-
 -- a year's sum over the five groups
 unfoldable pub yearSum : List ℕ → ℕ → ℕ
-yearSum figures year = overGroups (figure figures year)
+yearSum figures year = sumBelow (figure figures year) 5
 
 -- step 1: the year's expenses less 5 percent
 unfoldable pub lowered : List ℕ → ℕ → ℕ

@@ -3,10 +3,11 @@ use Prim.Native.Nat.{ℕ, _+_, _≤_, _<_}
 use mathlib.Core.Path.{_≡_}
 use mathlib.Core.List.{List, [], _∷_}
 use Rattle.lists.specs.AtMost.{AtMost}
+use Rattle.lists.specs.Sums.{sumBelow}
 use Rattle.verdict.specs.declared.Verdict.{Verdict}
 use Rattle.verdict.specs.declared.Verdict.the-variants.{Accepted, Refused}
 use Rattle.cost_rate_shares.specs.declared.Accounts.{Accounts}
-use Rattle.cost_rate_shares.specs.Rates.{overGroups, lowered, share, ratesOf}
+use Rattle.cost_rate_shares.specs.Rates.{lowered, share, ratesOf}
 use Rattle.cost_rates.specs.declared.CostRates.{CostRates}
 use Rattle.cost_rates.specs.Refusals.{highestRate, checkAccounts}
 
@@ -21,7 +22,7 @@ costRates a = ratesReplyFor (checkAccounts a) (ratesOf a)
 
 -- the five shares of a year together, where its expenses are split by stock, or by claims
 unfoldable pub sharesOf : List ℕ → List ℕ → ℕ → ℕ
-sharesOf expenses split year = overGroups (share expenses split year)
+sharesOf expenses split year = sumBelow (share expenses split year) 5
 
 -- the shares of a year's split: together never above its lowered expenses, and less than 5 francs below them
 pub record SplitWhole (expenses split : List ℕ) (year : ℕ) : Type 0 where

@@ -10,8 +10,10 @@ use lib.Dec.{eqb}
 use lib.ListN.{length, getD, replicate, length-replicate, getD-replicate}
 use Rattle.lists.specs.AtMost.{AtMost}
 use Rattle.lists.proofs.AtMost.{most-higher}
+use Rattle.lists.specs.Sums.{sumBy, sumFrom}
+use Rattle.lists.proofs.Sums.{sum-more}
 use Rattle.book.specs.Layout.{headOf, classOf, nextOf}
-use Rattle.book.specs.Cells.{holds, heldFrom, heldIn, sumOf}
+use Rattle.book.specs.Cells.{holds, heldFrom, heldIn}
 use Rattle.book.specs.Reading.{ChainFrom, Standing, ValidBook}
 use Rattle.book.proofs.Cells.{held-none}
 use Rattle.book.proofs.Links.{after-some}
@@ -206,16 +208,14 @@ module _ (f : ℕ → ℕ → ℕ) (b : List ℕ) (small : Small f b) (v : Valid
       let z : to - to ≡ 0 = omega arith in
       rw z at (rw e at (g .0))
 
--- n over the chains of a group
-pub group-cells-more : (b : List ℕ) (n k to m : ℕ) → k < to → m ≡ heldIn b 120 k
-    → n + sumOf (heldIn b 120) k (to - k) ≡ (n + m) + sumOf (heldIn b 120) (k + 1) (to - (k + 1))
-unfolding sumOf
-group-cells-more b n k to m h e =
-    let s : to - k ≡ suc (to - (k + 1)) = omega arith in
-    rw (s, e) (omega arith)
+-- n over the chains of a group: of none, and with one more
+pub group-held-none : (b : List ℕ) (from : ℕ) → 0 ≡ sumFrom (heldIn b 120) from (from - from)
+unfolding sumBy
+group-held-none b from = let z : from - from ≡ 0 = omega arith in rw z refl
 
-pub group-cells-end : (b : List ℕ) (n k to : ℕ) → k ≡ to → n + sumOf (heldIn b 120) k (to - k) ≡ n
-unfolding sumOf
-group-cells-end b n k to e =
-    let z : to - k ≡ 0 = omega arith in
-    rw z (omega arith)
+pub group-held-more : (b : List ℕ) (from k n m : ℕ) → from ≤ k → n ≡ sumFrom (heldIn b 120) from (k - from)
+    → m ≡ heldIn b 120 k → n + m ≡ sumFrom (heldIn b 120) from (k + 1 - from)
+group-held-more b from k n m h en em =
+    let next : k + 1 - from ≡ k - from + 1 = omega arith in
+    let chain : from + (k - from) ≡ k = omega arith in
+    rw next (sum-more 0 _+_ _ (k - from) n m _ en (rw chain em) refl)

@@ -1,7 +1,9 @@
 -- Laws of sums over an index: when two are equal, one term more, at either end, in two parts, and bounds. Assumes
 -- nothing.
-use mathlib.Core.Path.{_≡_, refl, sym, ap, _∙_}
+use mathlib.Core.Path.{_≡_, refl, ap, _∙_}
+use mathlib.Core.Logic.{⊎-elim}
 use Prim.Native.Nat.{ℕ, zero, suc, _+_, _*_, _<_, _≤_}
+use native.Mathlib.Nat.{zero-add, eq-or-lt-of-le, not-suc-le-zero}
 use native.Mathlib.Numerals.{add-one}
 use native.Mathlib.Omega.{arith}
 use Rattle.lists.specs.Sums.{sumBy, sumBelow, sumFrom}
@@ -32,6 +34,10 @@ module _ {A : Type 0} (none : A) (plus : A → A → A) where
         each n (omega arith),
       )
 
+-- from 0 on
+pub sum-start : (f : ℕ → ℕ) (n : ℕ) → sumFrom f 0 n ≡ sumBelow f n
+sum-start f n = sum-same 0 _+_ (λ j. f (0 + j)) f n (λ j h. ap f (zero-add j))
+
 -- the first term apart
 pub sum-first : (f : ℕ → ℕ) (k n : ℕ) → sumFrom f k (suc n) ≡ f k + sumFrom f (k + 1) n
 unfolding sumBy
@@ -47,3 +53,21 @@ sum-split f m zero = let e : m + 0 ≡ m = omega arith in rw e (omega arith)
 sum-split f m (suc n) =
     let e : m + suc n ≡ suc (m + n) = omega arith in
     rw e (omega (arith, sum-split f m n))
+
+-- terms of 0 add nothing
+pub sum-rest : (f : ℕ → ℕ) (m n : ℕ) → ((j : ℕ) → m ≤ j → j < m + n → f j ≡ 0) → sumBelow f (m + n) ≡ sumBelow f m
+sum-rest f m n none =
+    omega (
+      arith,
+      sum-split f m n,
+      sum-most 0 _+_ (λ x. x) refl (λ x y. omega arith) (λ j. f (m + j)) 0 n
+          (λ j h. omega (arith, none (m + j) (omega arith) (omega arith))),
+    )
+
+-- a term and those before it are no more than the sum
+pub sum-within : (f : ℕ → ℕ) (n k : ℕ) → k < n → sumBelow f k + f k ≤ sumBelow f n
+unfolding sumBy
+sum-within f zero k h = absurd (not-suc-le-zero h)
+sum-within f (suc n) k h =
+    ⊎-elim (λ (e : k ≡ n). rw e (omega arith)) (λ (g : k < n). omega (arith, sum-within f n k g))
+    (eq-or-lt-of-le (omega arith))

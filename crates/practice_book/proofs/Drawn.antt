@@ -9,6 +9,7 @@ use native.Mathlib.Nat.{mod-lt}
 use borrow.Author.Tests.{le-leb, lt-ltb, le-ltb}
 use lib.IntN.{ℤ, pos}
 use lib.ListN.{length, getD, replicate, getD-replicate, List·getD-eq-default}
+use Rattle.lists.specs.Sums.{sumBy}
 use Rattle.verdict.specs.declared.Verdict.the-variants.{Accepted}
 use Rattle.book.specs.Layout.{chains, mostRecords, mostRate, mostCount, mostAmount}
 use Rattle.book.specs.Check.{checkBook}
@@ -70,7 +71,7 @@ first-0 k =
     (le-or-lt 14 k)
 
 full : recordsBefore firsts chains ≡ mostRecords
-unfolding recordsBefore sizeOf
+unfolding sumBy sizeOf
 full = refl
 
 pub drawn-fit : (w : GeneratorState) → Fit (drawnContents w)

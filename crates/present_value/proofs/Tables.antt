@@ -8,11 +8,12 @@ use native.Mathlib.Omega.{arith}
 use lib.ListN.{length, getD, set, replicate}
 use lib.Seq.{getD-set-same, getD-set-other}
 use Rattle.lists.proofs.AtMost.{most-higher, most-fewer, most-replicate}
+use Rattle.lists.specs.Sums.{sumBelow}
+use Rattle.lists.proofs.Sums.{sum-rest}
 use Rattle.valuation.specs.Arithmetic.{rounded}
-use Rattle.valuation.specs.Steps.{discounted, sumYears}
+use Rattle.valuation.specs.Steps.{discounted}
 use Rattle.valuation.specs.Portfolio.{divisorOf}
 use Rattle.cash_flow.specs.CashFlow.{Divisors, DiscountedIn}
-use Rattle.cash_flow.proofs.CashFlow.{sum-more}
 use Rattle.present_value.specs.Outcome.{CurveOf, InYears, NoneFrom}
 
 -- what holds of each number before k, and of the one stored there, holds of each before k + 1
@@ -58,30 +59,16 @@ unfolding discounted
 discounted-none d zero = refl
 discounted-none d (suc j) = rw (discounted-none d j, zero-mul, zero-div)
 
--- years that give nothing add nothing
-sum-none : (f : ℕ → ℕ) (n j : ℕ) → ((k : ℕ) → n ≤ k → k < n + j → f k ≡ 0)
-    → sumYears rounded n f ≡ sumYears rounded (n + j) f
-sum-none f n zero h = let e : n + 0 ≡ n = omega arith in rw e refl
-sum-none f n (suc j) h =
-    let e : n + suc j ≡ n + j + 1 = omega arith in
-    let z : 0 ≡ f (n + j) = sym (h (n + j) (omega arith) (omega arith)) in
-    rw e (omega (
-      arith,
-      sum-none f n j (λ k l u. h k l (omega arith)),
-      sum-more f (n + j) (sumYears rounded (n + j) f) 0
-          refl z,
-    ))
-
--- so the years that have an amount give what all do
+-- years that give nothing add nothing: the years up to the last with an amount give what all do
 pub sum-to-end : (D : ℕ → ℕ) (f g : ℕ → ℕ) (m from end to : ℕ) (table : List ℕ)
     → ((k : ℕ) → g k ≡ discounted rounded (D k) k (f k))
     → InYears f m from to table → from ≤ end → end ≤ to → ((k : ℕ) → end ≤ k → k < to → getD table k 0 ≡ 0)
-    → sumYears rounded end g ≡ sumYears rounded to g
+    → sumBelow g end ≡ sumBelow g to
 sum-to-end D f g m from end to table e y least most none =
     let there : end + (to - end) ≡ to = omega arith in
-    rw there at (sum-none g end (to - end) (λ k l u.
+    sym (rw there at (sum-rest g end (to - end) (λ k l u.
     let z : f k ≡ 0 = sym (y .are k (omega arith) (omega arith)) ∙ none k l (omega arith) in
-    e k ∙ rw z (discounted-none (D k) k)))
+    e k ∙ rw z (discounted-none (D k) k))))
 
 -- fewer years
 pub in-fewer : (f : ℕ → ℕ) (m from end to : ℕ) (table : List ℕ) → end ≤ to → InYears f m from to table

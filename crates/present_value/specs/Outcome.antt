@@ -6,9 +6,10 @@ use lib.IntN.{ℤ}
 use lib.Signed.{mag}
 use lib.ListN.{getD, drop}
 use Rattle.lists.specs.AtMost.{AtMost}
+use Rattle.lists.specs.Sums.{sumBelow}
 use Rattle.settings.specs.Settings.{decrementsOf}
 use Rattle.valuation.specs.Arithmetic.{rounded}
-use Rattle.valuation.specs.Steps.{outgo, countedPremium, discountedOutgo, discountedPremium, sumYears}
+use Rattle.valuation.specs.Steps.{outgo, countedPremium, discountedOutgo, discountedPremium}
 use Rattle.valuation.specs.Portfolio.{divisorOf, termsOf, groupCells}
 use Rattle.valuation.specs.Replies.{groupLiability, yearTable}
 use Rattle.cash_flow.specs.CashFlow.{Divisor}
@@ -58,9 +59,8 @@ yearPremium b setting g = discountedPremium rounded (termsOf b setting g) (group
 
 -- what the years from `from` to before `to` give: what those before `to` give, less those before `from`
 pub record AmountsIn (b : List ℕ) (setting g from to : ℕ) (r : Amounts) : Type 0 where
-  pub outgo-is : sumYears rounded from (yearOutgo b setting g) + r .outgo ≡ sumYears rounded to (yearOutgo b setting g)
-  pub premium-is : sumYears rounded from (yearPremium b setting g) + r .premium ≡ sumYears rounded to
-      (yearPremium b setting g)
+  pub outgo-is : sumBelow (yearOutgo b setting g) from + r .outgo ≡ sumBelow (yearOutgo b setting g) to
+  pub premium-is : sumBelow (yearPremium b setting g) from + r .premium ≡ sumBelow (yearPremium b setting g) to
   -- so that two of them can be added
   pub outgo-most : r .outgo ≤ 9_000_000_000_000_000 * to
   pub premium-most : r .premium ≤ 9_000_000_000_000_000 * to

@@ -3,11 +3,10 @@
 use mathlib.Core.Path.{_≡_, refl, ap, _∙_}
 use mathlib.Core.List.{List}
 use mathlib.Core.Bool.{Bool, true, false}
-use Prim.Native.Nat.{ℕ, zero, suc, _+_, _-_, _<_, _≤_, _^_}
+use Prim.Native.Nat.{ℕ, _+_, _-_, _<_, _≤_, _^_}
 use mathlib.Core.Logic.{⊎-elim}
-use native.Mathlib.Nat.{suc-add, eq-or-lt-of-le}
+use native.Mathlib.Nat.{eq-or-lt-of-le}
 use native.Mathlib.Omega.{arith}
-use native.Mathlib.Numerals.{add-one}
 use lib.Dec.{ltb}
 use lib.IntN.{ℤ, pos, _+ℤ_, _-ℤ_}
 use lib.ListN.{length, getD, set, replicate, length-set, getD-replicate, List·getD-eq-default}
@@ -16,27 +15,22 @@ use lib.Signed.{mag}
 use mir.Syntax.{w64}
 use mir.Val.{toZ, ofZ, hbits}
 use borrow.Author.Tests.{le-ltb, ltb-true, ltb-false}
+use Rattle.lists.specs.Sums.{sumBy, sumBelow}
+use Rattle.lists.proofs.Sums.{sum-same, sum-more, sum-split}
 use Rattle.settings.specs.Settings.{decrementsOf, outgoingsOf}
 use Rattle.settings.proofs.Weights.{each-setting}
 use Rattle.present_value.specs.declared.Amounts.{Amounts}
 use Rattle.signed.proofs.Sizes.{signed-roundtrip, less-mag}
 use Rattle.cash_flow.proofs.CashFlow.{liability-is}
 use Rattle.present_value.specs.Outcome.{AmountsIn, yearOutgo, yearPremium}
-use Rattle.valuation.specs.Arithmetic.{rounded}
-use Rattle.valuation.specs.Steps.{outgo, countedPremium, discountedOutgo, discountedPremium, sumYears}
+use Rattle.valuation.specs.Steps.{outgo, countedPremium, discountedOutgo, discountedPremium}
 use Rattle.valuation.specs.Portfolio.{termsOf}
 use Rattle.valuation.specs.Replies.{groupLiability}
-use Rattle.valuation.specs.Totals.{sumGroups, totalOf, totalsOf}
+use Rattle.valuation.specs.Totals.{totalOf, totalsOf}
 use Rattle.totals.specs.Sums.{Sum, Sums, Sizes}
 
--- one group more
-pub sum-more : (f : ℕ → ℤ) (n : ℕ) (x y z : ℤ) → x ≡ sumGroups f n → y ≡ f (n + 1) → z ≡ x +ℤ y
-    → z ≡ sumGroups f (n + 1)
-unfolding sumGroups
-sum-more f n x y z ex ey ez = ez ∙ ap (λ (t : ℤ). t +ℤ y) ex ∙ ap (λ (t : ℤ). sumGroups f n +ℤ t) ey ∙ rw (add-one n)
-
-no-years : (f : ℕ → ℕ) → sumYears rounded 0 f ≡ 0
-unfolding sumYears
+no-years : (f : ℕ → ℕ) → sumBelow f 0 ≡ 0
+unfolding sumBy
 no-years f = refl
 
 -- the first five years and the later ones are all fifty
@@ -47,10 +41,6 @@ both-parts b s g f l hf hl =
     (omega (arith, no-years (yearOutgo b s g), hf .outgo-is, hl .outgo-is))
     (omega (arith, no-years (yearPremium b s g), hf .premium-is, hl .premium-is))
 
-year-more : (f : ℕ → ℕ) (n : ℕ) → sumYears rounded (suc n) f ≡ sumYears rounded n f + f n
-unfolding sumYears
-year-more f n = refl
-
 pub parts-most : (b : List ℕ) (s g : ℕ) (f l : Amounts) → AmountsIn b s g 0 5 f → AmountsIn b s g 5 50 l
     → mag (pos (f .outgo + l .outgo) -ℤ pos (f .premium + l .premium)) ≤ 495_000_000_000_000_000
 parts-most b s g f l hf hl =
@@ -58,14 +48,10 @@ parts-most b s g f l hf hl =
     (omega (arith, hf .outgo-most, hl .outgo-most)) (omega (arith, hf .premium-most, hl .premium-most))
 
 -- what is the same from year 5 on adds the same from there
-same-from : (f g : ℕ → ℕ) → ((k : ℕ) → 5 ≤ k → f k ≡ g k) → (m : ℕ)
-    → sumYears rounded (m + 5) f + sumYears rounded 5 g ≡ sumYears rounded (m + 5) g + sumYears rounded 5 f
-same-from f g h zero = omega arith
-same-from f g h (suc m) = rw (suc-add m 5) (more (m + 5) (omega arith) (same-from f g h m))
-  where
-    more : (n : ℕ) → 5 ≤ n → sumYears rounded n f + sumYears rounded 5 g ≡ sumYears rounded n g + sumYears rounded 5 f
-        → sumYears rounded (suc n) f + sumYears rounded 5 g ≡ sumYears rounded (suc n) g + sumYears rounded 5 f
-    more n l e = omega (arith, h n l, e, year-more f n, year-more g n)
+same-from : (f g : ℕ → ℕ) → ((k : ℕ) → 5 ≤ k → f k ≡ g k)
+    → sumBelow f 50 + sumBelow g 5 ≡ sumBelow g 50 + sumBelow f 5
+same-from f g h =
+    omega (arith, sum-split f 5 45, sum-split g 5 45, sum-same 0 _+_ _ _ 45 (λ j l. h (5 + j) (omega arith)))
 
 -- settings with the same weights of mortality and lapse, and the same weights of costs and claims from year 5 on
 module _ (b : List ℕ) (o s : ℕ) (same : decrementsOf b o ≡ decrementsOf b s)
@@ -80,8 +66,8 @@ module _ (b : List ℕ) (o s : ℕ) (same : decrementsOf b o ≡ decrementsOf b 
 
   pub later-same : (l : Amounts) → AmountsIn b o g 5 50 l → AmountsIn b s g 5 50 l
   later-same l r = record {
-    outgo-is = omega (arith, r .outgo-is, same-from (yearOutgo b o g) (yearOutgo b s g) outgo-same 45);
-    premium-is = omega (arith, r .premium-is, same-from (yearPremium b o g) (yearPremium b s g) premium-same 45);
+    outgo-is = omega (arith, r .outgo-is, same-from (yearOutgo b o g) (yearOutgo b s g) outgo-same);
+    premium-is = omega (arith, r .premium-is, same-from (yearPremium b o g) (yearPremium b s g) premium-same);
     outgo-most = r .outgo-most;
     premium-most = r .premium-most;
   }
@@ -97,7 +83,7 @@ pub liability-read : (b : List ℕ) (setting g : ℕ) (r : ℤ) → mag r < 2 ^ 
 liability-read b setting g r ok h = rw (signed-roundtrip r ok) (record { is = h .0; most = h .1 })
 
 pub sum-none : (b : List ℕ) (setting : ℕ) → Sum b setting 0 (pos 0)
-unfolding sumGroups
+unfolding sumBy
 sum-none b setting = record { is = refl; most = omega arith }
 
 -- a sum, as it is read from the totals
@@ -110,8 +96,9 @@ pub sum-stored : (b : List ℕ) (setting g : ℕ) (x y z : ℤ) → 1 ≤ g → 
     → (z ≡ x +ℤ y) × (mag z ≤ mag x + mag y + 1) → Sum b setting g (toZ w64 (ofZ w64 z))
 sum-stored b setting g x y z low ok p l h =
     let e : g - 1 + 1 ≡ g = omega arith in
+    let one : 1 + (g - 1) ≡ g = omega arith in
     rw (signed-roundtrip z ok) (record {
-      is = rw e at (sum-more (groupLiability b setting) (g - 1) x y z (p .is) (rw e (l .is)) (h .0));
+      is = rw e at (sum-more _ _ _ (g - 1) x y z (p .is) (rw one (l .is)) (h .0));
       most = omega (arith, h .1, p .most, l .most);
     })
 

@@ -9,8 +9,7 @@ use Rattle.book.specs.Reading.{ValidBook}
 use Rattle.settings.specs.Settings.{SettingOf}
 use Rattle.settings.specs.declared.OutgoWeights.{OutgoWeights}
 use Rattle.settings.specs.declared.Setting.{Setting}
-use Rattle.valuation.specs.Replies.{groupLiability}
-use Rattle.valuation.specs.Totals.{sumGroups}
+use Rattle.valuation.specs.Totals.{totalOfGroups}
 use Rattle.group_projection.specs.Added.{TableOf}
 
 -- t is the table of product group g of an accepted book
@@ -37,7 +36,7 @@ EightSettings settings = (j : ℕ) → j < 8 → Numbered settings j
 
 -- z is the sum of the first n product groups' liabilities in a setting, and not too large
 pub record Sum (b : List ℕ) (setting n : ℕ) (z : ℤ) : Type 0 where
-  pub is : z ≡ sumGroups (groupLiability b setting) n
+  pub is : z ≡ totalOfGroups b setting n
   pub most : mag z ≤ 495_000_000_000_000_001 * n
 
 -- the sums of all eight settings

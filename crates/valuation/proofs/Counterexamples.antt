@@ -6,12 +6,13 @@ use mathlib.Core.List.{List}
 use Prim.Native.Nat.{ℕ}
 use native.Mathlib.Omega.{arith}
 use lib.IntN.{natAbs}
+use Rattle.lists.specs.Sums.{sumBy}
 use Rattle.le_bytes.specs.Bytes.{readU16, readU32}
 use Rattle.book.specs.Layout.{classOf, nextOf, fieldOf}
 use Rattle.settings.specs.Settings.{weightOf, percentOf, mortalityWeight, decrementsOf}
 use Rattle.valuation.specs.Steps.{inForce, cellPremium, cellClaims, sumCells, premiumSum, claimsSum, outgo}
 use Rattle.valuation.specs.Steps.{cappedIf, capped, countedPremium, discounted, discountedOutgo}
-use Rattle.valuation.specs.Steps.{discountedPremium, sumYears, totalOutgo, totalPremium, liability}
+use Rattle.valuation.specs.Steps.{discountedPremium, totalOutgo, totalPremium, liability}
 use Rattle.valuation.specs.Portfolio.{mortalityOf, oneLess, rowAt, cellOf, linksOf}
 use Rattle.valuation.specs.Replies.{groupLiability}
 use Rattle.valuation.specs.Traps.{endToEnd, fourBytes, menAt, menBook, Together, Traps}
@@ -21,7 +22,7 @@ unfolding groupLiability linksOf endToEnd
 together b setting = record { years = λ g. refl; liability-is = λ g. refl; pg1 = refl }
 
 pub traps : Traps
-unfolding liability totalOutgo totalPremium sumYears discountedPremium discountedOutgo discounted countedPremium capped
+unfolding liability totalOutgo totalPremium sumBy discountedPremium discountedOutgo discounted countedPremium capped
     cappedIf outgo claimsSum premiumSum sumCells cellClaims cellPremium inForce cellOf rowAt oneLess mortalityOf nextOf
     classOf fieldOf decrementsOf mortalityWeight percentOf weightOf menBook menAt fourBytes endToEnd readU16 readU32
 traps = record {

@@ -6,11 +6,12 @@ use Prim.Native.Nat.{ℕ, zero, suc, _+_, _*_, _/_, _≤_, _<_}
 use native.Mathlib.Nat.{mul-le-mul-left, mul-le-mul-right, mul-le-mul, mul-pos, zero-mul, zero-div}
 use native.Mathlib.Omega.{arith}
 use lib.Dec.{T, leb, eqb, eqb→eq, lit≤}
-use lib.IntN.{ℤ, pos, _-ℤ_, _*ℤ_}
-use Rattle.valuation.specs.Arithmetic.{rounded, exact, Fraction, partFraction}
+use lib.IntN.{pos, _-ℤ_, _*ℤ_}
+use Rattle.lists.specs.Sums.{sumBy, sumBelow}
+use Rattle.valuation.specs.Arithmetic.{rounded, exact, Fraction, wholeFraction, plusFraction, partFraction}
 use Rattle.valuation.specs.Steps.{Cell, Terms, held, oneUnless, inForce, cellPremium, cellClaims, sumCells}
 use Rattle.valuation.specs.Steps.{premiumSum, claimsSum, outgo, cappedIf, capped, countedPremium, discounted}
-use Rattle.valuation.specs.Steps.{discountedOutgo, discountedPremium, sumYears, totalOutgo, totalPremium}
+use Rattle.valuation.specs.Steps.{discountedOutgo, discountedPremium, totalOutgo, totalPremium}
 use Rattle.valuation.specs.Steps.{liability, exactLiability, less}
 use Rattle.valuation.specs.Contracts.{GroupDistance, GroupHalfDistance}
 use Rattle.valuation.specs.Bounds.{GoodCell, GoodCells, GoodTerms, Within}
@@ -113,19 +114,15 @@ unfoldable backErr : ℕ → ℕ → Err → Err
 backErr D zero E = E
 backErr D (suc j) E = partErr (backErr D j E) 1_000_000 D
 
-unfoldable sumErrs : ℕ → (ℕ → Err) → Err
-sumErrs zero E = noErr
-sumErrs (suc j) E = plusErr (sumErrs j E) (E j)
-
 -- ---- the years
 
-near-sumYears : (n : ℕ) (r : ℕ → ℕ) (x : ℕ → Fraction) (E : ℕ → Err) (j : ℕ)
+near-sums : (n : ℕ) (r : ℕ → ℕ) (x : ℕ → Fraction) (E : ℕ → Err) (j : ℕ)
     → ((k : ℕ) → k < j → Near (r k) (x k) (at (E k) n))
-    → Near (sumYears rounded j r) (sumYears exact j x) (at (sumErrs j E) n)
-unfolding sumYears sumErrs
-near-sumYears n r x E zero f = near-more (omega arith) (near-whole 0)
-near-sumYears n r x E (suc j) f =
-    near-plus-err n (sumErrs j E) (E j) (near-sumYears n r x E j (λ k h. f k (omega arith))) (f j (omega arith))
+    → Near (sumBelow r j) (sumBy (wholeFraction 0) plusFraction x j) (at (sumBy noErr plusErr E j) n)
+unfolding sumBy
+near-sums n r x E zero f = near-more (omega arith) (near-whole 0)
+near-sums n r x E (suc j) f =
+    near-plus-err n (sumBy noErr plusErr E j) (E j) (near-sums n r x E j (λ k h. f k (omega arith))) (f j (omega arith))
 
 near-back : (n D d : ℕ) → 0 < D → {r : ℕ} {x : Fraction} (E : Err) (j : ℕ) → (0 < j → D ≤ d) → Near r x (at E n)
     → Near (discounted rounded d j r) (discounted exact d j x) (at (backErr D j E) n)
@@ -193,10 +190,10 @@ abbrev at-most-err : Err → ℕ → ℕ → Type 0
 at-most-err E a b = (E .each ≤ a * 1_000_000) × (E .flat ≤ b * 1_000_000)
 
 outgoTotalErr : ℕ → Err
-outgoTotalErr D = sumErrs 50 (λ k. backErr D k (outgoErr k))
+outgoTotalErr D = sumBy noErr plusErr (λ k. backErr D k (outgoErr k)) 50
 
 premiumTotalErr : ℕ → Err
-premiumTotalErr D = sumErrs 50 (λ k. backErr D k (premiumErr k))
+premiumTotalErr D = sumBy noErr plusErr (λ k. backErr D k (premiumErr k)) 50
 
 -- errors are one-sided, so a difference is no further off than the worse of the two
 near-less : {o p : ℕ} {x y : Fraction} (b : ℕ) → Near o x (b * 1_000_000) → Near p y (b * 1_000_000)
@@ -225,13 +222,13 @@ module _ (D : ℕ) (D-positive : 0 < D) (t : Terms) (good-t : GoodTerms D t) (cs
   near-totalOutgo : Near (totalOutgo rounded t cs) (totalOutgo exact t cs) (at (outgoTotalErr D) (held cs))
   unfolding totalOutgo outgoTotalErr
   near-totalOutgo =
-      near-sumYears (held cs) (discountedOutgo rounded t cs) (discountedOutgo exact t cs)
+      near-sums (held cs) (discountedOutgo rounded t cs) (discountedOutgo exact t cs)
       (λ k. backErr D k (outgoErr k)) 50 (near-discountedOutgo D D-positive t good-t cs good-cs)
 
   near-totalPremium : Near (totalPremium rounded t cs) (totalPremium exact t cs) (at (premiumTotalErr D) (held cs))
   unfolding totalPremium premiumTotalErr
   near-totalPremium =
-      near-sumYears (held cs) (discountedPremium rounded t cs) (discountedPremium exact t cs)
+      near-sums (held cs) (discountedPremium rounded t cs) (discountedPremium exact t cs)
       (λ k. backErr D k (premiumErr k)) 50 (near-discountedPremium D D-positive t good-t cs good-cs)
 
   -- the distance, where the errors of both sums come to at most a for each cell and b
@@ -245,13 +242,13 @@ module _ (D : ℕ) (D-positive : 0 < D) (t : Terms) (good-t : GoodTerms D t) (cs
 -- ---- for any curve
 
 pub distance : GroupDistance
-unfolding outgoTotalErr premiumTotalErr sumErrs backErr up
+unfolding outgoTotalErr premiumTotalErr sumBy backErr up
 distance t good-t cs good-cs =
     within 990_000 (omega arith) t good-t cs good-cs _ _ (lit≤ tt, lit≤ tt) (lit≤ tt, lit≤ tt)
 
 -- ---- for a curve with no rate below zero
 
 pub half-distance : GroupHalfDistance
-unfolding outgoTotalErr premiumTotalErr sumErrs backErr up
+unfolding outgoTotalErr premiumTotalErr sumBy backErr up
 half-distance t good-t cs good-cs =
     within 1_000_000 (omega arith) t good-t cs good-cs _ _ (lit≤ tt, lit≤ tt) (lit≤ tt, lit≤ tt)

@@ -7,8 +7,10 @@ use Prim.Native.Nat.{ℕ, zero, suc, _+_, _<_}
 use native.Mathlib.Omega.{arith}
 use borrow.Author.Tests.{ne-eqb}
 use lib.Dec.{eqb}
+use Rattle.lists.specs.Sums.{sumBy, sumFrom}
+use Rattle.lists.proofs.Sums.{sum-first}
 use Rattle.book.specs.Layout.{lastClass, headOf, nextOf, fieldOf, countOffset}
-use Rattle.book.specs.Cells.{holds, heldFrom, heldIn, sumOf, heldOfGroup, firstChain, chainsOf}
+use Rattle.book.specs.Cells.{holds, heldFrom, heldIn, heldOfGroup, firstChain, chainsOf}
 use Rattle.book.specs.Reading.{ChainFrom}
 use Rattle.book.proofs.Cells.{held-none}
 use Rattle.book.proofs.Valid.{chain-here, chain-end, chain-next}
@@ -75,16 +77,16 @@ module _ (b : List ℕ) (w : Decrements) where
       by-end true rest = rw (held-none b m)
       by-end false rest = rw (one (eqb (fieldOf b i countOffset) 0), rest)
 
-  held-chains : (left k : ℕ) → held (cellsOf b w (linksOf b k left)) ≡ sumOf (heldIn b (lastClass 1)) k left
-  unfolding held cellsOf linksOf sumOf heldIn
+  held-chains : (left k : ℕ) → held (cellsOf b w (linksOf b k left)) ≡ sumFrom (heldIn b (lastClass 1)) k left
+  unfolding held cellsOf linksOf sumBy heldIn
   held-chains zero k = refl
   held-chains (suc left) k =
       rw (
         cells-append (chainLinks b k) (linksOf b (k + 1) left),
         held-append,
         held-links _ (headOf b k),
-        held-chains
-            left (k + 1),
+        held-chains left (k + 1),
+        sum-first (heldIn b (lastClass 1)) k left,
       )
 
   pub held-group : (g : ℕ) → held (groupCells b w g) ≡ heldOfGroup b (lastClass 1) g

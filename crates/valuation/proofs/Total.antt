@@ -8,12 +8,13 @@ use native.Mathlib.Nat.{mul-le-mul-right, mul-pos}
 use native.Mathlib.Omega.{arith}
 use lib.IntN.{ℤ, pos, _+ℤ_, _-ℤ_, _*ℤ_}
 use lib.ListN.{getD}
+use Rattle.lists.specs.Sums.{sumBy, sumBelow, signedSumBelow}
 use Rattle.verdict.specs.Verdicts.{refusalOf, countOf}
 use Rattle.verdict.specs.declared.Verdict.{Verdict}
 use Rattle.verdict.specs.declared.Verdict.the-variants.{Accepted, Refused}
 use Rattle.book.specs.Layout.{lastClass}
 use Rattle.book.specs.Check.{checkBook}
-use Rattle.book.specs.Cells.{sumOf, heldOfGroup, heldInAll}
+use Rattle.book.specs.Cells.{heldOfGroup, heldInAll}
 use Rattle.book.specs.Reading.{ValidBook}
 use Rattle.book.proofs.Cells.{groups-held}
 use Rattle.book.proofs.Numbers.{zero-accepted}
@@ -24,7 +25,7 @@ use Rattle.valuation.specs.Bounds.{Within}
 use Rattle.valuation.specs.Contracts.{eachCell, eachGroup, allGroups, totalDistanceOf, halfCell, halfGroup}
 use Rattle.valuation.specs.Contracts.{halfAllGroups, halfTotalDistanceOf}
 use Rattle.valuation.specs.Replies.{groupLiability, exactGroupLiability}
-use Rattle.valuation.specs.Totals.{sumGroups, totalOf, plusSigned, exactSumGroups, exactTotalOf, totalsOf}
+use Rattle.valuation.specs.Totals.{totalOf, plusSigned, exactSumBelow, exactTotalOf, totalsOf}
 use Rattle.valuation.specs.Totals.{totalsFor, totalsReply, TotalsContract}
 use Rattle.valuation.specs.declared.TotalsReply.{TotalsReply}
 use Rattle.valuation.proofs.Differences.{above, below, diff-self, diff-plus, diff-minus, diff-times, diff-abs}
@@ -65,36 +66,26 @@ within-plus {b} {c} {z} {w} {x} {y} p q = record {
 within-none : Within 0 (pos 0) (record { over = pos 0; under = 1 })
 within-none = record { under-positive = omega arith; distance = omega arith }
 
--- what f gives for the first j product groups, added
-sumFirst : (ℕ → ℕ) → ℕ → ℕ
-sumFirst f zero = 0
-sumFirst f (suc j) = sumFirst f j + f (suc j)
-
--- distances of groups, added
-groups-within : (each flat : ℕ) (n : ℕ → ℕ) (l : ℕ → ℤ) (x : ℕ → SignedFraction) (j : ℕ)
-    → ((g : ℕ) → 1 ≤ g → g ≤ j → Within (each * n g + flat) (l g) (x g))
-    → Within (each * sumFirst n j + flat * j) (sumGroups l j) (exactSumGroups x j)
-unfolding sumGroups exactSumGroups sumFirst
-groups-within each flat n l x zero near = within-more (omega arith) within-none
-groups-within each flat n l x (suc j) near =
+-- distances, added
+sums-within : (each flat : ℕ) (n : ℕ → ℕ) (l : ℕ → ℤ) (x : ℕ → SignedFraction) (j : ℕ)
+    → ((g : ℕ) → g < j → Within (each * n g + flat) (l g) (x g))
+    → Within (each * sumBelow n j + flat * j) (signedSumBelow l j) (exactSumBelow x j)
+unfolding sumBy
+sums-within each flat n l x zero near = within-more (omega arith) within-none
+sums-within each flat n l x (suc j) near =
     within-more (omega arith)
-    (within-plus (groups-within each flat n l x j (λ g lo hi. near g lo (omega arith)))
-    (near (suc j) (omega arith) (omega arith)))
+    (within-plus (sums-within each flat n l x j (λ g h. near g (omega arith))) (near j (omega arith)))
 
 module _ (b : List ℕ) where
-  first-cells : sumFirst (heldOfGroup b (lastClass 1)) 5 ≡ heldInAll b (lastClass 1)
-  unfolding sumFirst sumOf
-  first-cells = omega (arith, groups-held b (lastClass 1))
-
   total-within : (each flat all setting : ℕ) → flat * 5 ≤ all
       → ((g : ℕ) → 1 ≤ g → g ≤ 5 → Within (each * heldOfGroup b (lastClass 1) g + flat) (groupLiability b setting g)
       (exactGroupLiability b setting g))
       → Within (each * heldInAll b (lastClass 1) + all) (totalOf b setting) (exactTotalOf b setting)
   unfolding totalOf exactTotalOf
   total-within each flat all setting fits near =
-      within-more (rw first-cells (omega arith))
-      (groups-within each flat (heldOfGroup b (lastClass 1)) (groupLiability b setting) (exactGroupLiability b setting)
-      5 near)
+      within-more (omega (arith, ap (λ (n : ℕ). each * n) (groups-held b (lastClass 1))))
+      (sums-within each flat (λ j. heldOfGroup b (lastClass 1) (1 + j)) (λ j. groupLiability b setting (1 + j))
+      (λ j. exactGroupLiability b setting (1 + j)) 5 (λ j h. near (1 + j) (omega arith) (omega arith)))
 
   pub total-distance : (setting : ℕ) → ValidBook 1 b
       → Within (totalDistanceOf (heldInAll b (lastClass 1))) (totalOf b setting) (exactTotalOf b setting)

@@ -9,8 +9,8 @@ use native.Mathlib.Nat.{pos-of-ne-zero, eq-or-lt-of-le}
 use native.Mathlib.Omega.{arith}
 use borrow.Author.Tests.{ltb-true, eqb-false}
 use lib.Dec.{eqb, ltb}
-use lib.IntN.{ℤ}
 use lib.ListN.{length}
+use Rattle.lists.proofs.Sums.{sum-same}
 use Rattle.verdict.specs.declared.Verdict.{Verdict}
 use Rattle.verdict.specs.declared.Verdict.the-variants.{Accepted, Refused}
 use Rattle.le_bytes.proofs.Same.{u32-same}
@@ -30,12 +30,12 @@ use Rattle.settings.specs.Settings.{percentOf, mortalityWeight, decrementsOf, l
 use Rattle.settings.specs.declared.Decrements.{Decrements}
 use Rattle.valuation.specs.Arithmetic.{rounded}
 use Rattle.valuation.specs.Steps.{Cell, Terms, held, outgo, countedPremium, discountedOutgo, discountedPremium}
-use Rattle.valuation.specs.Steps.{sumYears, totalOutgo, totalPremium, liability}
+use Rattle.valuation.specs.Steps.{totalOutgo, totalPremium, liability}
 use Rattle.valuation.specs.Portfolio.{mortalityOf, costRateOf, divisorOf, oneLess, onward, rowAt, cellOf}
 use Rattle.valuation.specs.Portfolio.{linksFrom, chainLinks, linksOf, cellsOf, groupCells, termsOf}
 use Rattle.valuation.specs.Replies.{groupCheck, groupLiability, replyOf, groupReply, yearTable, tableOf}
 use Rattle.valuation.specs.Replies.{groupTable}
-use Rattle.valuation.specs.Totals.{sumGroups, totalOf, totalsOf, differencesOf, totalsFor, totalsReply}
+use Rattle.valuation.specs.Totals.{totalOf, totalsOf, differencesOf, totalsFor, totalsReply}
 use Rattle.valuation.proofs.Rows.{chain-standing, next-standing}
 use Rattle.valuation.proofs.Members.{cells-append, held-group}
 use Rattle.valuation.proofs.Accepted.{group-range, group-valid, chains-few}
@@ -46,11 +46,6 @@ record SameTerms (t t′ : Terms) : Type 0 where
   costs : (k : ℕ) → k < 50 → t .costWeight k ≡ t′ .costWeight k
   rate : t .costRate ≡ t′ .costRate
   divides : (k : ℕ) → k < 50 → t .divisor k ≡ t′ .divisor k
-
-sum-same : (f g : ℕ → ℕ) (j : ℕ) → ((k : ℕ) → k < j → f k ≡ g k) → sumYears rounded j f ≡ sumYears rounded j g
-unfolding sumYears
-sum-same f g zero same = refl
-sum-same f g (suc j) same = rw (sum-same f g j (λ k year. same k (omega arith)), same j (omega arith))
 
 module _ (t t′ : Terms) (cs : List Cell) (s : SameTerms t t′) where
   module _ (k : ℕ) (year : k < 50) where
@@ -72,7 +67,7 @@ module _ (t t′ : Terms) (cs : List Cell) (s : SameTerms t t′) where
 
   liability-same : liability t cs ≡ liability t′ cs
   unfolding liability totalOutgo totalPremium
-  liability-same = rw (sum-same _ _ 50 discountedOutgo-same, sum-same _ _ 50 discountedPremium-same)
+  liability-same = rw (sum-same 0 _+_ _ _ 50 discountedOutgo-same, sum-same 0 _+_ _ _ 50 discountedPremium-same)
 
   years-same : (j : ℕ) → j ≤ 50 → yearTable t cs j ≡ yearTable t′ cs j
   unfolding yearTable
@@ -287,16 +282,11 @@ table-same b b′ s setting g before =
     by-verdict (Refused q p) e = refl
 
 -- Totals' reply.
-groups-same : (f h : ℕ → ℤ) (j : ℕ) → ((g : ℕ) → 1 ≤ g → g ≤ j → f g ≡ h g) → sumGroups f j ≡ sumGroups h j
-unfolding sumGroups
-groups-same f h zero each = refl
-groups-same f h (suc j) each =
-    rw (groups-same f h j (λ g lo hi. each g lo (omega arith)), each (suc j) (omega arith) (omega arith))
-
 module _ (b b′ : List ℕ) (s : SameButUnlinked b b′) where
   total-same : ValidBook 1 b → (setting : ℕ) → totalOf b setting ≡ totalOf b′ setting
   unfolding totalOf
-  total-same v setting = groups-same _ _ 5 (λ g lo hi. group-liability-same b b′ s setting g v (lo, hi))
+  total-same v setting =
+      sum-same _ _ _ _ 5 (λ j h. group-liability-same b b′ s setting (1 + j) v (omega arith, omega arith))
 
   pub totals-same : totalsReply b ≡ totalsReply b′
   unfolding totalsReply

@@ -5,6 +5,7 @@ use mathlib.Core.List.{List, [], _∷_}
 use Prim.Native.Nat.{ℕ, zero, suc, _+_, _*_}
 use lib.Dec.{leb, eqb}
 use lib.IntN.{ℤ, pos, _-ℤ_}
+use Rattle.lists.specs.Sums.{sumBy}
 use Rattle.valuation.specs.Arithmetic.{Arithmetic, rounded, exact, Fraction}
 
 -- A cell, document 01's term for a model point: its contracts and, for each year k, what goes with it.
@@ -90,16 +91,15 @@ module _ (A : Arithmetic) where
   unfoldable pub discountedPremium : Terms → List Cell → ℕ → A .Number
   discountedPremium t cs k = discounted (t .divisor k) k (countedPremium t cs k)
 
-  -- step 6: summed over the first j years
-  unfoldable pub sumYears : ℕ → (ℕ → A .Number) → A .Number
-  sumYears zero g = A .whole 0
-  sumYears (suc j) g = A .plus (sumYears j g) (g j)
+  -- step 6: summed over the fifty years
+  abbrev pub sumYears : (ℕ → A .Number) → A .Number
+  sumYears g = sumBy (A .whole 0) (A .plus) g 50
 
   unfoldable pub totalOutgo : Terms → List Cell → A .Number
-  totalOutgo t cs = sumYears 50 (discountedOutgo t cs)
+  totalOutgo t cs = sumYears (discountedOutgo t cs)
 
   unfoldable pub totalPremium : Terms → List Cell → A .Number
-  totalPremium t cs = sumYears 50 (discountedPremium t cs)
+  totalPremium t cs = sumYears (discountedPremium t cs)
 
 -- a signed number over a whole number
 pub record SignedFraction : Type 0 where

@@ -4,6 +4,7 @@ use mathlib.Core.Path.{_≡_}
 use mathlib.Core.List.{List, [], _∷_}
 use lib.IntN.{ℤ, pos, _+ℤ_, _-ℤ_, _*ℤ_}
 use lib.ListN.{getD}
+use Rattle.lists.specs.Sums.{sumBy, signedSumBelow}
 use Rattle.verdict.specs.declared.Verdict.{Verdict}
 use Rattle.verdict.specs.declared.Verdict.the-variants.{Accepted, Refused}
 use Rattle.book.specs.Layout.{lastClass}
@@ -16,25 +17,24 @@ use Rattle.valuation.specs.Contracts.{totalDistanceOf, halfTotalDistance
 use Rattle.valuation.specs.Replies.{groupLiability, exactGroupLiability}
 use Rattle.valuation.specs.declared.TotalsReply.{TotalsReply}
 
--- what f gives for the first j product groups, added
-unfoldable pub sumGroups : (ℕ → ℤ) → ℕ → ℤ
-sumGroups f zero = pos 0
-sumGroups f (suc j) = sumGroups f j +ℤ f (suc j)
+-- the liabilities of product groups 1 to n, added
+abbrev pub totalOfGroups : List ℕ → ℕ → ℕ → ℤ
+totalOfGroups b setting n = signedSumBelow (λ j. groupLiability b setting (1 + j)) n
 
 -- the total of a setting: the five groups' liabilities added
 unfoldable pub totalOf : List ℕ → ℕ → ℤ
-totalOf b setting = sumGroups (groupLiability b setting) 5
+totalOf b setting = totalOfGroups b setting 5
 
--- its exact value: the five exact values added
+-- exact values added: two, and what f gives for the indexes below n
 abbrev pub plusSigned : SignedFraction → SignedFraction → SignedFraction
 plusSigned x y = record { over = x .over *ℤ pos (y .under) +ℤ y .over *ℤ pos (x .under); under = x .under * y .under }
 
-unfoldable pub exactSumGroups : (ℕ → SignedFraction) → ℕ → SignedFraction
-exactSumGroups f zero = record { over = pos 0; under = 1 }
-exactSumGroups f (suc j) = plusSigned (exactSumGroups f j) (f (suc j))
+abbrev pub exactSumBelow : (ℕ → SignedFraction) → ℕ → SignedFraction
+exactSumBelow f n = sumBy (record { over = pos 0; under = 1 }) plusSigned f n
 
+-- the total's exact value: the five exact values added
 unfoldable pub exactTotalOf : List ℕ → ℕ → SignedFraction
-exactTotalOf b setting = exactSumGroups (exactGroupLiability b setting) 5
+exactTotalOf b setting = exactSumBelow (λ j. exactGroupLiability b setting (1 + j)) 5
 
 -- the eight totals, setting 0 first
 abbrev pub totalsOf : List ℕ → List ℤ

@@ -2,10 +2,11 @@
 -- Assumes nothing.
 use mathlib.Core.Path.{_≡_, refl}
 use mathlib.Core.List.{[], _∷_}
+use Rattle.lists.specs.Sums.{sumBy}
 use Rattle.verdict.specs.Verdicts.{need, _andThen_}
 use Rattle.conditions.specs.Every.{every}
 use Rattle.cost_rate_shares.specs.declared.Accounts.{Accounts}
-use Rattle.cost_rate_shares.specs.Rates.{figure, overGroups, yearSum, lowered, share, yearRate, noneIn, isEmpty}
+use Rattle.cost_rate_shares.specs.Rates.{figure, yearSum, lowered, share, yearRate, noneIn, isEmpty}
 use Rattle.cost_rate_shares.specs.Rates.{accountsRate, ratesOf}
 use Rattle.cost_rates.specs.Refusals.{allAtMost, withinLimits, canSplit, isPaid, canCompute, checkAccounts}
 use Rattle.cost_rates.specs.Replies.{costRates}
@@ -32,7 +33,7 @@ worked =
 pub worked-example : costRates worked
     ≡ record { refusal = 0; place = 0; rates = 56_611 ∷ 60_916 ∷ 105_881 ∷ 104_948 ∷ 0 ∷ [] }
 unfolding worked costRates checkAccounts withinLimits allAtMost canCompute canSplit isPaid need _andThen_ ratesOf
-    accountsRate isEmpty noneIn every yearRate share lowered yearSum overGroups figure
+    accountsRate isEmpty noneIn every yearRate share lowered yearSum sumBy figure
 worked-example = refl
 
 -- expenses too high, and nothing to split them by
@@ -41,5 +42,5 @@ too-high = record { expenses = 1_000_000_001 ∷ 0 ∷ 0 ∷ []; stock = []; cla
 
 pub too-high-first : costRates too-high .refusal ≡ 17
 unfolding too-high costRates checkAccounts withinLimits allAtMost canCompute canSplit isPaid need _andThen_ isEmpty
-    noneIn every yearSum overGroups figure
+    noneIn every yearSum sumBy figure
 too-high-first = refl

@@ -4,8 +4,9 @@
 use mathlib.Core.Path.{_≡_, refl}
 use mathlib.Core.List.{[]}
 use Prim.Native.Nat.{ℕ, _+_, _-_, _*_, _≤_}
-use native.Mathlib.Numerals.{add-one}
 use native.Mathlib.Omega.{arith}
+use Rattle.lists.specs.Sums.{sumBy}
+use Rattle.lists.proofs.Sums.{sum-more}
 use Rattle.buffer.specs.Text.{Wrote, joined}
 use Rattle.buffer.proofs.Digits.{nothing, kept, joined-more}
 use Rattle.book_contents.specs.Contents.{recordsBefore}
@@ -22,14 +23,13 @@ abbrev μ-loop : tie.MeasureT-loop
 μ-loop out₀ at first next₀ sum₀ k₀ out next sum k = 14 - k
 
 loop-holds : tie.Need-loop-holds Inv-loop μ-loop
-unfolding joined recordsBefore
+unfolding joined sumBy
 loop-holds c = (omega arith, nothing _ _, omega arith, refl, omega arith)
 
 head-for-requires : tie.Need-head-for-requires Inv-loop μ-loop
 head-for-requires c κs = let l = c .before .before .loop in (omega arith, l .inv .3, omega arith)
 
 loop-again : tie.Need-loop-again Inv-loop μ-loop
-unfolding recordsBefore
 loop-again c =
     let p = c .before .before .before in
     let l = p .before .before .before .before .loop in
@@ -37,7 +37,7 @@ loop-again c =
       omega arith,
       joined-more _ _ [] (l .inv .1) w,
       omega (arith, p .put-two .ensures .1, l .inv .2),
-      rw (add-one (l .k)) (omega (arith, c .size-of .ensures .0, l .inv .3)),
+      sum-more 0 _+_ _ (l .k) _ _ _ (l .inv .3) (c .size-of .ensures .0) refl,
       omega (arith, c .size-of .ensures .1, l .inv .4),
     )
 

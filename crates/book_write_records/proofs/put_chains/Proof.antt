@@ -4,8 +4,9 @@
 use mathlib.Core.Path.{_≡_, refl}
 use mathlib.Core.List.{[]}
 use Prim.Native.Nat.{_+_, _-_, _*_, _≤_}
-use native.Mathlib.Numerals.{add-one}
 use native.Mathlib.Omega.{arith}
+use Rattle.lists.specs.Sums.{sumBy}
+use Rattle.lists.proofs.Sums.{sum-more}
 use Rattle.book.specs.Layout.{headerSize, recordSize}
 use Rattle.buffer.specs.Text.{Wrote, joined}
 use Rattle.buffer.proofs.Digits.{nothing, kept, joined-more}
@@ -23,7 +24,7 @@ abbrev μ-loop : tie.MeasureT-loop
 μ-loop out₀ values counts lapses premiums claims first next₀ before₀ k₀ out next before k = 14 - k
 
 loop-holds : tie.Need-loop-holds Inv-loop μ-loop
-unfolding joined recordsBefore
+unfolding joined sumBy
 loop-holds c = (omega arith, nothing _ _, refl, omega arith, omega arith)
 
 put-chain-requires : tie.Need-put-chain-requires Inv-loop μ-loop
@@ -33,13 +34,12 @@ put-chain-requires c κs =
     (omega (arith, l .loop .inv .0, l .loop .inv .3, l .loop .inv .4), omega arith, l .loop .inv .2, a .pre)
 
 loop-again : tie.Need-loop-again Inv-loop μ-loop
-unfolding recordsBefore
 loop-again c =
     let p = c .before .before .before .before in
     let l = p .before .before .before .loop in (
       omega arith,
       joined-more _ _ [] (l .inv .1) (p .put-chain .ensures .0),
-      rw (add-one (l .k)) (omega (arith, c .size-of .ensures .0, l .inv .2)),
+      sum-more 0 _+_ _ (l .k) _ _ _ (l .inv .2) (c .size-of .ensures .0) refl,
       omega (arith, p .put-chain .ensures .1, c .size-of .ensures .0, l .inv .3),
       omega (arith, c .size-of .ensures .1, l .inv .4),
     )

@@ -1,12 +1,13 @@
 -- `cost_rate_shares::year_sum` meets its contract: the five figures of the year, added. Assumes nothing.
 use native.Mathlib.Omega.{arith}
 use borrow.Author.Needs.{needs}
-use Rattle.cost_rate_shares.specs.Rates.{overGroups, yearSum}
+use Rattle.lists.specs.Sums.{sumBy}
+use Rattle.cost_rate_shares.specs.Rates.{yearSum}
 use Rattle.cost_rate_shares.proofs.year_sum.Statement.{statement}
 use Rattle.cost_rate_shares.proofs.year_sum.Tie as tie
 
 returns : tie.Need-returns
-unfolding yearSum overGroups
+unfolding yearSum sumBy
 returns c = (
   rw (
     c .figure5 .ensures .0,
@@ -14,7 +15,8 @@ returns c = (
     c .before .before .figure3 .ensures .0,
     c .before .before .before .figure2 .ensures .0,
     c .before .before .before .before .figure .ensures .0,
-  ),
+  )
+      (omega arith),
   omega arith,
 )
 

@@ -1,21 +1,23 @@
--- `group_projection::group_sums` meets its contract. The invariant: what is added and counted so far, with the chains
--- from k on, is what all chains of the group add and count. The measure is the number of chains left. Assumes nothing.
-use mathlib.Core.Path.{_≡_, sym, _∙_}
+-- `group_projection::group_sums` meets its contract. The invariant: what is added so far, with the chains from k on, is
+-- what all chains of the group add; what is counted so far is the n of the chains before k. The measure is the number of
+-- chains left. Assumes nothing.
+use mathlib.Core.Path.{_≡_, _∙_}
 use mathlib.Core.List.{List}
 use Prim.Native.Nat.{ℕ, _+_, _-_, _*_, _<_, _≤_}
 use native.Mathlib.Omega.{arith}
 use borrow.Author.Needs.{needs}
 use lib.ListN.{getD, replicate}
+use Rattle.lists.specs.Sums.{sumFrom}
 use Rattle.lists.proofs.AtMost.{most-higher, most-replicate}
-use Rattle.book.specs.Cells.{heldIn, sumOf, chainsOf, heldOfGroup}
+use Rattle.book.specs.Cells.{heldIn, chainsOf, heldOfGroup}
 use Rattle.settings.specs.Settings.{decrementsOf}
 use Rattle.valuation.specs.Arithmetic.{rounded}
 use Rattle.valuation.specs.Steps.{premiumSum, claimsSum}
 use Rattle.valuation.specs.Portfolio.{groupLinks, groupCells}
 use Rattle.cell_projection.specs.Tables.{amountIn, Among, addedAll}
 use Rattle.cell_projection.proofs.Records.{amount-in-le, premium-at, claims-at}
-use Rattle.group_projection.proofs.Adding.{Gather, gather-more, gather-end, group-cells-more, group-cells-end}
-use Rattle.group_projection.proofs.Adding.{sum-from-zero, sum-same, premium-sum-is, claims-sum-is}
+use Rattle.group_projection.proofs.Adding.{Gather, gather-more, gather-end, group-held-none}
+use Rattle.group_projection.proofs.Adding.{group-held-more, sum-from-zero, sum-same, premium-sum-is, claims-sum-is}
 use Rattle.group_projection.proofs.group_sums.Statement.{statement}
 use Rattle.group_projection.proofs.group_sums.Tie as tie
 
@@ -26,7 +28,7 @@ abbrev Inv-loop : tie.InvT-loop
 Inv-loop book w group which rows₀ numbers₀ n₀ from to k₀ rows numbers n k =
     (from ≤ k) × (k ≤ to) × (n ≤ 121 * (k - from))
     × Gather (amountIn book which) book from to zeros k numbers
-    × (n + sumOf (heldIn book 120) k (to - k) ≡ sumOf (heldIn book 120) from (to - from))
+    × (n ≡ sumFrom (heldIn book 120) from (k - from))
 
 abbrev μ-loop : tie.MeasureT-loop
 μ-loop book w group which rows₀ numbers₀ n₀ from to k₀ rows numbers n k = to - k
@@ -42,7 +44,7 @@ loop-holds c =
       omega arith,
       omega arith,
       (rw none, rw none (most-higher (most-replicate 500 0) (omega arith))),
-      omega arith,
+      group-held-none _ _,
     )
 
 add-chain-requires : tie.Need-add-chain-requires Inv-loop μ-loop
@@ -64,7 +66,7 @@ loop-again c =
       omega (arith, e .few),
       gather-more (amountIn b (a .args .which)) b (λ k i f s. amount-in-le b (a .args .which) k i s) (a .pre .1) _ _
           zeros (l .k) (l .numbers) _ (l .inv .3) (omega arith) (omega arith) (omega arith) (e .sums),
-      sym (group-cells-more b (l .n) (l .k) _ (c .add-chain .result) (omega arith) (e .n-is)) ∙ l .inv .4,
+      group-held-more b _ (l .k) (l .n) (c .add-chain .result) (omega arith) (l .inv .4) (e .n-is),
     )
 
 -- the sum over the records of what a projection adds in a year
@@ -107,7 +109,7 @@ returns c =
             claims-is = λ k q. claims-sum b (a .args .which) g s k (l .numbers) p h among q;
             most = most-higher (l .inv .3 .1) (omega arith);
           };
-      n-is = sym (group-cells-end b (l .n) (l .k) to e) ∙ (rw (some, f .ensures .0) at (l .inv .4));
+      n-is = rw (e, some, f .ensures .0) at (l .inv .4);
     }
 
 pub group-sums-spec : {M : Type 1} → statement M

@@ -1,14 +1,14 @@
 -- `present_value::amounts_in` meets its contract. The invariant: with the years before `from` the two sums are those of
 -- the years before k.
 -- The measure is the number of years left. Assumes nothing.
-use mathlib.Core.Path.{_≡_, _∙_}
+use mathlib.Core.Path.{_≡_, refl, _∙_}
 use Prim.Native.Nat.{_+_, _-_, _*_, _≤_}
 use native.Mathlib.Omega.{arith}
 use Rattle.lists.proofs.AtMost.{most-fewer}
-use Rattle.valuation.specs.Arithmetic.{rounded}
-use Rattle.valuation.specs.Steps.{sumYears}
+use Rattle.lists.specs.Sums.{sumBelow}
+use Rattle.lists.proofs.Sums.{sum-more}
 use Rattle.valuation.specs.Portfolio.{divisorOf}
-use Rattle.cash_flow.proofs.CashFlow.{sum-more, outgo-discounted, premium-discounted}
+use Rattle.cash_flow.proofs.CashFlow.{outgo-discounted, premium-discounted}
 use Rattle.present_value.specs.Outcome.{InYears, yearOutgo, yearPremium}
 use Rattle.present_value.proofs.Tables.{curve-divisors, in-discounted, in-fewer, sum-to-end}
 use Rattle.present_value.proofs.amounts_in.Statement.{statement}
@@ -17,9 +17,8 @@ use Rattle.present_value.proofs.amounts_in.Tie as tie
 abbrev Inv-loop : tie.InvT-loop
 Inv-loop book group numbers from setting premium outgo end paid₀ earned₀ k₀ paid earned k =
     (from ≤ k) × (k ≤ end)
-    × (sumYears rounded from (yearOutgo book setting group) + paid ≡ sumYears rounded k (yearOutgo book setting group))
-    × (sumYears rounded from (yearPremium book setting group) + earned ≡ sumYears rounded k
-    (yearPremium book setting group))
+    × (sumBelow (yearOutgo book setting group) from + paid ≡ sumBelow (yearOutgo book setting group) k)
+    × (sumBelow (yearPremium book setting group) from + earned ≡ sumBelow (yearPremium book setting group) k)
     × (paid ≤ 9000000000000000 * k) × (earned ≤ 9000000000000000 * k)
     × InYears (yearOutgo book setting group) 9000000000000000 from end outgo
     × InYears (yearPremium book setting group) 9000000000000000 from end premium
@@ -37,7 +36,7 @@ end-of-requires c κs = let a = c .before .before .before .before .before .befor
 outgo-to-end : (c : tie.After-end-of Inv-loop μ-loop) →
     let a = c .before .before .before .before .before .before .before .before .before in
     let f = yearOutgo (a .args .book .now) (a .args .s .number) (a .args .group) in
-    sumYears rounded (c .end-of .result) f ≡ sumYears rounded (a .args .span .to) f
+    sumBelow f (c .end-of .result) ≡ sumBelow f (a .args .span .to)
 outgo-to-end c =
     let u = c .before .before .before .before .before in
     let a = u .before .before .before .before in
@@ -49,7 +48,7 @@ outgo-to-end c =
 premium-to-end : (c : tie.After-end-of Inv-loop μ-loop) →
     let a = c .before .before .before .before .before .before .before .before .before in
     let f = yearPremium (a .args .book .now) (a .args .s .number) (a .args .group) in
-    sumYears rounded (c .end-of .result) f ≡ sumYears rounded (a .args .span .to) f
+    sumBelow f (c .end-of .result) ≡ sumBelow f (a .args .span .to)
 premium-to-end c =
     let u = c .before .before .before .before .before in
     let a = u .before .before .before .before in
@@ -111,8 +110,8 @@ loop-again c =
     let p = l .inv .7 in (
       omega arith,
       omega arith,
-      omega (arith, sum-more _ (l .k) _ _ (l .inv .2) (o .are (l .k) lt (l .inv .0))),
-      omega (arith, sum-more _ (l .k) _ _ (l .inv .3) (p .are (l .k) lt (l .inv .0))),
+      omega (arith, sum-more 0 _+_ _ (l .k) _ _ _ (l .inv .2) (o .are (l .k) lt (l .inv .0)) refl),
+      omega (arith, sum-more 0 _+_ _ (l .k) _ _ _ (l .inv .3) (p .are (l .k) lt (l .inv .0)) refl),
       omega (arith, o .most .each (l .k) lt),
       omega (arith, p .most .each (l .k) lt),
       o,

@@ -3,18 +3,19 @@
 -- The measure is the number of years left. Assumes nothing.
 use mathlib.Core.Path.{_≡_, refl, _∙_}
 use mathlib.Core.List.{List, _++_}
-use Prim.Native.Nat.{ℕ, _-_, _*_, _≤_, _<_}
+use Prim.Native.Nat.{ℕ, _+_, _-_, _*_, _≤_, _<_}
 use native.Mathlib.Omega.{arith}
 use borrow.Author.Needs.{needs}
 use lib.ListN.{length, drop}
 use mir.Syntax.{w64}
 use mir.ValLaws.{toZ-ofZ}
+use Rattle.lists.specs.Sums.{sumBy, sumBelow}
+use Rattle.lists.proofs.Sums.{sum-more}
 use Rattle.settings.specs.Settings.{decrementsOf}
-use Rattle.valuation.specs.Arithmetic.{rounded}
-use Rattle.valuation.specs.Steps.{Cell, Terms, sumYears}
+use Rattle.valuation.specs.Steps.{Cell, Terms}
 use Rattle.valuation.specs.Portfolio.{termsOf, groupCells}
 use Rattle.valuation.specs.Replies.{yearTable}
-use Rattle.cash_flow.proofs.CashFlow.{years-more, years-length, year-is, sum-more, outgo-discounted, premium-discounted}
+use Rattle.cash_flow.proofs.CashFlow.{years-more, years-length, year-is, outgo-discounted, premium-discounted}
 use Rattle.signed.proofs.Sizes.{less-mag}
 use Rattle.cash_flow.proofs.CashFlow.{liability-is}
 use Rattle.present_value.specs.Outcome.{InYears, outgoBefore, premiumBefore, yearOutgo, yearPremium}
@@ -32,8 +33,8 @@ cells b s g = groupCells b (decrementsOf b s) g
 abbrev Inv-loop : tie.InvT-loop
 Inv-loop book group numbers table₀ setting due spent premium outgo paid₀ earned₀ k₀ table paid earned k =
     (k ≤ 50) × (table ≡ yearTable (terms book setting group) (cells book setting group) k ++ drop (4 * k) table₀)
-    × (paid ≡ sumYears rounded k (yearOutgo book setting group))
-    × (earned ≡ sumYears rounded k (yearPremium book setting group))
+    × (paid ≡ sumBelow (yearOutgo book setting group) k)
+    × (earned ≡ sumBelow (yearPremium book setting group) k)
     × (paid ≤ 9000000000000000 * k) × (earned ≤ 9000000000000000 * k)
     × InYears (premiumBefore book setting group) 4000000000000000 0 50 due
     × InYears (outgoBefore book setting group) 4000000000000000 0 50 spent
@@ -63,7 +64,7 @@ discount-requires c κs =
     )
 
 loop-holds : tie.Need-loop-holds Inv-loop μ-loop
-unfolding yearTable sumYears
+unfolding yearTable sumBy
 loop-holds c =
     let u = c .before .before .before .before .before .before .before in
     let v = u .before .before .before in
@@ -134,8 +135,8 @@ loop-again c =
     (l .inv .7 .are (l .k) lt (omega arith)) (p .are (l .k) lt (omega arith)) (o .are (l .k) lt (omega arith)) in (
       omega arith,
       years-more t cs (l .k) _ (a .table .now) (l .table) (w .last .0) e (omega arith) (l .inv .1) (w .ensures),
-      sum-more _ (l .k) _ _ (l .inv .2) (o .are (l .k) lt (omega arith)),
-      sum-more _ (l .k) _ _ (l .inv .3) (p .are (l .k) lt (omega arith)),
+      sum-more 0 _+_ _ (l .k) _ _ _ (l .inv .2) (o .are (l .k) lt (omega arith)) refl,
+      sum-more 0 _+_ _ (l .k) _ _ _ (l .inv .3) (p .are (l .k) lt (omega arith)) refl,
       omega (arith, o .most .each (l .k) lt),
       omega (arith, p .most .each (l .k) lt),
       l .inv .6,
