@@ -35,7 +35,7 @@ BREAKS = [
     (names.functions, API, "`totals::totals(book)`", "`totals::total(book)`"),
     (names.calls, API, "| `totals::totals(book)`", "| `totals::add_group(book)`"),
     (names.parts, VERIFICATION, "- **sample books**", "- **sampled books**"),
-    (names.counts, VERIFICATION, "/Bytes.antt, 16:", "/Bytes.antt, 17:"),
+    (names.counts, VERIFICATION, "/Bytes.antt, 21:", "/Bytes.antt, 22:"),
     (names.definitions, VERIFICATION, "specs/Version.antt", "specs/Versions.antt"),
     (names.definitions, VERIFICATION, "`present_value` and", "and"),
     (names.machines, README, "`/usr/local`", "`/" + "opt/local`"),

@@ -13,7 +13,7 @@ use borrow.Author.Tests.{eq-eqb, ne-eqb}
 use lib.IntN.{ℤ, pos}
 use lib.ListN.{length, getD, length-append, List·getD-append}
 use lib.Seq.{getD-append-add}
-use Rattle.le_bytes.specs.Bytes.{byteAt, readU16, readU32}
+use Rattle.le_bytes.specs.Bytes.{byteAt, readU16, readU32, twoBytes}
 use Rattle.verdict.specs.declared.Verdict.the-variants.{Accepted}
 use Rattle.book.specs.Layout.{headerSize, recordSize, edition, chains, records, headPlace, headOf, recordAt, classOf}
 use Rattle.book.specs.Layout.{nextOf, fieldOf, costPlace, curvePlace, mortalityPlace, mostRate, mostCount, mostAmount}
@@ -27,7 +27,7 @@ use Rattle.book.proofs.Exact.{accepted-rules}
 use Rattle.buffer.specs.Text.{joined}
 use Rattle.buffer.proofs.Digits.{le-or-lt}
 use Rattle.book_contents.specs.Contents.{noClass, sizeOf, recordsBefore}
-use Rattle.book_contents.specs.Written.{twoBytes, twosComplement, numberOf, headFor, nextFor, recordBytesOf}
+use Rattle.book_contents.specs.Written.{twosComplement, numberOf, headFor, nextFor, recordBytesOf}
 use Rattle.book_contents.specs.Written.{frontBytes, bookOf}
 use Rattle.book_contents.specs.Written.{bookSize}
 use Rattle.book_contents.specs.Limits.{curveRate, checkContents, Fit}

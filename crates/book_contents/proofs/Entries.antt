@@ -5,9 +5,9 @@ use Prim.Native.Nat.{ℕ, zero, suc, _+_}
 use native.Mathlib.Nat.{add-zero}
 use native.Mathlib.Omega.{arith}
 use lib.ListN.{length, length-append}
-use Rattle.le_bytes.specs.Bytes.{byteAt}
+use Rattle.le_bytes.specs.Bytes.{byteAt, twoBytes, fourBytes}
 use Rattle.book.specs.Layout.{chainCode, chainSex}
-use Rattle.book_contents.specs.Written.{twoBytes, fourBytes, encodedRecord}
+use Rattle.book_contents.specs.Written.{encodedRecord}
 use Rattle.book_contents.proofs.Stands.{Stands, stands-left, stands-right, stands-both}
 use Rattle.book_contents.proofs.Numbers.{two-length, four-length}
 

@@ -8,10 +8,11 @@ use native.Mathlib.Omega.{arith}
 use lib.IntN.{pos}
 use lib.ListN.{length, getD, length-append}
 use Rattle.lists.specs.Sums.{sumBy}
+use Rattle.le_bytes.specs.Bytes.{twoBytes, fourBytes}
 use Rattle.book.specs.Layout.{headerSize, recordSize, chains, headPlace, costPlace, curvePlace, mortalityPlace}
 use Rattle.buffer.specs.Text.{joined}
 use Rattle.book_contents.specs.Contents.{Contents, sizeOf, recordsBefore}
-use Rattle.book_contents.specs.Written.{twoBytes, fourBytes, twosComplement, fields, signedFields, headFor}
+use Rattle.book_contents.specs.Written.{twosComplement, fields, signedFields, headFor}
 use Rattle.book_contents.specs.Written.{encodedRecord}
 use Rattle.book_contents.specs.Written.{recordBytesOf, chainBytes, frontBytes, headBytes, headerBytes, bookOf}
 use Rattle.book_contents.specs.Written.{bookSize}

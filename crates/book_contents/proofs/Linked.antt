@@ -9,14 +9,14 @@ use native.Mathlib.Omega.{arith}
 use borrow.Author.Tests.{eq-eqb, ne-eqb}
 use lib.ListN.{getD}
 use Rattle.lists.proofs.Sums.{sum-most, sum-within}
-use Rattle.le_bytes.specs.Bytes.{byteAt, readU16}
+use Rattle.le_bytes.specs.Bytes.{byteAt, readU16, twoBytes}
 use Rattle.book.specs.Layout.{headerSize, recordSize, chains, records, headPlace, headOf, recordAt, classOf, nextOf}
 use Rattle.book.specs.Layout.{fieldOf, countOffset, lapseOffset, premiumOffset, claimsOffset, linkFrom, linkAt}
 use Rattle.book.specs.Rules.{RecordRules}
 use Rattle.book.proofs.Links.{link-none, link-next}
 use Rattle.buffer.proofs.Digits.{le-or-lt}
 use Rattle.book_contents.specs.Contents.{Contents, sizeOf, recordsBefore}
-use Rattle.book_contents.specs.Written.{twoBytes, numberOf, headFor, nextFor, recordBytesOf, frontBytes}
+use Rattle.book_contents.specs.Written.{numberOf, headFor, nextFor, recordBytesOf, frontBytes}
 use Rattle.book_contents.specs.Limits.{Fit}
 use Rattle.book_contents.proofs.Numbers.{two-read, four-read}
 use Rattle.book_contents.proofs.Laid.{Laid}

@@ -10,9 +10,9 @@ use borrow.Author.Tests.{leb-true, leb-false, le-leb, lt-leb}
 use lib.Dec.{leb}
 use lib.IntN.{ℤ, pos, negsuc}
 use lib.ListN.{length}
-use Rattle.le_bytes.specs.Bytes.{byteAt, readU16, readU32}
+use Rattle.le_bytes.specs.Bytes.{byteAt, readU16, readU32, twoBytes, fourBytes}
 use Rattle.le_bytes.specs.Fields.{raised}
-use Rattle.book_contents.specs.Written.{twoBytes, fourBytes, twosComplement}
+use Rattle.book_contents.specs.Written.{twosComplement}
 use Rattle.book_contents.specs.Limits.{curveRate}
 use Rattle.book_contents.specs.Reading.{signedOf}
 use Rattle.book_contents.proofs.Stands.{Stands, stands-left, stands-right, stands-both}

@@ -1,21 +1,15 @@
 -- The book of given contents, byte by byte in the order of the layout (docs/FILE_FORMAT.md; book/specs/Layout).
 use mathlib.Core.Bool.{cond}
-use Prim.Native.Nat.{ℕ, _+_, _-_, _*_, _/_, _%_}
+use Prim.Native.Nat.{ℕ, _+_, _-_, _*_}
 use mathlib.Core.List.{List, [], _∷_, _++_}
 use lib.Dec.{eqb}
 use lib.IntN.{ℤ, pos, negsuc}
 use lib.ListN.{getD}
+use Rattle.le_bytes.specs.Bytes.{twoBytes, fourBytes}
 use Rattle.book.specs.Layout.{headerSize, recordSize, chains, chainCode, chainSex}
 use Rattle.buffer.specs.Text.{joined}
 use Rattle.book_contents.specs.declared.Values.{Values}
 use Rattle.book_contents.specs.Contents.{Contents, sizeOf, recordsBefore}
-
--- a number in two bytes and in four, least byte first
-unfoldable pub twoBytes : ℕ → List ℕ
-twoBytes x = x % 256 ∷ x / 256 % 256 ∷ []
-
-unfoldable pub fourBytes : ℕ → List ℕ
-fourBytes x = twoBytes x ++ twoBytes (x / 65536)
 
 -- a signed number as 32 bits hold it, in two's complement: 4,294,967,295 is -1
 unfoldable pub twosComplement : ℤ → ℕ

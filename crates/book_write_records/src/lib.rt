@@ -2,10 +2,11 @@
 ghost use mathlib.Core.List.{[], _∷_, _++_};
 ghost use mathlib.Core.Path.{_≡_};
 ghost use Prim.Native.Nat.{_+_, _*_, _<_, _^_};
+ghost use Rattle.le_bytes.specs.Bytes.{twoBytes};
 ghost use Rattle.book.specs.Layout.{headerSize, recordSize, chainCode, chainSex};
 ghost use Rattle.buffer.specs.Text.{Wrote, joined};
 ghost use Rattle.book_contents.specs.Contents.{given, sizeOf, recordsBefore};
-ghost use Rattle.book_contents.specs.Written.{twoBytes, nextFor, encodedRecord, chainBytes};
+ghost use Rattle.book_contents.specs.Written.{nextFor, encodedRecord, chainBytes};
 ghost use Rattle.book_contents.specs.Limits.{Fit};
 use book::CHAINS;
 use book::HEADER_SIZE;

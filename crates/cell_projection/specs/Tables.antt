@@ -13,9 +13,24 @@ use Rattle.valuation.specs.Portfolio.{cellOf}
 use Rattle.cell.specs.declared.Cell.{Cell as State}
 use Rattle.cell.specs.States.{premiumBy, claimsBy, premiumIn, claimsIn}
 
+-- a table's years, the numbers of each, and all its numbers
+abbrev pub yearCount : ℕ
+yearCount = 50
+
+abbrev pub aYear : ℕ
+aYear = 10
+
+abbrev pub tableNumbers : ℕ
+tableNumbers = 500
+
+-- where the premium of projection s stands in year k; its claims stand next
+abbrev pub premiumPlace : ℕ → ℕ → ℕ
+premiumPlace k s = aYear * k + 2 * s
+
 -- what a cell adds to number j, where c gives it in each projection: premium at the even places, claims at the odd ones
 unfoldable pub amountBy : (ℕ → Cell) → ℕ → ℕ
-amountBy c j = cond (eqb (j % 2) 0) (premiumBy (c (j % 10 / 2)) (j / 10)) (claimsBy (c (j % 10 / 2)) (j / 10))
+amountBy c j =
+    cond (eqb (j % 2) 0) (premiumBy (c (j % aYear / 2)) (j / aYear)) (claimsBy (c (j % aYear / 2)) (j / aYear))
 
 -- the same of the cell of record i of a book: projection s is that of setting s
 unfoldable pub amountAt : List ℕ → ℕ → ℕ → ℕ
@@ -26,10 +41,10 @@ unfoldable pub added : (ℕ → ℕ) → ℕ → List ℕ → List ℕ
 added f zero t = t
 added f (suc n) t = set (added f n t) n (getD (added f n t) n 0 + f n)
 
--- the same for each record i of a list, with what f gives for it, in all five hundred
+-- the same for each record i of a list, with what f gives for it, in the whole table
 unfoldable pub addedAll : (ℕ → ℕ → ℕ) → List ℕ → List ℕ → List ℕ
 addedAll f [] t = t
-addedAll f (i ∷ links) t = addedAll f links (added (f i) 500 t)
+addedAll f (i ∷ links) t = addedAll f links (added (f i) tableNumbers t)
 
 -- f from number m on, and nothing before
 unfoldable pub late : ℕ → (ℕ → ℕ) → ℕ → ℕ
@@ -37,11 +52,12 @@ late m f j = cond (ltb j m) 0 (f j)
 
 -- of f the years from m to before k of projection s, and nothing else
 unfoldable pub sumWithin : (ℕ → ℕ) → ℕ → ℕ → ℕ → ℕ → ℕ
-sumWithin f s m k j = cond (eqb (j % 10 / 2) s) (cond (ltb (j / 10) m) 0 (cond (ltb (j / 10) k) (f j) 0)) 0
+sumWithin f s m k j =
+    cond (eqb (j % aYear / 2) s) (cond (ltb (j / aYear) m) 0 (cond (ltb (j / aYear) k) (f j) 0)) 0
 
 -- all of f where `which` is 5, and else the fifty years of that projection
 unfoldable pub chosen : ℕ → (ℕ → ℕ) → ℕ → ℕ
-chosen which f j = cond (eqb which 5) (f j) (sumWithin f which 0 50 j)
+chosen which f j = cond (eqb which 5) (f j) (sumWithin f which 0 yearCount j)
 
 -- projection s is among them
 abbrev pub Among : ℕ → ℕ → Type 0
@@ -60,4 +76,4 @@ twoMore t j x y = oneMore (oneMore t j x) (j + 1) y
 
 -- premium and claims of a state in year k of a projection, added at their places
 abbrev pub yearMore : List ℕ → ℕ → ℕ → State → List ℕ → List ℕ
-yearMore t setting k c u = twoMore u (10 * k + 2 * setting) (premiumIn t c) (claimsIn t c)
+yearMore t setting k c u = twoMore u (premiumPlace k setting) (premiumIn t c) (claimsIn t c)

@@ -7,7 +7,8 @@ ghost use Prim.Native.Nat.{_+_, _*_, _<_, _≤_};
 ghost use Rattle.lists.specs.AtMost.{AtMost};
 ghost use Rattle.settings.specs.Settings.{columnsOf, fiveColumns};
 ghost use Rattle.cell.specs.States.{cellIn, Projectable};
-ghost use Rattle.cell_projection.specs.Tables.{amountBy, added, chosen, twoMore};
+ghost use Rattle.cell_projection.specs.Tables.{yearCount, tableNumbers, amountBy, added};
+ghost use Rattle.cell_projection.specs.Tables.{chosen, twoMore};
 ghost use Rattle.five_projections.specs.Five.{FiveReady, startOf, nextFive, tenMore};
 ghost use Rattle.five_projections.specs.Five.{fiveTimesMore, LeastInForce};
 ghost use Rattle.five_projections.specs.SideBySide.{Reached, ProjectedTo, Projected};
@@ -45,8 +46,8 @@ pub struct Five {
 // One year of all five. None waits for another.
 fn year(rows: &RateTable, cells: Five, columns: FiveColumns, k: usize, sums: &mut YearSums) -> Five
     requires { ⌜ FiveReady (now rows) cells
-        × (k < 50)
-        × AtMost 3000000000000000 500 (now sums)
+        × (k < yearCount)
+        × AtMost 3000000000000000 tableNumbers (now sums)
         × (columns ≡ fiveColumns) ⌝ }
     ensures { λ r. ⌜ (r ≡ nextFive (now (rows .entry)) k cells)
         × (now (sums .exit) ≡ tenMore (now (rows .entry)) k cells (now (sums .entry))) ⌝ }
@@ -74,10 +75,10 @@ fn year(rows: &RateTable, cells: Five, columns: FiveColumns, k: usize, sums: &mu
 
 // Adds x to number j of the table, and y to the next.
 fn add_two(sums: &mut YearSums, j: usize, x: u64, y: u64)
-    requires { ⌜ (j < 499)
+    requires { ⌜ (j + 1 < tableNumbers)
         × (x ≤ 1000000000000)
         × (y ≤ 1000000000000)
-        × AtMost 4000000000000000 500 (now sums) ⌝ }
+        × AtMost 4000000000000000 tableNumbers (now sums) ⌝ }
     ensures { λ _. ⌜ now (sums .exit) ≡ twoMore (now (sums .entry)) j x y ⌝ }
 {
     add_at(sums, j, x);
@@ -88,7 +89,7 @@ fn add_two(sums: &mut YearSums, j: usize, x: u64, y: u64)
 fn add_year_0(sums: &mut YearSums, premium: u64, claims: u64)
     requires { ⌜ (premium ≤ 1000000000000)
         × (claims ≤ 1000000000000)
-        × AtMost 2000000000000000 500 (now sums) ⌝ }
+        × AtMost 2000000000000000 tableNumbers (now sums) ⌝ }
     ensures { λ _. ⌜ now (sums .exit) ≡ fiveTimesMore (now (sums .entry)) premium claims ⌝ }
 {
     add_two(sums, 0, premium, claims);
@@ -102,7 +103,7 @@ fn add_year_0(sums: &mut YearSums, premium: u64, claims: u64)
 // times those of one: no share of them is taken.
 fn year_0(rows: &RateTable, point: ModelPoint, sums: &mut YearSums) -> Five
     requires { ⌜ Projectable (now rows) (point .row) (point .count)
-        × AtMost 2000000000000000 500 (now sums) ⌝ }
+        × AtMost 2000000000000000 tableNumbers (now sums) ⌝ }
     ensures { λ r. ⌜ (r ≡ nextFive (now (rows .entry)) 0 (startOf (point .row) (point .count)))
         × (now (sums .exit) ≡ tenMore (now (rows .entry)) 0 (startOf (point .row) (point .count))
         (now (sums .entry))) ⌝ }
@@ -152,9 +153,9 @@ fn together(
 ) -> Stop
     requires { ⌜ Projectable (now rows) (point .row) (point .count)
         × (from ≤ to)
-        × (to ≤ 50)
+        × (to ≤ yearCount)
         × Reached (now rows) (point .row) (point .count) from start
-        × AtMost 2500000000000000 500 (now sums) ⌝ }
+        × AtMost 2500000000000000 tableNumbers (now sums) ⌝ }
     ensures { λ r. ⌜ ProjectedTo (now (rows .entry)) (point .row) (point .count) from to r
         (now (sums .entry)) (now (sums .exit)) ⌝ }
 {
@@ -172,8 +173,8 @@ fn together(
 // own: in the later ones one set of weights holds.
 fn side_by_side(rows: &RateTable, point: ModelPoint, sums: &mut YearSums) -> Stop
     requires { ⌜ Projectable (now rows) (point .row) (point .count)
-        × AtMost 2000000000000000 500 (now sums) ⌝ }
-    ensures { λ r. ⌜ ProjectedTo (now (rows .entry)) (point .row) (point .count) 0 50 r
+        × AtMost 2000000000000000 tableNumbers (now sums) ⌝ }
+    ensures { λ r. ⌜ ProjectedTo (now (rows .entry)) (point .row) (point .count) 0 yearCount r
         (now (sums .entry)) (now (sums .exit)) ⌝ }
 {
     let cell = Cell::new(point.row, point.count);
@@ -207,7 +208,7 @@ pub struct Counts {
 // The projection of a model point: all five side by side, and then each alone.
 pub fn project(rows: &RateTable, point: ModelPoint, sums: &mut YearSums) -> Counts
     requires { ⌜ Projectable (now rows) (point .row) (point .count)
-        × AtMost 2000000000000000 500 (now sums) ⌝ }
+        × AtMost 2000000000000000 tableNumbers (now sums) ⌝ }
     ensures { λ r. ⌜ Projected (now (rows .entry)) (point .row) (point .count) r (now (sums .entry))
         (now (sums .exit)) ⌝ }
 {
@@ -272,10 +273,11 @@ pub fn project_by(
 )
     requires { ⌜ Projectable (now rows) (point .row) (point .count)
         × (which ≤ 5)
-        × AtMost 2000000000000000 500 (now sums)
+        × AtMost 2000000000000000 tableNumbers (now sums)
         × (which < 5 → one ≡ columnsOf which) ⌝ }
     ensures { λ _. ⌜ now (sums .exit) ≡ added
-        (chosen which (amountBy (cellIn (now (rows .entry)) (point .row) (point .count)))) 500
+        (chosen which (amountBy (cellIn (now (rows .entry)) (point .row) (point .count))))
+        tableNumbers
         (now (sums .entry)) ⌝ }
 {
     if which == ALL {

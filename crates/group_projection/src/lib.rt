@@ -10,6 +10,7 @@ ghost use Rattle.book.specs.Cells.{firstChain, chainsOf};
 ghost use Rattle.book.specs.Reading.{Standing, ValidBook};
 ghost use Rattle.settings.specs.Settings.{ShiftsOf, columnsOf};
 ghost use Rattle.rate_table.specs.Rows.{RowsOf};
+ghost use Rattle.cell_projection.specs.Tables.{tableNumbers};
 ghost use Rattle.group_projection.specs.Added.{CellsAdded, ChainAdded, SumsOf};
 use cell_projection::ModelPoint;
 use cell_projection::YearSums;
@@ -65,7 +66,7 @@ fn add_cells(
         × Standing (now book) 120 chain head
         × RowsOf (now book) chain head (now rows)
         × (which ≤ 5)
-        × AtMost 1000000000000000 500 (now sums) ⌝ }
+        × AtMost 1000000000000000 tableNumbers (now sums) ⌝ }
     ensures { λ n. ⌜ CellsAdded (now (book .entry)) which head n (now (sums .entry))
         (now (sums .exit)) ⌝ }
 {
@@ -101,7 +102,7 @@ fn add_chain(
         × ValidBook 1 (now book)
         × (k < 14)
         × (which ≤ 5)
-        × AtMost 1000000000000000 500 (now sums) ⌝ }
+        × AtMost 1000000000000000 tableNumbers (now sums) ⌝ }
     ensures { λ n. ⌜ ChainAdded (now (book .entry)) which k n (now (sums .entry)) (now (sums .exit))
         ⌝ }
 {
@@ -130,7 +131,7 @@ pub fn group_sums(
         × (1 ≤ group)
         × (group ≤ 5)
         × (which ≤ 5)
-        × (now numbers ≡ replicate 500 0) ⌝ }
+        × (now numbers ≡ replicate tableNumbers 0) ⌝ }
     ensures { λ n. ⌜ SumsOf (now (book .entry)) which group n (now (numbers .exit)) ⌝ }
 {
     let mut n: u64 = 0;

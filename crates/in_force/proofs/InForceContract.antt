@@ -1,15 +1,17 @@
 -- What the refusals say, and that the promise follows from the reply and the caller's numbers. Assumes nothing.
-use mathlib.Core.Path.{_≡_, refl, sym, _∙_}
+use mathlib.Core.Path.{_≡_, sym, ap, _∙_}
 use mathlib.Core.List.{List, _++_}
 use Prim.Native.Nat.{ℕ, _<_, _≤_}
 use native.Mathlib.Nat.{pos-of-ne-zero}
 use borrow.Author.Tests.{ltb-true, leb-true, eqb-false, eq-eqb, ne-eqb, not-true}
 use lib.ListN.{length, drop}
+use Rattle.lists.proofs.Each.{each-length}
 use Rattle.verdict.specs.Verdicts.{need, _andThen_, countOf}
 use Rattle.verdict.specs.declared.Verdict.{Verdict}
 use Rattle.verdict.specs.declared.Verdict.the-variants.{Accepted, Refused}
 use Rattle.verdict.proofs.Verdicts.{need-true, then-left, then-right, ZeroAccepts, zero-accepts-need, zero-accepts-then}
 use Rattle.le_bytes.proofs.Ranges.{within-means}
+use Rattle.buffer.specs.Replies.{bufferFor}
 use Rattle.book.specs.Check.{checkBook}
 use Rattle.book.specs.Rules.{Rules}
 use Rattle.book.specs.Reading.{ValidBook}
@@ -115,10 +117,12 @@ module _ (b : List ℕ) (setting code sex class : ℕ) (before after : List ℕ)
   pub refused : (q p : ℕ) → inForceCheck b setting code sex class (length before) ≡ Refused q p → reply ≡ Refused q p
       → after ≡ before → InForceContract b setting code sex class before after reply
   unfolding inForceNumbers
-  refused q p e is same = promised (is ∙ sym e) (same ∙ sym (rw e))
+  refused q p e is same =
+      let run = inForceRun b setting (recordAtClass b code sex class) in
+      promised (is ∙ sym e) (same ∙ sym (ap (λ (v : Verdict). bufferFor v run before) e))
 
   pub shown : (m : ℕ) → inForceCheck b setting code sex class (length before) ≡ Accepted m → reply ≡ Accepted m
       → after ≡ inForceRun b setting (recordAtClass b code sex class) ++ drop 50 before
       → InForceContract b setting code sex class before after reply
-  unfolding inForceNumbers
-  shown m e is run = promised (is ∙ sym e) (run ∙ sym (rw e))
+  unfolding inForceNumbers inForceRun
+  shown m e is run = promised (is ∙ sym e) (run ∙ sym (rw (e, each-length _ 50)))

@@ -3,7 +3,7 @@
 use mathlib.Core.Path.{_≡_, refl, sym, ap, _∙_}
 use mathlib.Core.Bool.{Bool, true, false, cond}
 use mathlib.Core.List.{List, [], _∷_}
-use Prim.Native.Nat.{ℕ, zero, suc, _+_, _-_, _*_, _<_, _≤_}
+use Prim.Native.Nat.{ℕ, zero, suc, _+_, _<_}
 use native.Mathlib.Nat.{zero-add, suc-add, pos-of-ne-zero}
 use native.Mathlib.Omega.{arith}
 use borrow.Author.Tests.{eqb-false}
@@ -11,7 +11,8 @@ use lib.Dec.{eqb}
 use lib.ListN.{length}
 use Rattle.verdict.specs.declared.Verdict.{Verdict}
 use Rattle.verdict.specs.declared.Verdict.the-variants.{Accepted, Refused}
-use Rattle.book.specs.Layout.{lastClass, chains, headOf, classOf, nextOf, recordAfter, linkFrom, linkAt}
+use Rattle.buffer.specs.Replies.{bufferFor}
+use Rattle.book.specs.Layout.{lastClass, chains, headOf, nextOf, recordAfter, linkFrom}
 use Rattle.book.specs.Rules.{SameButUnlinked}
 use Rattle.book.specs.Reading.{ValidBook}
 use Rattle.book.proofs.Links.{link-next}
@@ -21,7 +22,7 @@ use Rattle.settings.specs.Settings.{decrementsOf}
 use Rattle.valuation.specs.Portfolio.{linksFrom, chainLinks}
 use Rattle.valuation.proofs.Unlinked.{Kept, cell-same, decrements-same}
 use Rattle.in_force.specs.InForceRun.{chainOf, ofClass, recordAtClass, askedCheck, inForceCheck, inForceRun}
-use Rattle.in_force.specs.InForceRun.{numbersFor, inForceNumbers}
+use Rattle.in_force.specs.InForceRun.{inForceNumbers}
 use Rattle.in_force.proofs.Records.{link-all, link-standing}
 use Rattle.in_force.proofs.InForceContract.{asked-code, asked-sex, by-asked}
 use Rattle.in_force.proofs.InForceContract.{accepted-asked, accepted-valid, accepted-some}
@@ -111,7 +112,7 @@ module _ (b b′ : List ℕ) (s : SameButUnlinked b b′) where
         rw (← (check-same (length before))) (by (inForceCheck b setting code sex class (length before)) refl)
       where
         by : (v : Verdict) → inForceCheck b setting code sex class (length before) ≡ v
-            → numbersFor v (inForceRun b setting (recordAtClass b code sex class)) before
-            ≡ numbersFor v (inForceRun b′ setting (recordAtClass b′ code sex class)) before
+            → bufferFor v (inForceRun b setting (recordAtClass b code sex class)) before
+            ≡ bufferFor v (inForceRun b′ setting (recordAtClass b′ code sex class)) before
         by (Accepted n) e = rw (run-same (length before) n e)
         by (Refused q p) e = refl

@@ -2,13 +2,13 @@
 use Prim.Native.Nat.{ℕ, _+_, _-_, _*_, _<_}
 use mathlib.Core.Path.{_≡_}
 use mathlib.Core.Bool.{not, cond}
-use mathlib.Core.List.{List, [], _∷_, _++_}
+use mathlib.Core.List.{List, [], _∷_}
 use lib.Dec.{leb, ltb, eqb}
-use lib.ListN.{length, drop}
+use lib.ListN.{length}
 use Rattle.verdict.specs.Verdicts.{need, _andThen_, refusalOf}
 use Rattle.le_bytes.specs.Fields.{within}
 use Rattle.verdict.specs.declared.Verdict.{Verdict}
-use Rattle.verdict.specs.declared.Verdict.the-variants.{Accepted, Refused}
+use Rattle.buffer.specs.Replies.{bufferFor}
 use Rattle.book.specs.Layout.{chains, codeOf, sexOf, classOf, linkAt}
 use Rattle.book.specs.Check.{checkBook}
 use Rattle.settings.specs.Settings.{decrementsOf}
@@ -50,13 +50,9 @@ unfoldable pub inForceRun : List ℕ → ℕ → ℕ → List ℕ
 inForceRun b setting i = each (inForce rounded (cellOf b (decrementsOf b setting) i)) 50
 
 -- the caller's numbers afterwards: those of the fifty years, then what stood there; as they were where refused
-abbrev pub numbersFor : Verdict → List ℕ → List ℕ → List ℕ
-numbersFor (Accepted n) run before = run ++ drop 50 before
-numbersFor (Refused number place) run before = before
-
 unfoldable pub inForceNumbers : List ℕ → ℕ → ℕ → ℕ → ℕ → List ℕ → List ℕ
 inForceNumbers b setting code sex class before =
-    numbersFor (inForceCheck b setting code sex class (length before))
+    bufferFor (inForceCheck b setting code sex class (length before))
     (inForceRun b setting (recordAtClass b code sex class)) before
 
 -- record i has the code, the sex and the class, and no other linked record of the book has all three

@@ -1,6 +1,6 @@
 -- Numbers in a list of bytes, least byte first. Past the end of the list a byte counts as 0.
-use Prim.Native.Nat.{ℕ, _+_, _*_}
-use mathlib.Core.List.{List}
+use Prim.Native.Nat.{ℕ, _+_, _*_, _/_, _%_}
+use mathlib.Core.List.{List, [], _∷_, _++_}
 use lib.ListN.{getD}
 
 -- the byte at a place
@@ -18,3 +18,10 @@ readU32 b at = readU16 b at + 65536 * readU16 b (at + 2)
 -- the number of eight bytes at a place
 unfoldable pub readU64 : List ℕ → ℕ → ℕ
 readU64 b at = readU32 b at + 4_294_967_296 * readU32 b (at + 4)
+
+-- a number in two bytes and in four
+unfoldable pub twoBytes : ℕ → List ℕ
+twoBytes x = x % 256 ∷ x / 256 % 256 ∷ []
+
+unfoldable pub fourBytes : ℕ → List ℕ
+fourBytes x = twoBytes x ++ twoBytes (x / 65536)

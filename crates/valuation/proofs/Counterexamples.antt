@@ -7,7 +7,7 @@ use Prim.Native.Nat.{ℕ}
 use native.Mathlib.Omega.{arith}
 use lib.IntN.{natAbs}
 use Rattle.lists.specs.Sums.{sumBy}
-use Rattle.le_bytes.specs.Bytes.{readU16, readU32}
+use Rattle.le_bytes.specs.Bytes.{readU16, readU32, twoBytes, fourBytes}
 use Rattle.book.specs.Layout.{classOf, nextOf, fieldOf}
 use Rattle.settings.specs.Settings.{weightOf, percentOf, mortalityWeight, decrementsOf}
 use Rattle.valuation.specs.Steps.{inForce, cellPremium, cellClaims, sumCells, premiumSum, claimsSum, outgo}
@@ -15,7 +15,7 @@ use Rattle.valuation.specs.Steps.{cappedIf, capped, countedPremium, disc
 use Rattle.valuation.specs.Steps.{discountedPremium, totalOutgo, totalPremium, liability}
 use Rattle.valuation.specs.Portfolio.{mortalityOf, oneLess, rowAt, cellOf, linksOf}
 use Rattle.valuation.specs.Replies.{groupLiability}
-use Rattle.valuation.specs.Traps.{endToEnd, fourBytes, menAt, menBook, Together, Traps}
+use Rattle.valuation.specs.Traps.{endToEnd, menAt, menBook, Together, Traps}
 
 together : (b : List ℕ) (setting : ℕ) → Together b setting
 unfolding groupLiability linksOf endToEnd
@@ -24,7 +24,8 @@ together b setting = record { years = λ g. refl; liability-is = λ g. refl; pg1
 pub traps : Traps
 unfolding liability totalOutgo totalPremium sumBy discountedPremium discountedOutgo discounted countedPremium capped
     cappedIf outgo claimsSum premiumSum sumCells cellClaims cellPremium inForce cellOf rowAt oneLess mortalityOf nextOf
-    classOf fieldOf decrementsOf mortalityWeight percentOf weightOf menBook menAt fourBytes endToEnd readU16 readU32
+    classOf fieldOf decrementsOf mortalityWeight percentOf weightOf menBook menAt fourBytes twoBytes endToEnd readU16
+    readU32
 traps = record {
   subgroups-capped-one-by-one = record { figure-is = refl; other-is = refl; differ = λ e. absurd (omega arith) };
   subgroups-added = record { figure-is = refl; other-is = refl; differ = λ e. absurd (omega (arith, ap natAbs e)) };

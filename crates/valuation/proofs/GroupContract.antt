@@ -1,14 +1,13 @@
 -- What Group promises holds of its reply and table as defined: both distances, and the cap. Assumes nothing.
 use mathlib.Core.Path.{_≡_, refl, sym, subst}
 use mathlib.Core.Logic.{⊎-elim}
-use mathlib.Core.Bool.{Bool, true, false}
 use mathlib.Core.List.{List, _++_, append-assoc}
 use Prim.Native.Nat.{ℕ, zero, suc, _+_, _*_, _<_, _≤_}
 use native.Mathlib.Nat.{add-zero, eq-or-lt-of-le}
 use native.Mathlib.Omega.{arith}
 use borrow.Author.Tests.{le-leb}
 use lib.IntN.{ℤ}
-use lib.ListN.{length, getD, drop, length-append, List·getD-append}
+use lib.ListN.{length, getD, length-append, List·getD-append}
 use lib.Seq.{getD-append-add}
 use Rattle.verdict.specs.Verdicts.{countOf}
 use Rattle.verdict.specs.declared.Verdict.{Verdict}
@@ -137,9 +136,9 @@ module _ (b : List ℕ) (setting g : ℕ) (before : List ℕ) (n : ℕ)
       let t = termsOf b setting g in
       let cs = groupCells b (decrementsOf b setting) g in
       let premium : getD (groupTable b setting g before) (4 * k) 0 ≡ countedPremium rounded t cs k =
-      rw e (premium-at t cs 50 k (drop 200 before) year) in
+      rw e (premium-at t cs 50 k _ year) in
       let paid : getD (groupTable b setting g before) (4 * k + 1) 0 ≡ outgo rounded t cs k =
-      rw e (outgo-at t cs 50 k (drop 200 before) year) in
+      rw e (outgo-at t cs 50 k _ year) in
       rw (premium, paid) (cap-holds t cs k late)
 
 pub promised : (b : List ℕ) (setting g : ℕ) (before after : List ℕ) (reply : GroupReply)

@@ -1,14 +1,13 @@
 -- Books as trial figures T7 to T10 ask for them exist. Assumes nothing.
 use mathlib.Core.Path.{_≡_, refl}
-use mathlib.Core.Logic.{⊎-elim}
 use mathlib.Core.List.{List, [], _∷_, _++_}
-use mathlib.Core.Bool.{Bool, true, false, cond}
-use Prim.Native.Nat.{ℕ, zero, suc, _<_}
-use native.Mathlib.Nat.{eq-or-lt-of-le}
+use Prim.Native.Nat.{ℕ, zero, suc}
 use native.Mathlib.Omega.{arith}
 use borrow.Author.Tests.{eqb-true}
 use lib.Dec.{eqb, lit≤}
 use lib.ListN.{replicate}
+use Rattle.conditions.specs.Every.{every}
+use Rattle.conditions.proofs.Every.{every-holds}
 use Rattle.le_bytes.specs.Bytes.{readU16, readU32}
 use Rattle.book.specs.Layout.{edition, classOf, nextOf, fieldOf, lapseOffset}
 use Rattle.valuation.specs.Portfolio.{mortalityOf, onward, rowAt}
@@ -35,22 +34,6 @@ deadly = trialBook (64 ∷ 66 ∷ 15 ∷ 0 ∷ []) (replicate 4 0)
 unfoldable pub leaving : List ℕ
 leaving = trialBook (replicate 4 0) (21 ∷ 22 ∷ 5 ∷ 0 ∷ [])
 
--- what a test finds of each number below n
-each : (ℕ → Bool) → ℕ → Bool
-each f zero = true
-each f (suc n) = cond (f n) (each f n) false
-
-each-means : (f : ℕ → Bool) (n k : ℕ) → each f n ≡ true → k < n → f k ≡ true
-unfolding each
-each-means f zero k e h = absurd (omega arith)
-each-means f (suc n) k e h = by-test (f n) refl e (λ rest early. each-means f n k rest early)
-  where
-    by-test : (t : Bool) → f n ≡ t → cond t (each f n) false ≡ true → (each f n ≡ true → k < n → f k ≡ true)
-        → f k ≡ true
-    by-test true here rest more =
-        ⊎-elim (λ (same : k ≡ n). rw same here) (λ (early : k < n). more rest early) (eq-or-lt-of-le (omega arith))
-    by-test false here rest more = cc
-
 -- the cell of record 1 comes to record 3 in its third year, and stays there
 module _ (b : List ℕ) (third : rowAt b 1 2 ≡ 3) (last : onward b 3 ≡ 3) where
   rows : (k : ℕ) → rowAt b 1 (suc (suc k)) ≡ 3
@@ -70,24 +53,24 @@ unfolding deadly trialBook
 deadly-edition = refl
 
 pub deadly-man : OneMan deadly 1 1_000_000 0
-unfolding deadly trialBook manAt times each readU16 readU32 classOf nextOf fieldOf mortalityOf rowAt
+unfolding deadly trialBook manAt times every readU16 readU32 classOf nextOf fieldOf mortalityOf rowAt
 deadly-man = record {
   one = refl;
   man = refl;
   young = lit≤ tt;
   ages = refl;
   dies = λ class old. eqb-true _ _
-      (each-means (λ c. eqb (mortalityOf deadly 0 c) 1_000_000) 121 class refl (omega arith));
+      (every-holds (λ c. eqb (mortalityOf deadly 0 c) 1_000_000) 121 class refl (omega arith));
   leaves = lapses deadly refl refl 0 refl refl refl;
 }
 
 pub leaving-man : OneMan leaving 1 0 333_333
-unfolding leaving trialBook manAt times each readU16 readU32 classOf nextOf fieldOf mortalityOf rowAt
+unfolding leaving trialBook manAt times every readU16 readU32 classOf nextOf fieldOf mortalityOf rowAt
 leaving-man = record {
   one = refl;
   man = refl;
   young = lit≤ tt;
   ages = refl;
-  dies = λ class old. eqb-true _ _ (each-means (λ c. eqb (mortalityOf leaving 0 c) 0) 121 class refl (omega arith));
+  dies = λ class old. eqb-true _ _ (every-holds (λ c. eqb (mortalityOf leaving 0 c) 0) 121 class refl (omega arith));
   leaves = lapses leaving refl refl 333_333 refl refl refl;
 }

@@ -14,6 +14,7 @@ use Rattle.lists.proofs.Sums.{sum-same}
 use Rattle.verdict.specs.declared.Verdict.{Verdict}
 use Rattle.verdict.specs.declared.Verdict.the-variants.{Accepted, Refused}
 use Rattle.le_bytes.proofs.Same.{u32-same}
+use Rattle.buffer.specs.Replies.{bufferFor}
 use Rattle.book.specs.Layout.{recordSize, lastClass, chains, headOf, sexOf, classOf, nextOf, fieldOf, countOffset}
 use Rattle.book.specs.Layout.{lapseOffset, premiumOffset, claimsOffset, curvePlace, linkFrom}
 use Rattle.book.specs.Cells.{firstChain, chainsOf, heldOfGroup, heldInAll}
@@ -33,7 +34,7 @@ use Rattle.valuation.specs.Steps.{Cell, Terms, held, outgo, countedPremi
 use Rattle.valuation.specs.Steps.{totalOutgo, totalPremium, liability}
 use Rattle.valuation.specs.Portfolio.{mortalityOf, costRateOf, divisorOf, oneLess, onward, rowAt, cellOf}
 use Rattle.valuation.specs.Portfolio.{linksFrom, chainLinks, linksOf, cellsOf, groupCells, termsOf}
-use Rattle.valuation.specs.Replies.{groupCheck, groupLiability, replyOf, groupReply, yearTable, tableOf}
+use Rattle.valuation.specs.Replies.{groupCheck, groupLiability, replyOf, groupReply, yearTable}
 use Rattle.valuation.specs.Replies.{groupTable}
 use Rattle.valuation.specs.Totals.{totalOf, totalsOf, differencesOf, totalsFor, totalsReply}
 use Rattle.valuation.proofs.Rows.{chain-standing, next-standing}
@@ -275,7 +276,7 @@ table-same b b′ s setting g before =
     years c = yearTable (termsOf c setting g) (groupCells c (decrementsOf c setting) g) 50
 
     by-verdict : (v : Verdict) → groupCheck b setting g (length before) ≡ v
-        → tableOf v (years b) before ≡ tableOf v (years b′) before
+        → bufferFor v (years b) before ≡ bufferFor v (years b′) before
     by-verdict (Accepted n) e =
         rw (group-years-same b b′ s setting g (group-valid b setting g (length before) n e)
         (group-range b setting g (length before) n e))

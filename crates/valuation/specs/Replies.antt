@@ -4,11 +4,12 @@ use mathlib.Core.Path.{_≡_}
 use mathlib.Core.List.{List, [], _∷_, _++_}
 use lib.Dec.{leb, ltb}
 use lib.IntN.{ℤ, pos}
-use lib.ListN.{length, getD, drop}
+use lib.ListN.{length, getD}
 use Rattle.verdict.specs.Verdicts.{need, _andThen_}
 use Rattle.le_bytes.specs.Fields.{within}
 use Rattle.verdict.specs.declared.Verdict.{Verdict}
 use Rattle.verdict.specs.declared.Verdict.the-variants.{Accepted, Refused}
+use Rattle.buffer.specs.Replies.{bufferFor}
 use Rattle.book.specs.Layout.{lastClass}
 use Rattle.book.specs.Cells.{heldOfGroup}
 use Rattle.book.specs.Check.{checkBook}
@@ -80,12 +81,8 @@ abbrev pub groupYears : List ℕ → ℕ → ℕ → List ℕ
 groupYears b setting g = yearTable (termsOf b setting g) (groupCells b (decrementsOf b setting) g) 50
 
 -- the caller's table afterwards: the 200 numbers of the fifty years, then what stood there; as it was where refused
-abbrev pub tableOf : Verdict → List ℕ → List ℕ → List ℕ
-tableOf (Accepted m) years before = years ++ drop 200 before
-tableOf (Refused number place) years before = before
-
 unfoldable pub groupTable : List ℕ → ℕ → ℕ → List ℕ → List ℕ
-groupTable b setting g before = tableOf (groupCheck b setting g (length before)) (groupYears b setting g) before
+groupTable b setting g before = bufferFor (groupCheck b setting g (length before)) (groupYears b setting g) before
 
 -- What Group's call promises: its reply and its table equal their definitions; and, where it computes, demand 3.
 pub record GroupContract (b : List ℕ) (setting g : ℕ) (before after : List ℕ) (reply : GroupReply) : Type 0 where

@@ -3,10 +3,11 @@
 use mathlib.Core.Bool.{cond}
 use mathlib.Core.Path.{_≡_}
 use mathlib.Core.List.{List, [], _∷_, _++_}
-use Prim.Native.Nat.{ℕ, _+_, _-_, _*_, _/_, _%_}
+use Prim.Native.Nat.{ℕ, _+_, _-_, _*_, _/_}
 use lib.Dec.{leb, eqb}
 use lib.IntN.{ℤ, pos, _+ℤ_, _-ℤ_}
 use lib.ListN.{getD, replicate}
+use Rattle.le_bytes.specs.Bytes.{fourBytes}
 use Rattle.settings.specs.Settings.{decrementsOf}
 use Rattle.valuation.specs.Arithmetic.{rounded}
 use Rattle.valuation.specs.Steps.{Cell, Terms, inForce, premiumSum, claimsSum, outgo, cappedIf}
@@ -52,13 +53,10 @@ cellsOutgoIn cs k = getD (yearNumbers trapTerms cs k) 1 0
 abbrev pub discountedIn : List Cell → ℕ → ℕ
 discountedIn cs k = getD (yearNumbers trapTerms cs k) 3 0
 
--- lists end to end, and a number in four bytes
+-- lists end to end
 unfoldable pub endToEnd : List (List ℕ) → List ℕ
 endToEnd [] = []
 endToEnd (xs ∷ rest) = xs ++ endToEnd rest
-
-unfoldable pub fourBytes : ℕ → List ℕ
-fourBytes n = n % 256 ∷ n / 256 % 256 ∷ n / 65_536 % 256 ∷ n / 16_777_216 ∷ []
 
 -- a record of men of PG2, of whom a tenth leave each year: its class, the record after it, and its count
 unfoldable pub menAt : ℕ → ℕ → ℕ → List ℕ

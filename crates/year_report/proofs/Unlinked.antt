@@ -19,8 +19,8 @@ use Rattle.settings.specs.Settings.{decrementsOf}
 use Rattle.valuation.specs.Arithmetic.{rounded}
 use Rattle.valuation.specs.Steps.{outgo, countedPremium}
 use Rattle.valuation.specs.Portfolio.{groupCells, termsOf}
-use Rattle.valuation.specs.Replies.{groupCheck, groupTable, tableOf, yearTable}
-use Rattle.valuation.proofs.GroupContract.{premium-at, outgo-at}
+use Rattle.valuation.specs.Replies.{groupCheck, groupTable, yearTable}
+use Rattle.valuation.proofs.GroupContract.{premium-at, outgo-at, length-years}
 use Rattle.valuation.proofs.Unlinked.{table-same}
 use Rattle.buffer.specs.Replies.{lengthFor, bufferFor, withCapacity, textReply, textBuffer}
 use Rattle.buffer.proofs.Digits.{joined-same}
@@ -46,7 +46,7 @@ module _ (b : List ℕ) (setting g n : ℕ) (accepted : checkBook 1 b ≡ Accept
   table-is : groupTable b setting g blank
       ≡ yearTable (termsOf b setting g) (groupCells b (decrementsOf b setting) g) 50 ++ drop 200 blank
   unfolding groupTable
-  table-is = rw group-accepted
+  table-is = rw (group-accepted, length-years _ _ 50)
 
   module _ (k : ℕ) (year : k < 50) where
     premium-is : getD (groupTable b setting g blank) (4 * k) 0

@@ -1,8 +1,8 @@
 -- `book_encoding::put_four` meets its contract: the low two bytes, and the high ones. Assumes nothing.
 use native.Mathlib.Omega.{arith}
 use borrow.Author.Needs.{needs}
+use Rattle.le_bytes.specs.Bytes.{fourBytes}
 use Rattle.buffer.proofs.Digits.{_then_}
-use Rattle.book_contents.specs.Written.{fourBytes}
 use Rattle.book_encoding.proofs.put_four.Statement.{statement}
 use Rattle.book_encoding.proofs.put_four.Tie as tie
 

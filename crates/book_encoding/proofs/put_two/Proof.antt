@@ -1,8 +1,8 @@
 -- `book_encoding::put_two` meets its contract: the low byte, and the next one. Assumes nothing.
 use native.Mathlib.Omega.{arith}
 use borrow.Author.Needs.{needs}
+use Rattle.le_bytes.specs.Bytes.{twoBytes}
 use Rattle.buffer.proofs.Digits.{_then_}
-use Rattle.book_contents.specs.Written.{twoBytes}
 use Rattle.book_encoding.proofs.put_two.Statement.{statement}
 use Rattle.book_encoding.proofs.put_two.Tie as tie
 

@@ -1,7 +1,7 @@
 -- `book_write_header::put_front` meets its contract: six fields, one after the other. Assumes nothing.
 use borrow.Author.Needs.{needs}
+use Rattle.le_bytes.specs.Bytes.{twoBytes}
 use Rattle.buffer.proofs.Digits.{_then_}
-use Rattle.book_contents.specs.Written.{twoBytes}
 use Rattle.book_write_header.proofs.put_front.Statement.{statement}
 use Rattle.book_write_header.proofs.put_front.Tie as tie
 

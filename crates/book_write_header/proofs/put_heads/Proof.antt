@@ -7,10 +7,11 @@ use Prim.Native.Nat.{ℕ, _+_, _-_, _*_, _≤_}
 use native.Mathlib.Omega.{arith}
 use Rattle.lists.specs.Sums.{sumBy}
 use Rattle.lists.proofs.Sums.{sum-more}
+use Rattle.le_bytes.specs.Bytes.{twoBytes}
 use Rattle.buffer.specs.Text.{Wrote, joined}
 use Rattle.buffer.proofs.Digits.{nothing, kept, joined-more}
 use Rattle.book_contents.specs.Contents.{recordsBefore}
-use Rattle.book_contents.specs.Written.{twoBytes, headFor, headBytes}
+use Rattle.book_contents.specs.Written.{headFor, headBytes}
 use Rattle.book_write_header.proofs.put_heads.Statement.{statement}
 use Rattle.book_write_header.proofs.put_heads.Tie as tie
 

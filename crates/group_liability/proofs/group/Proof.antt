@@ -11,7 +11,7 @@ use borrow.Author.Needs.{needs}
 use Rattle.valuation.specs.Replies.{groupLiability, groupReply, groupTable}
 use Rattle.valuation.specs.declared.GroupReply.the-variants.{Valued}
 use Rattle.valuation.proofs.Accepted.{group-setting, group-table, group-range, group-valid}
-use Rattle.valuation.proofs.GroupContract.{promised}
+use Rattle.valuation.proofs.GroupContract.{length-years, promised}
 use Rattle.settings.proofs.Serving.{projection-low}
 use Rattle.group_liability.proofs.group.Statement.{statement}
 use Rattle.group_liability.proofs.group.Tie as tie
@@ -73,7 +73,7 @@ returns-2 c =
     let l = toZ-ofZ w64 (s .result) (record { sfits = s .ok }) ∙ rw own at (s .ensures .liability-is) in
     let n = c .before .before .before .before .before .group-sums .ensures .n-is in
     promised _ _ _ _ _ _ (rw (e, l) (ap (λ (m : ℕ). Valued (groupLiability b setting g) m) n))
-    (rw e (rw own at (s .ensures .table-is)))
+    (rw (e, length-years _ _ 50) (rw own at (s .ensures .table-is)))
 
 pub group-spec : {M : Type 1} → statement M
 group-spec =
