@@ -3,7 +3,7 @@
 // relies on an earlier one, and a refusal changes no buffer that was passed; of two funds, nothing
 // of the refused one's half.
 ghost use mathlib.Core.Path.{_≡_};
-ghost use Rattle.record_view.specs.Looker.{locatedIn};
+ghost use Rattle.record_view.specs.RecordView.{locatedIn};
 ghost use Rattle.valuation.specs.Totals.{TotalsContract};
 ghost use Rattle.cost_rates.specs.Replies.{RatesContract};
 ghost use Rattle.standard_deviation.specs.Deviation.{DeviationContract};

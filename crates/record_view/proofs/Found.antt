@@ -15,28 +15,28 @@ use Rattle.le_bytes.proofs.Ranges.{within-means}
 use Rattle.book.specs.Layout.{recordSize, records, recordAt}
 use Rattle.book.specs.Reading.{ValidBook}
 use Rattle.book.proofs.Valid.{valid}
-use Rattle.record_view.specs.Looker.{lookUp, locatedAt, locatedIn, bytesOf, recordBytes, liesIn, PartOf, Shows}
+use Rattle.record_view.specs.RecordView.{checkRecord, locatedAt, locatedIn, bytesOf, recordBytes, liesIn, PartOf, Shows}
 use Rattle.record_view.specs.declared.Located.{Located}
 
-module _ (b : List ℕ) (number m : ℕ) (e : lookUp b number ≡ Accepted m) where
-  pub look-valid : ValidBook 1 b
-  unfolding lookUp
-  look-valid = valid 1 b _ (then-left _ _ _ e)
+module _ (b : List ℕ) (number m : ℕ) (e : checkRecord b number ≡ Accepted m) where
+  pub record-valid : ValidBook 1 b
+  unfolding checkRecord
+  record-valid = valid 1 b _ (then-left _ _ _ e)
 
-  pub look-number : (1 ≤ number) × (number ≤ records b)
-  unfolding lookUp
-  look-number = within-means _ _ _ (need-true _ _ _ _ (then-right _ _ _ e))
+  pub record-number : (1 ≤ number) × (number ≤ records b)
+  unfolding checkRecord
+  record-number = within-means _ _ _ (need-true _ _ _ _ (then-right _ _ _ e))
 
 -- what is located lies in the book, and its bytes are the record's: by the verdict
 module _ (b : List ℕ) (number : ℕ) where
   abbrev at : Verdict → Located
   at v = locatedAt v (recordAt number)
 
-  located-lies : (v : Verdict) → lookUp b number ≡ v → liesIn b (at v .start) (at v .len) ≡ true
+  located-lies : (v : Verdict) → checkRecord b number ≡ v → liesIn b (at v .start) (at v .len) ≡ true
   unfolding liesIn
   located-lies (Accepted m) e =
       let h : recordAt number + 24 ≤ length b =
-      omega (arith, look-valid b number m e .header .size, look-number b number m e) in
+      omega (arith, record-valid b number m e .header .size, record-number b number m e) in
       rw (le-leb (recordAt number) (length b) (omega arith), le-leb 24 (length b - recordAt number) (omega arith))
   located-lies (Refused q p) e = rw (le-leb 0 (length b) zero-le, le-leb 0 (length b - 0) zero-le)
 
@@ -60,7 +60,7 @@ pub shown : (book : RefT (List ℕ)) (number : ℕ) (r : Located) (t : RefT (Lis
 unfolding locatedIn recordBytes
 shown book number r t e f =
     let b = now book in
-    let v = lookUp b number in
+    let v = checkRecord b number in
     let lies : liesIn b (r .start) (r .len) ≡ true = rw e (located-lies b number v refl) in
     record {
       refusal-is = rw e (located-refusal b number v);

@@ -1,1 +1,1 @@
-pub mod Looker
+pub mod RecordView

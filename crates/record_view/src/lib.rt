@@ -1,8 +1,8 @@
 // The record view: the 24 bytes of a record as a part of the caller's book.
-// `look` hands the part back in a struct. `locate` says where it stands, for callers that take no
-// struct with a reference.
+// `view_record` returns the part in a struct. `locate` says where it stands, for callers that take
+// no struct with a reference.
 ghost use mathlib.Core.Path.{_≡_};
-ghost use Rattle.record_view.specs.Looker.{lookUp, locatedIn, PartOf, Shows};
+ghost use Rattle.record_view.specs.RecordView.{checkRecord, locatedIn, PartOf, Shows};
 use verdict::Verdict;
 
 // The refusal and its place, 0 and 0 where there is none, and where the record's bytes stand, 0 and
@@ -23,8 +23,8 @@ pub struct Shown<'a> {
 }
 
 // The book's own refusals, then 9 where there is no record of that number.
-fn look_up(book: &[u8], number: usize) -> Verdict
-    ensures { λ r. ⌜ r ≡ lookUp (now (book .entry)) number ⌝ }
+fn check_record(book: &[u8], number: usize) -> Verdict
+    ensures { λ r. ⌜ r ≡ checkRecord (now (book .entry)) number ⌝ }
 {
     let v = book_check::check(book);
     let Verdict::Accepted(_) = v else {
@@ -37,7 +37,7 @@ fn look_up(book: &[u8], number: usize) -> Verdict
 pub fn locate(book: &[u8], number: usize) -> Located
     ensures { λ r. ⌜ r ≡ locatedIn (now (book .entry)) number ⌝ }
 {
-    let v = look_up(book, number);
+    let v = check_record(book, number);
     match v {
         Verdict::Refused(refusal, place) => Located {
             refusal,
@@ -69,7 +69,7 @@ pub fn part(book: &[u8], start: usize, len: usize) -> &[u8]
     }
 }
 
-pub fn look<'a>(book: &'a [u8], number: usize) -> Shown<'a>
+pub fn view_record<'a>(book: &'a [u8], number: usize) -> Shown<'a>
     ensures { λ r. ⌜ Shows (book .entry) number r ⌝ }
 {
     let found = locate(book, number);

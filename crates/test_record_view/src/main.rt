@@ -31,7 +31,7 @@ fn write_shown(refusal: u64, place: usize, part: &[u8]) {
 // A struct that holds a reference is a proof by hand in every function with such a local: this one
 // takes it apart, and the rest is covered.
 fn write_record(book: &[u8], number: usize) {
-    let shown = record_view::look(book, number);
+    let shown = record_view::view_record(book, number);
     write_shown(shown.refusal, shown.place, shown.part);
 }
 

@@ -8,7 +8,7 @@ use native.Mathlib.Nat.{add-sub-cancel-left}
 use borrow.Author.Tests.{le-leb, lt-leb}
 use lib.ListN.{take, drop}
 use denote.Ref.{now}
-use Rattle.record_view.specs.Looker.{liesIn}
+use Rattle.record_view.specs.RecordView.{liesIn}
 use borrow.Author.Needs.{needs}
 use Rattle.record_view.proofs.part.Statement.{statement}
 use Rattle.record_view.proofs.part.Tie as tie

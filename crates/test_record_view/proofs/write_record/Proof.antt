@@ -1,4 +1,4 @@
--- `test_record_view::write_record` is safe and ends: its MIR followed by hand. The `Shown` that `record_view::look`
+-- `test_record_view::write_record` is safe and ends: its MIR followed by hand. The `Shown` that `record_view::view_record`
 -- returns is held in a local and taken apart, and `write_shown` is called on its fields. All that the proof knows of
 -- the two is that each meets its contract. A `&[u8]` is Copy, so what it owns is had again for the exit. Assumes
 -- nothing.
@@ -49,10 +49,10 @@ use denote.Triple.Clauses.{ensured}
 use Rattle.record_view.specs.declared.Shown.{Shown}
 use Rattle.record_view.proofs.Shown as T
 use Rattle.record_view.proofs.Shown.Laws as T′
-use Rattle.record_view.proofs.look as looks
-use Rattle.record_view.proofs.look.Symbol as looks-def
-use Rattle.record_view.proofs.look.Symbol.{name as #record-view·look}
-use Rattle.record_view.proofs.look.Met as looks-thm
+use Rattle.record_view.proofs.view_record as views
+use Rattle.record_view.proofs.view_record.Symbol as views-def
+use Rattle.record_view.proofs.view_record.Symbol.{name as #record-view·view-record}
+use Rattle.record_view.proofs.view_record.Met as views-thm
 use Rattle.test_record_view.proofs.write_shown as prints
 use Rattle.test_record_view.proofs.write_shown.Symbol as prints-def
 use Rattle.test_record_view.proofs.write_shown.Symbol.{name as #test-record-view·write-shown}
@@ -67,8 +67,8 @@ stayed = (stay-none-slice (0 ∷ []) tt (plain (λ _. u8)) yes, (stay-none (λ _
 
 module _ {M : Type 1} (𝓤 : URA M) (H : Heap 𝓤) (A : Atoms 𝓤) (mem : Memory → SProp 𝓤) (run : Routine → Fun 𝓤) where
   -- the contracts that the proof cites
-  abbrev Looks : Contract 𝓤
-  Looks = tripleOf 𝓤 H A looks.signature (looks.spec 𝓤 H A mem run)
+  abbrev Views : Contract 𝓤
+  Views = tripleOf 𝓤 H A views.signature (views.spec 𝓤 H A mem run)
 
   abbrev Prints : Contract 𝓤
   Prints = tripleOf 𝓤 H A prints.signature (prints.spec 𝓤 H A mem run)
@@ -106,18 +106,18 @@ module _ {M : Type 1} (𝓤 : URA M) (H : Heap 𝓤) (A : Atoms 𝓤) (W : Given
   abbrev L : LL.Laws D
   L = T′.the-laws α
 
-  -- the call of `look`: what it is passed, and what it asks
-  abbrev to-look : Looks 𝓤 H A mem run .Ghost
-  to-look = (((κ, tt), (q, tt), tt, (s, (i, tt)), at), tt)
+  -- the call of `view_record`: what it is passed, and what it asks
+  abbrev to-view : Views 𝓤 H A mem run .Ghost
+  to-view = (((κ, tt), (q, tt), tt, (s, (i, tt)), at), tt)
 
-  goes-look : ent 𝓤 (onEntry 𝓤 H A writes.signature (κ, tt) (q, tt) (s, (i, tt)) at)
-      (sep 𝓤 (Looks 𝓤 H A mem run .pre to-look) (sem 𝓤 H A Own))
-  goes-look =
+  goes-view : ent 𝓤 (onEntry 𝓤 H A writes.signature (κ, tt) (q, tt) (s, (i, tt)) at)
+      (sep 𝓤 (Views 𝓤 H A mem run .pre to-view) (sem 𝓤 H A Own))
+  goes-view =
       qed W ((‵ (flft κ q) ⊛ ‵ ftrue) ∷ ‵ (owns (ShrSlice (named 0) κ u8 ∷ usize ∷ []) (s, (i, tt)) at) ∷ []) ∵
       move ! (1 ∷ []) $ fsplit ! $
       use1 W (‵ Own ⊛ ‵ Own) (shr-slice-copy 𝓤 H A W (named 0) κ u8 .twice s (val s ∷ [])) $ split ! $
       move ! (0 ∷ 2 ∷ []) $ fjoin ! $ move ! (2 ∷ 0 ∷ []) $
-      use2 W (raw (Looks 𝓤 H A mem run .pre to-look))
+      use2 W (raw (Views 𝓤 H A mem run .pre to-view))
       (qed W ((‵ (flft κ q) ⊛ ‵ ftrue) ∷ ‵ (owns (ShrSlice (named 0) κ u8 ∷ usize ∷ []) (s, (i, tt)) at) ∷ []) ∵
       join ! $ frame ! $ done !) $
       frame ! $ done !
@@ -157,7 +157,7 @@ module _ {M : Type 1} (𝓤 : URA M) (H : Heap 𝓤) (A : Atoms 𝓤) (W : Given
   typed r v is = LL.lawful (T.the-type αᵉ) (T′.the-laws αᵉ) 𝓤 H A W .typed r (v ∷ []) is .0
 
   module _ (C : Calls 𝓤 H) (Λ : Loops 𝓤 H) (fm : FmC 𝓤 H (W .laws) C)
-      (known-look : Triple 𝓤 (C #record-view·look) (Looks 𝓤 H A mem run))
+      (known-view : Triple 𝓤 (C #record-view·view-record) (Views 𝓤 H A mem run))
       (known-print : Triple 𝓤 (C #test-record-view·write-shown) (Prints 𝓤 H A mem run)) where
     walk : Is (ShrSlice (named 0) κ u8) s (val s ∷ [])
         → ent 𝓤 (onEntry 𝓤 H A writes.signature (κ, tt) (q, tt) (s, (i, tt)) at)
@@ -170,14 +170,14 @@ module _ {M : Type 1} (𝓤 : URA M) (H : Heap 𝓤) (A : Atoms 𝓤) (W : Given
         pass1 ! (init ! 12 refl (shr-slice-lawful 𝓤 H A W (named 0) κ u8 .typed s (val s ∷ []) p .0)) $
         pass1 ! (init ! 10 refl (tt, record { fits = i-fits })) $ pass0 ! $
         -- [space for _7; …; space for _3; …; _2; …; _1; …; space for _0; …; the entry]
-        move ! (16 ∷ []) $ use1 W (raw (Looks 𝓤 H A mem run .pre to-look) ⊛ ‵ Own) goes-look $ split ! $
-        calls-at ! fm (Looks 𝓤 H A mem run) known-look to-look
+        move ! (16 ∷ []) $ use1 W (raw (Views 𝓤 H A mem run .pre to-view) ⊛ ‵ Own) goes-view $ split ! $
+        calls-at ! fm (Views 𝓤 H A mem run) known-view to-view
         (and-then ! (load ! (from ! (stop !)) (look ! 14 refl))
         (and-then ! (load ! (from ! (stop !)) (look ! 12 refl)) (no-more !))) (λ u.
         use1 W
         (later (some (λ (r : Shown).
         ((‵ (flft κ q) ⊛ ‵ ftrue) ⊛ ‵ (B .own r (u ∷ [])))
-        ⊛ raw (ensured 𝓤 H A looks.ended (looks.clauses 𝓤 H A mem run) (κ, tt) (s, (i, tt)) tt r))))
+        ⊛ raw (ensured 𝓤 H A views.ended (views.clauses 𝓤 H A mem run) (κ, tt) (s, (i, tt)) tt r))))
         (id⊢ 𝓤 _) $ await ! tt $ pick ! (λ r. split ! $ move ! (1 ∷ []) $ drop ! $ split ! $ move ! (1 ∷ []) $
         -- [what the Shown owns; the token; what s owns; space for _7; …; space for _3; …]
         peeks ! B (Is B) (shows 𝓤 H A B) r (u ∷ []) (λ is. land ! (from ! (stop !)) (init ! 11 refl (typed r u is)) $
@@ -215,29 +215,29 @@ module _ {M : Type 1} (𝓤 : URA M) (H : Heap 𝓤) (A : Atoms 𝓤) (W : Given
 module _ {M : Type 1} (𝓤 : URA M) (H : Heap 𝓤) (A : Atoms 𝓤) (W : Given 𝓤 H A) (mem : Memory → SProp 𝓤)
     (run : Routine → Fun 𝓤) where
   writes-walks : (C : Calls 𝓤 H) (Λ : Loops 𝓤 H) → FmC 𝓤 H (W .laws) C
-      → Triple 𝓤 (C #record-view·look) (Looks 𝓤 H A mem run)
+      → Triple 𝓤 (C #record-view·view-record) (Views 𝓤 H A mem run)
       → Triple 𝓤 (C #test-record-view·write-shown) (Prints 𝓤 H A mem run)
       → Walks 𝓤 H A writes.ended stayed (WpFn 𝓤 H C Λ code.function) (writes.clauses 𝓤 H A mem run)
-  writes-walks C Λ fm known-look known-print =
+  writes-walks C Λ fm known-view known-print =
       walked 𝓤 H A writes.ended stayed (writes.clauses 𝓤 H A mem run) (WpFn 𝓤 H C Λ code.function)
       (λ κs. (slice-vals, (uint-vals w64, tt))) (λ κs. (shr-slice-tells (named 0) (κs .0) u8, (uint-tells w64, tt)))
       (λ κs qs bounds a g are.
       via 𝓤 _ (fst∗ 𝓤 _ (emp 𝓤))
-      (walk 𝓤 H A W mem run (κs .0) (qs .0) (a .0) (a .1 .0) (are .1 .0 .1) C Λ fm known-look known-print (are .0)))
+      (walk 𝓤 H A W mem run (κs .0) (qs .0) (a .0) (a .1 .0) (are .1 .0 .1) C Λ fm known-view known-print (are .0)))
 
 writes-meets : {M : Type 1} (𝓤 : URA M) (H : Heap 𝓤) (A : Atoms 𝓤) (W : Given 𝓤 H A) (mem : Memory → SProp 𝓤)
     (run : Routine → Fun 𝓤) (𝓣 : Tables 𝓤 H)
-    → Triple 𝓤 (𝓣 .C #record-view·look) (Looks 𝓤 H A mem run)
+    → Triple 𝓤 (𝓣 .C #record-view·view-record) (Views 𝓤 H A mem run)
     → Triple 𝓤 (𝓣 .C #test-record-view·write-shown) (Prints 𝓤 H A mem run)
     → Meets 𝓤 H A writes.signature (WpFn 𝓤 H (𝓣 .C) (𝓣 .Λ) code.function) (writes.spec 𝓤 H A mem run)
-writes-meets 𝓤 H A W mem run 𝓣 known-look known-print =
+writes-meets 𝓤 H A W mem run 𝓣 known-view known-print =
     walk-meets 𝓤 H A writes.ended stayed W (
       goes-none-slice 𝓤 H A W 1 (0 ∷ []) tt (plain (λ _. u8)) yes,
       (goes-none 𝓤 H A W 1 (λ _. usize) yes (λ κs x f. refl), tt),
     )
     (writes.clauses 𝓤 H A mem run) (WpFn 𝓤 H (𝓣 .C) (𝓣 .Λ) code.function)
     (WpFn-mono 𝓤 H (W .laws) 𝓣 code.function)
-    (writes-walks 𝓤 H A W mem run (𝓣 .C) (𝓣 .Λ) (fmOf 𝓤 H (W .laws) 𝓣) known-look known-print)
+    (writes-walks 𝓤 H A W mem run (𝓣 .C) (𝓣 .Λ) (fmOf 𝓤 H (W .laws) 𝓣) known-view known-print)
 
 pub write-record-spec : {M : Type 1} → stated.statement M
 unfolding code.routine tablesOf
@@ -246,7 +246,7 @@ write-record-spec 𝓤 H 𝓜 𝓖 𝓡 =
     (tables 𝓤 H 𝓜 𝓡 code.env .C) (tables 𝓤 H 𝓜 𝓡 code.env .Λ) #test-record-view·write-record code.function
     (code.unfolded 𝓤 H 𝓜 𝓡)
     (writes-meets 𝓤 H (𝓖 .A) (givenOf 𝓤 H 𝓜 𝓖) (𝓜 .mem) (𝓡 .run) (tablesOf 𝓤 H 𝓜 (tables 𝓤 H 𝓜 𝓡 code.env))
-    (cited 𝓤 H (Looks 𝓤 H (𝓖 .A) (𝓜 .mem) (𝓡 .run)) 𝓜 𝓡 code.env #record-view·look looks-def.routine
-    code.calls-record-view·look (looks-thm.met 𝓤 H 𝓜 𝓖 𝓡))
+    (cited 𝓤 H (Views 𝓤 H (𝓖 .A) (𝓜 .mem) (𝓡 .run)) 𝓜 𝓡 code.env #record-view·view-record views-def.routine
+    code.calls-record-view·view-record (views-thm.met 𝓤 H 𝓜 𝓖 𝓡))
     (cited 𝓤 H (Prints 𝓤 H (𝓖 .A) (𝓜 .mem) (𝓡 .run)) 𝓜 𝓡 code.env #test-record-view·write-shown prints-def.routine
     code.calls-test-record-view·write-shown (prints-thm.met 𝓤 H 𝓜 𝓖 𝓡)))

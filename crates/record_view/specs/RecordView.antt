@@ -16,8 +16,8 @@ use Rattle.record_view.specs.declared.Located.{Located}
 use Rattle.record_view.specs.declared.Shown.{Shown}
 
 -- the book's own refusals, then 9 with place 0 where there is no record of that number
-unfoldable pub lookUp : List ℕ → ℕ → Verdict
-lookUp b number = checkBook 1 b andThen need (within 1 (records b) number) 9 0
+unfoldable pub checkRecord : List ℕ → ℕ → Verdict
+checkRecord b number = checkBook 1 b andThen need (within 1 (records b) number) 9 0
 
 -- where the record stands in the book; a part of no bytes where refused
 abbrev pub locatedAt : Verdict → ℕ → Located
@@ -25,7 +25,7 @@ locatedAt (Accepted n) at = record { refusal = 0; place = 0; start = at; len = r
 locatedAt (Refused refusal place) at = record { refusal = refusal; place = place; start = 0; len = 0 }
 
 unfoldable pub locatedIn : List ℕ → ℕ → Located
-locatedIn b number = locatedAt (lookUp b number) (recordAt number)
+locatedIn b number = locatedAt (checkRecord b number) (recordAt number)
 
 -- the record's bytes; none where refused
 abbrev pub bytesOf : Verdict → List ℕ → List ℕ
@@ -33,7 +33,7 @@ bytesOf (Accepted n) bytes = bytes
 bytesOf (Refused refusal place) bytes = []
 
 unfoldable pub recordBytes : List ℕ → ℕ → List ℕ
-recordBytes b number = bytesOf (lookUp b number) (take recordSize (drop (recordAt number) b))
+recordBytes b number = bytesOf (checkRecord b number) (take recordSize (drop (recordAt number) b))
 
 -- len bytes from start lie in the book
 unfoldable pub liesIn : List ℕ → ℕ → ℕ → Bool
@@ -51,7 +51,7 @@ pub record PartOf (book : RefT (List ℕ)) (start len : ℕ) (part : RefT (List 
 
 -- what the record view returns: the record's bytes, where they stand in the caller's book
 pub record Shows (book : RefT (List ℕ)) (number : ℕ) (r : Shown) : Type 0 where
-  pub refusal-is : r .refusal ≡ refusalOf (lookUp (now book) number)
-  pub place-is : r .place ≡ placeOf (lookUp (now book) number)
+  pub refusal-is : r .refusal ≡ refusalOf (checkRecord (now book) number)
+  pub place-is : r .place ≡ placeOf (checkRecord (now book) number)
   pub bytes : now (r .part) ≡ recordBytes (now book) number
   pub stands : StandsAt book (locatedIn (now book) number .start) (r .part)

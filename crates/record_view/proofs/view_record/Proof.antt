@@ -1,4 +1,4 @@
--- `record_view::look` meets its contract: its MIR followed by hand. `locate` says what is found and where, `part`
+-- `record_view::view_record` meets its contract: its MIR followed by hand. `locate` says what is found and where, `part`
 -- returns the part, and a `Shown` is made of both in the result's local.
 -- All that the proof knows of `locate` and `part` is that each meets its contract. A `&[u8]` is Copy, so what it owns
 -- is had again for each call and for the exit.
@@ -44,7 +44,7 @@ use denote.Triple.Walked.{says, Stays, stay-none, stay-none-slice, walkOf, goes-
 use denote.Triple.Walked.{walked, walk-meets}
 use denote.Exit.{yes}
 use denote.Triple.Clauses.{ensured, lasts}
-use Rattle.record_view.specs.Looker.{locatedIn, PartOf}
+use Rattle.record_view.specs.RecordView.{locatedIn, PartOf}
 use Rattle.record_view.proofs.Found.{shown}
 use Rattle.record_view.specs.declared.Shown.{Shown}
 use Rattle.record_view.specs.declared.Located.{Located}
@@ -60,12 +60,12 @@ use Rattle.record_view.proofs.part as bytes
 use Rattle.record_view.proofs.part.Symbol as bytes-def
 use Rattle.record_view.proofs.part.Symbol.{name as #record-view·part}
 use Rattle.record_view.proofs.part.Met as bytes-thm
-use Rattle.record_view.proofs.look.Key.{name as #record-view·look}
-use Rattle.record_view.proofs.look as looks
-use Rattle.record_view.proofs.look.Statement as stated
-use Rattle.record_view.proofs.look.Code as code
+use Rattle.record_view.proofs.view_record.Key.{name as #record-view·view-record}
+use Rattle.record_view.proofs.view_record as views
+use Rattle.record_view.proofs.view_record.Statement as stated
+use Rattle.record_view.proofs.view_record.Code as code
 
-abbrev stayed : Stays (looks.ended .signature .params) (looks.ended .kept)
+abbrev stayed : Stays (views.ended .signature .params) (views.ended .kept)
 stayed = (stay-none-slice (0 ∷ []) tt (plain (λ _. u8)) yes, (stay-none (λ _. usize) yes, tt))
 
 module _ {M : Type 1} (𝓤 : URA M) (H : Heap 𝓤) (A : Atoms 𝓤) (mem : Memory → SProp 𝓤) (run : Routine → Fun 𝓤) where
@@ -85,11 +85,11 @@ module _ {M : Type 1} (𝓤 : URA M) (H : Heap 𝓤) (A : Atoms 𝓤) (W : Given
   abbrev val : RefT (List ℕ) → Val
   val x = sliceVal (x .ptr) (length (x .now))
 
-  abbrev at : Vals looks.signature (κ, tt)
+  abbrev at : Vals views.signature (κ, tt)
   at = (val s ∷ [], (vint w64 i ∷ [], tt))
 
   abbrev Post : Val → SProp 𝓤
-  Post = walkOf 𝓤 H A looks.ended stayed (looks.clauses 𝓤 H A mem run) .post
+  Post = walkOf 𝓤 H A views.ended stayed (views.clauses 𝓤 H A mem run) .post
       (((κ, tt), (q, tt), tt, (s, (i, tt)), at), tt)
 
   abbrev Own : RefT (List ℕ) → Fml
@@ -99,7 +99,7 @@ module _ {M : Type 1} (𝓤 : URA M) (H : Heap 𝓤) (A : Atoms 𝓤) (W : Given
   abbrev to-locate : Locate 𝓤 H A mem run .Ghost
   to-locate = (((κ, tt), (q, tt), tt, (s, (i, tt)), at), tt)
 
-  goes-locate : ent 𝓤 (onEntry 𝓤 H A looks.signature (κ, tt) (q, tt) (s, (i, tt)) at)
+  goes-locate : ent 𝓤 (onEntry 𝓤 H A views.signature (κ, tt) (q, tt) (s, (i, tt)) at)
       (sep 𝓤 (Locate 𝓤 H A mem run .pre to-locate) (sem 𝓤 H A (Own s)))
   goes-locate =
       qed W ((‵ (flft κ q) ⊛ ‵ ftrue) ∷ ‵ (owns (ShrSlice (named 0) κ u8 ∷ usize ∷ []) (s, (i, tt)) at) ∷ []) ∵
@@ -153,7 +153,7 @@ module _ {M : Type 1} (𝓤 : URA M) (H : Heap 𝓤) (A : Atoms 𝓤) (W : Given
       → ent 𝓤 (⋆ 𝓤 H A (‵ (Own t) ∷ (‵ (flft κ q) ⊛ ‵ ftrue) ∷ ‵ (Own s) ∷ [])) (Post (T′.lowered (made r t)))
   exits r t refusal-fits place-fits e e′ =
       qed W (‵ (Own t) ∷ (‵ (flft κ q) ⊛ ‵ ftrue) ∷ ‵ (Own s) ∷ []) ∵
-      suffices ! _ (ends-at 𝓤 H A looks.ended stayed (looks.clauses 𝓤 H A mem run) W
+      suffices ! _ (ends-at 𝓤 H A views.ended stayed (views.clauses 𝓤 H A mem run) W
       (((κ, tt), (q, tt), tt, (s, (i, tt)), at), tt) (T′.lowered (made r t)) (made r t) (tt, (tt, tt))
       (tt, (tt, tt))) $ says ! (shown s i r t e e′) $
       move ! (1 ∷ []) $ frame ! $ nothing ! $ owned ! usize (Is usize) (uint-makes 𝓤 H A W w64) i _ (refl, i-fits) $
@@ -168,10 +168,10 @@ module _ {M : Type 1} (𝓤 : URA M) (H : Heap 𝓤) (A : Atoms 𝓤) (W : Given
       (known-locate : Triple 𝓤 (C #record-view·locate) (Locate 𝓤 H A mem run))
       (known-bytes : Triple 𝓤 (C #record-view·part) (Bytes 𝓤 H A mem run)) where
     walk : Is (ShrSlice (named 0) κ u8) s (val s ∷ [])
-        → ent 𝓤 (onEntry 𝓤 H A looks.signature (κ, tt) (q, tt) (s, (i, tt)) at)
+        → ent 𝓤 (onEntry 𝓤 H A views.signature (κ, tt) (q, tt) (s, (i, tt)) at)
         (WpFn 𝓤 H C Λ code.function (val s ∷ vint w64 i ∷ []) Post)
     walk p =
-        qed W (raw (onEntry 𝓤 H A looks.signature (κ, tt) (q, tt) (s, (i, tt)) at) ∷ []) ∵ enter ! C Λ code.function
+        qed W (raw (onEntry 𝓤 H A views.signature (κ, tt) (q, tt) (s, (i, tt)) at) ∷ []) ∵ enter ! C Λ code.function
         (val s ∷ vint w64 i ∷ []) _ $
         alloc1 ! (λ l₀. alloc1 ! (λ l₁. alloc1 ! (λ l₂. alloc1 ! (λ l₃. alloc1 ! (λ l₄. alloc0 ! $ params1 ! $
         pass1 ! (init ! 6 refl (shr-slice-lawful 𝓤 H A W (named 0) κ u8 .typed s (val s ∷ []) p .0)) $ pass1 !
@@ -239,35 +239,35 @@ module _ {M : Type 1} (𝓤 : URA M) (H : Heap 𝓤) (A : Atoms 𝓤) (W : Given
 
 module _ {M : Type 1} (𝓤 : URA M) (H : Heap 𝓤) (A : Atoms 𝓤) (W : Given 𝓤 H A) (mem : Memory → SProp 𝓤)
     (run : Routine → Fun 𝓤) where
-  look-walks : (C : Calls 𝓤 H) (Λ : Loops 𝓤 H) → FmC 𝓤 H (W .laws) C
+  view-walks : (C : Calls 𝓤 H) (Λ : Loops 𝓤 H) → FmC 𝓤 H (W .laws) C
       → Triple 𝓤 (C #record-view·locate) (Locate 𝓤 H A mem run) → Triple 𝓤 (C #record-view·part) (Bytes 𝓤 H A mem run)
-      → Walks 𝓤 H A looks.ended stayed (WpFn 𝓤 H C Λ code.function) (looks.clauses 𝓤 H A mem run)
-  look-walks C Λ fm known-locate known-bytes =
-      walked 𝓤 H A looks.ended stayed (looks.clauses 𝓤 H A mem run) (WpFn 𝓤 H C Λ code.function)
+      → Walks 𝓤 H A views.ended stayed (WpFn 𝓤 H C Λ code.function) (views.clauses 𝓤 H A mem run)
+  view-walks C Λ fm known-locate known-bytes =
+      walked 𝓤 H A views.ended stayed (views.clauses 𝓤 H A mem run) (WpFn 𝓤 H C Λ code.function)
       (λ κs. (slice-vals, (uint-vals w64, tt))) (λ κs. (shr-slice-tells (named 0) (κs .0) u8, (uint-tells w64, tt)))
       (λ κs qs bounds a g are. via 𝓤 _ (fst∗ 𝓤 _ (emp 𝓤))
       (walk 𝓤 H A W mem run (κs .0) (qs .0) (a .0) (a .1 .0) (are .1 .0 .1) C Λ fm known-locate known-bytes
       (are .0)))
 
-look-meets : {M : Type 1} (𝓤 : URA M) (H : Heap 𝓤) (A : Atoms 𝓤) (W : Given 𝓤 H A) (mem : Memory → SProp 𝓤)
+view-meets : {M : Type 1} (𝓤 : URA M) (H : Heap 𝓤) (A : Atoms 𝓤) (W : Given 𝓤 H A) (mem : Memory → SProp 𝓤)
     (run : Routine → Fun 𝓤) (𝓣 : Tables 𝓤 H)
     → Triple 𝓤 (𝓣 .C #record-view·locate) (Locate 𝓤 H A mem run)
     → Triple 𝓤 (𝓣 .C #record-view·part) (Bytes 𝓤 H A mem run)
-    → Meets 𝓤 H A looks.signature (WpFn 𝓤 H (𝓣 .C) (𝓣 .Λ) code.function) (looks.spec 𝓤 H A mem run)
-look-meets 𝓤 H A W mem run 𝓣 known-locate known-bytes =
-    walk-meets 𝓤 H A looks.ended stayed W (
+    → Meets 𝓤 H A views.signature (WpFn 𝓤 H (𝓣 .C) (𝓣 .Λ) code.function) (views.spec 𝓤 H A mem run)
+view-meets 𝓤 H A W mem run 𝓣 known-locate known-bytes =
+    walk-meets 𝓤 H A views.ended stayed W (
       goes-none-slice 𝓤 H A W 1 (0 ∷ []) tt (plain (λ _. u8)) yes,
       (goes-none 𝓤 H A W 1 (λ _. usize) yes (λ κs x f. refl), tt),
-    ) (looks.clauses 𝓤 H A mem run)
+    ) (views.clauses 𝓤 H A mem run)
     (WpFn 𝓤 H (𝓣 .C) (𝓣 .Λ) code.function) (WpFn-mono 𝓤 H (W .laws) 𝓣 code.function)
-    (look-walks 𝓤 H A W mem run (𝓣 .C) (𝓣 .Λ) (fmOf 𝓤 H (W .laws) 𝓣) known-locate known-bytes)
+    (view-walks 𝓤 H A W mem run (𝓣 .C) (𝓣 .Λ) (fmOf 𝓤 H (W .laws) 𝓣) known-locate known-bytes)
 
-pub look-spec : {M : Type 1} → stated.statement M
+pub view-record-spec : {M : Type 1} → stated.statement M
 unfolding code.routine tablesOf
-look-spec 𝓤 H 𝓜 𝓖 𝓡 =
-    entered 𝓤 H (tripleOf 𝓤 H (𝓖 .A) looks.signature (looks.spec 𝓤 H (𝓖 .A) (𝓜 .mem) (𝓡 .run)))
-    (tables 𝓤 H 𝓜 𝓡 code.env .C) (tables 𝓤 H 𝓜 𝓡 code.env .Λ) #record-view·look code.function (code.unfolded 𝓤 H 𝓜 𝓡)
-    (look-meets 𝓤 H (𝓖 .A) (givenOf 𝓤 H 𝓜 𝓖) (𝓜 .mem) (𝓡 .run) (tablesOf 𝓤 H 𝓜 (tables 𝓤 H 𝓜 𝓡 code.env))
+view-record-spec 𝓤 H 𝓜 𝓖 𝓡 =
+    entered 𝓤 H (tripleOf 𝓤 H (𝓖 .A) views.signature (views.spec 𝓤 H (𝓖 .A) (𝓜 .mem) (𝓡 .run)))
+    (tables 𝓤 H 𝓜 𝓡 code.env .C) (tables 𝓤 H 𝓜 𝓡 code.env .Λ) #record-view·view-record code.function (code.unfolded 𝓤 H 𝓜 𝓡)
+    (view-meets 𝓤 H (𝓖 .A) (givenOf 𝓤 H 𝓜 𝓖) (𝓜 .mem) (𝓡 .run) (tablesOf 𝓤 H 𝓜 (tables 𝓤 H 𝓜 𝓡 code.env))
     (cited 𝓤 H (Locate 𝓤 H (𝓖 .A) (𝓜 .mem) (𝓡 .run)) 𝓜 𝓡 code.env #record-view·locate locate-def.routine
     code.calls-record-view·locate (locate-thm.met 𝓤 H 𝓜 𝓖 𝓡))
     (cited 𝓤 H (Bytes 𝓤 H (𝓖 .A) (𝓜 .mem) (𝓡 .run)) 𝓜 𝓡 code.env #record-view·part bytes-def.routine
