@@ -4,7 +4,7 @@ use mathlib.Core.Path.{_≡_}
 use Prim.Native.Nat.{ℕ}
 use Rattle.cell.specs.declared.Cell.{Cell}
 use Rattle.cell.specs.States.{cellIn, stateIn}
-use Rattle.cell_projection.specs.Tables.{added, sumWithin, amountBy}
+use Rattle.cell_projection.specs.Tables.{added, onlyYears, amountBy}
 use Rattle.cell_projection.specs.Ends.{yearsInForce, Going}
 
 -- projection s of the cell that starts at row r of the table t with n contracts has come to year m, with something in
@@ -16,5 +16,5 @@ pub record ReachedIn (t : List ℕ) (r n s m : ℕ) (c : Cell) : Type 0 where
 -- from there on it makes this of the table u, up to its own first year with nothing in force: so many years it then has
 -- in all
 pub record ProjectedIn (t : List ℕ) (r n s m years : ℕ) (u v : List ℕ) : Type 0 where
-  pub sums : v ≡ added (sumWithin (amountBy (cellIn t r n)) s m 50) 500 u
+  pub sums : v ≡ added (onlyYears (amountBy (cellIn t r n)) s m 50) 500 u
   pub years-are : years ≡ yearsInForce (cellIn t r n s)
