@@ -16,7 +16,7 @@ use Rattle.valuation.specs.Steps.{inForce}
 use Rattle.cell.specs.declared.Cell.{Cell}
 use Rattle.cell.specs.States.{cellIn, nextYear, Ready, Projectable}
 use Rattle.cell.proofs.Cells.{state-ready, state-next, inforce-is, premium-is, claims-is, premium-by-le, claims-by-le}
-use Rattle.cell_projection.specs.Tables.{amountBy, added, sumWithin, chosen, Among, twoMore, yearMore}
+use Rattle.cell_projection.specs.Tables.{amountBy, added, onlyYears, chosen, Among, twoMore, yearMore}
 use Rattle.cell_projection.specs.Projected.{ReachedIn, StoppedIn, ProjectedIn}
 use Rattle.cell_projection.proofs.Years.{two-added, added-rest, added-same, added-join, added-most}
 use Rattle.cell_projection.proofs.Years.{amount-premium, amount-claims, amount-each}
@@ -27,25 +27,25 @@ none true = refl
 none false = refl
 
 module _ (f : ℕ → ℕ) (s m k j : ℕ) where
-  pub within-other : (j % 10 / 2 ≡ s → ⊥) → sumWithin f s m k j ≡ 0
-  unfolding sumWithin
+  pub within-other : (j % 10 / 2 ≡ s → ⊥) → onlyYears f s m k j ≡ 0
+  unfolding onlyYears
   within-other h = rw (ne-eqb _ _ h)
 
-  pub within-early : j / 10 < m → sumWithin f s m k j ≡ 0
-  unfolding sumWithin
+  pub within-early : j / 10 < m → onlyYears f s m k j ≡ 0
+  unfolding onlyYears
   within-early h = rw (lt-ltb _ _ h) (none (eqb (j % 10 / 2) s))
 
-  pub within-late : k ≤ j / 10 → sumWithin f s m k j ≡ 0
-  unfolding sumWithin
+  pub within-late : k ≤ j / 10 → onlyYears f s m k j ≡ 0
+  unfolding onlyYears
   within-late h = rw (le-ltb (j / 10) k h, none (ltb (j / 10) m)) (none (eqb (j % 10 / 2) s))
 
-  pub within-own : j % 10 / 2 ≡ s → m ≤ j / 10 → j / 10 < k → sumWithin f s m k j ≡ f j
-  unfolding sumWithin
+  pub within-own : j % 10 / 2 ≡ s → m ≤ j / 10 → j / 10 < k → onlyYears f s m k j ≡ f j
+  unfolding onlyYears
   within-own e h l = rw (eq-eqb _ _ e, le-ltb (j / 10) m h, lt-ltb (j / 10) k l)
 
   -- it is bounded as f is
-  pub within-le : (z : ℕ) → f j ≤ z → sumWithin f s m k j ≤ z
-  unfolding sumWithin
+  pub within-le : (z : ℕ) → f j ≤ z → onlyYears f s m k j ≤ z
+  unfolding onlyYears
   within-le z h = by (eqb (j % 10 / 2) s) (ltb (j / 10) m) (ltb (j / 10) k)
     where
       by : (own early before : Bool) → cond own (cond early 0 (cond before (f j) 0)) 0 ≤ z
@@ -55,8 +55,8 @@ module _ (f : ℕ → ℕ) (s m k j : ℕ) where
       by true false false = omega arith
 
   -- years up to k, and from there on to before l
-  pub within-join : (l : ℕ) → m ≤ k → k ≤ l → sumWithin f s m k j + sumWithin f s k l j ≡ sumWithin f s m l j
-  unfolding sumWithin
+  pub within-join : (l : ℕ) → m ≤ k → k ≤ l → onlyYears f s m k j + onlyYears f s k l j ≡ onlyYears f s m l j
+  unfolding onlyYears
   within-join l h g = by (eqb (j % 10 / 2) s) (ltb (j / 10) m) refl (ltb (j / 10) k) refl (ltb (j / 10) l) refl
     where
       by : (own early : Bool) → ltb (j / 10) m ≡ early → (before : Bool) → ltb (j / 10) k ≡ before → (upto : Bool)
@@ -76,7 +76,7 @@ module _ (which : ℕ) (f : ℕ → ℕ) where
   unfolding chosen
   chosen-all e j = rw (eq-eqb which 5 e)
 
-  pub chosen-one : (which ≡ 5 → ⊥) → (j : ℕ) → chosen which f j ≡ sumWithin f which 0 50 j
+  pub chosen-one : (which ≡ 5 → ⊥) → (j : ℕ) → chosen which f j ≡ onlyYears f which 0 50 j
   unfolding chosen
   chosen-one h j = rw (ne-eqb which 5 h)
 
@@ -84,12 +84,12 @@ module _ (which : ℕ) (f : ℕ → ℕ) where
   unfolding chosen
   chosen-le j z h = by (eqb which 5)
     where
-      by : (all : Bool) → cond all (f j) (sumWithin f which 0 50 j) ≤ z
+      by : (all : Bool) → cond all (f j) (onlyYears f which 0 50 j) ≤ z
       by true = h
       by false = within-le f which 0 50 j z h
 
   pub chosen-same : (g : ℕ → ℕ) (j : ℕ) → f j ≡ g j → chosen which f j ≡ chosen which g j
-  unfolding chosen sumWithin
+  unfolding chosen onlyYears
   chosen-same g j e = rw e
 
   pub chosen-at : (s j : ℕ) → Among which s → s < 5 → j % 10 / 2 ≡ s → j / 10 < 50 → chosen which f j ≡ f j
@@ -98,45 +98,45 @@ module _ (which : ℕ) (f : ℕ → ℕ) where
       chosen-one (λ q. omega (arith, e, q, l)) j ∙ within-own f which 0 50 j (own ∙ sym e) (omega arith) h
 
 -- no years add nothing
-pub within-start : (f : ℕ → ℕ) (s m : ℕ) (u : List ℕ) → u ≡ added (sumWithin f s m m) 500 u
+pub within-start : (f : ℕ → ℕ) (s m : ℕ) (u : List ℕ) → u ≡ added (onlyYears f s m m) 500 u
 unfolding added
-within-start f s m u = sym (added-rest (sumWithin f s m m) 0 500 u (λ j h l. by j (ltb (j / 10) m) refl))
+within-start f s m u = sym (added-rest (onlyYears f s m m) 0 500 u (λ j h l. by j (ltb (j / 10) m) refl))
   where
-    by : (j : ℕ) (early : Bool) → ltb (j / 10) m ≡ early → sumWithin f s m m j ≡ 0
+    by : (j : ℕ) (early : Bool) → ltb (j / 10) m ≡ early → onlyYears f s m m j ≡ 0
     by j true e = within-early f s m m j (ltb-true _ _ e)
     by j false e = within-late f s m m j (ltb-false _ _ e)
 
 -- premium and claims of one year
 module _ (f : ℕ → ℕ) (s k : ℕ) (h : s < 5) (l : k < 50) where
-  before-year : (i : ℕ) → i < 10 * k + 2 * s → sumWithin f s k (k + 1) i ≡ 0
+  before-year : (i : ℕ) → i < 10 * k + 2 * s → onlyYears f s k (k + 1) i ≡ 0
   before-year i g = by (ltb (i / 10) k) refl
     where
-      by : (early : Bool) → ltb (i / 10) k ≡ early → sumWithin f s k (k + 1) i ≡ 0
+      by : (early : Bool) → ltb (i / 10) k ≡ early → onlyYears f s k (k + 1) i ≡ 0
       by true e = within-early f s k (k + 1) i (ltb-true _ _ e)
       by false e = within-other f s k (k + 1) i (λ q. omega (arith, q, ltb-false (i / 10) k e))
 
-  after-year : (i : ℕ) → 10 * k + 2 * s + 2 ≤ i → sumWithin f s k (k + 1) i ≡ 0
+  after-year : (i : ℕ) → 10 * k + 2 * s + 2 ≤ i → onlyYears f s k (k + 1) i ≡ 0
   after-year i g = by (ltb (i / 10) (k + 1)) refl
     where
-      by : (here : Bool) → ltb (i / 10) (k + 1) ≡ here → sumWithin f s k (k + 1) i ≡ 0
+      by : (here : Bool) → ltb (i / 10) (k + 1) ≡ here → onlyYears f s k (k + 1) i ≡ 0
       by true e = within-other f s k (k + 1) i (λ q. omega (arith, q, ltb-true (i / 10) (k + 1) e))
       by false e = within-late f s k (k + 1) i (ltb-false _ _ e)
 
-  untouched : (u : List ℕ) → u ≡ added (sumWithin f s k (k + 1)) (10 * k + 2 * s) u
+  untouched : (u : List ℕ) → u ≡ added (onlyYears f s k (k + 1)) (10 * k + 2 * s) u
   unfolding added
   untouched u = sym
       (rw (add-zero (10 * k + 2 * s)) at
-      (added-rest (sumWithin f s k (k + 1)) 0 (10 * k + 2 * s) u (λ i g a. before-year i (omega arith))))
+      (added-rest (onlyYears f s k (k + 1)) 0 (10 * k + 2 * s) u (λ i g a. before-year i (omega arith))))
 
   pub year-added : (u : List ℕ) (x y : ℕ) → x ≡ f (10 * k + 2 * s) → y ≡ f (10 * k + 2 * s + 1)
-      → twoMore u (10 * k + 2 * s) x y ≡ added (sumWithin f s k (k + 1)) 500 u
+      → twoMore u (10 * k + 2 * s) x y ≡ added (onlyYears f s k (k + 1)) 500 u
   year-added u x y ex ey =
       let all : (498 - (10 * k + 2 * s)) + (10 * k + 2 * s + 2) ≡ 500 = omega arith in
-      two-added (sumWithin f s k (k + 1)) (10 * k + 2 * s) u u x y (untouched u)
+      two-added (onlyYears f s k (k + 1)) (10 * k + 2 * s) u u x y (untouched u)
       (ex ∙ sym (within-own f s k (k + 1) (10 * k + 2 * s) (omega arith) (omega arith) (omega arith)))
       (ey ∙ sym (within-own f s k (k + 1) (10 * k + 2 * s + 1) (omega arith) (omega arith) (omega arith)))
       ∙ sym (rw all at
-      (added-rest (sumWithin f s k (k + 1)) (10 * k + 2 * s + 2) (498 - (10 * k + 2 * s)) u
+      (added-rest (onlyYears f s k (k + 1)) (10 * k + 2 * s + 2) (498 - (10 * k + 2 * s)) u
       (λ i g a. after-year i g)))
 
 -- a projection with nothing in force adds nothing from there on
@@ -146,8 +146,8 @@ module _ (c : ℕ → steps.Cell) (s k : ℕ) (z : inForce rounded (c s) k ≡ 0
       let nothing : inForce rounded (c (j % 10 / 2)) (j / 10) ≡ 0 = rw e (nothing-later (c s) k z (j / 10) h) in
       amount-each (λ x. x ≡ 0) c j (no-premium _ _ nothing) (no-claims _ _ nothing)
 
-  pub within-ended : (m j : ℕ) → j < 500 → sumWithin (amountBy c) s m k j ≡ sumWithin (amountBy c) s m 50 j
-  unfolding sumWithin
+  pub within-ended : (m j : ℕ) → j < 500 → onlyYears (amountBy c) s m k j ≡ onlyYears (amountBy c) s m 50 j
+  unfolding onlyYears
   within-ended m j l = by (eqb (j % 10 / 2) s) refl (ltb (j / 10) m) (ltb (j / 10) k) refl (ltb (j / 10) 50) refl
     where
       by : (own : Bool) → eqb (j % 10 / 2) s ≡ own → (early before : Bool) → ltb (j / 10) k ≡ before → (last : Bool)
@@ -169,10 +169,10 @@ amount-le t r n w j h =
     (claims-by-le t r n (j % 10 / 2) w (j / 10) (omega arith))
 
 pub within-capacity : (t : List ℕ) (r n s m k : ℕ) (u v : List ℕ) → Projectable t r n
-    → v ≡ added (sumWithin (amountBy (cellIn t r n)) s m k) 500 u → {most : ℕ} → AtMost most 500 u
+    → v ≡ added (onlyYears (amountBy (cellIn t r n)) s m k) 500 u → {most : ℕ} → AtMost most 500 u
     → AtMost (most + 1_000_000_000_000) 500 v
 within-capacity t r n s m k u v w e a =
-    rw e (added-most (sumWithin (amountBy (cellIn t r n)) s m k) 1_000_000_000_000 500
+    rw e (added-most (onlyYears (amountBy (cellIn t r n)) s m k) 1_000_000_000_000 500
     (λ i l. within-le (amountBy (cellIn t r n)) s m k i 1_000_000_000_000 (amount-le t r n w i l)) a)
 
 -- what is in force where a projection has come to
@@ -184,7 +184,7 @@ in-force t r n s k c reached = ap (λ (x : Cell). x .inforce) (reached .state) �
 -- become v.
 abbrev pub RunIn : List ℕ → ℕ → ℕ → ℕ → ℕ → ℕ → ℕ → Cell → List ℕ → List ℕ → Type 0
 RunIn t r n s m to k c u v =
-    (m ≤ k) × (k ≤ to) × ReachedIn t r n s k c × (v ≡ added (sumWithin (amountBy (cellIn t r n)) s m k) 500 u)
+    (m ≤ k) × (k ≤ to) × ReachedIn t r n s k c × (v ≡ added (onlyYears (amountBy (cellIn t r n)) s m k) 500 u)
 
 module _ (t : List ℕ) (r n s m to k : ℕ) (c : Cell) (u v : List ℕ) (run : RunIn t r n s m to k c u v) where
   -- the next year can be computed
@@ -202,7 +202,7 @@ module _ (t : List ℕ) (r n s m to k : ℕ) (c : Cell) (u v : List ℕ) (run : 
           state = ec ∙ rw (run .2 .state) (state-next t r n s k);
           going = going-on (cellIn t r n s) k h (λ z. omega (arith, some, in-force t r n s k c (run .2), z)) (run .2 .going);
         },
-        added-join (sumWithin (amountBy (cellIn t r n)) s m k) (sumWithin (amountBy (cellIn t r n)) s k (k + 1)) _ 500 u v
+        added-join (onlyYears (amountBy (cellIn t r n)) s m k) (onlyYears (amountBy (cellIn t r n)) s k (k + 1)) _ 500 u v
             v′ (run .3)
             (ev ∙ rw (run .2 .state)
             (year-added (amountBy (cellIn t r n)) s k l h v _ _
@@ -243,7 +243,7 @@ module _ (t : List ℕ) (r n s m to k : ℕ) (c : Cell) (u v : List ℕ) (stop :
       → ProjectedIn t r n s m years u w
   stopped-then h all years w rest = record {
     sums = added-join
-        (sumWithin (amountBy (cellIn t r n)) s m k) (sumWithin (amountBy (cellIn t r n)) s k 50) _ 500 u v w (stop .sums)
+        (onlyYears (amountBy (cellIn t r n)) s m k) (onlyYears (amountBy (cellIn t r n)) s k 50) _ 500 u v w (stop .sums)
         (rw (at-end h) (rest .sums)) (λ j a. within-join _ s m k j 50 (stop .since) (omega (arith, at-end h, all)));
     years-are = rest .years-are;
   }
@@ -258,6 +258,6 @@ stopped-in-all t r n s m k c u v stop = by (ltb k 50) refl
     by false e =
         let last : k ≡ 50 = omega (arith, ltb-false k 50 e, stop .most) in
         record {
-          sums = stop .sums ∙ ap (λ (x : ℕ). added (sumWithin (amountBy (cellIn t r n)) s m x) 500 u) last;
+          sums = stop .sums ∙ ap (λ (x : ℕ). added (onlyYears (amountBy (cellIn t r n)) s m x) 500 u) last;
           years-are = going-out (cellIn t r n s) k last (stop .reached .going);
         }

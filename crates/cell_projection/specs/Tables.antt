@@ -50,14 +50,14 @@ addedAll f (i ∷ links) t = addedAll f links (added (f i) tableNumbers t)
 unfoldable pub late : ℕ → (ℕ → ℕ) → ℕ → ℕ
 late m f j = cond (ltb j m) 0 (f j)
 
--- of f the years from m to before k of projection s, and nothing else
-unfoldable pub sumWithin : (ℕ → ℕ) → ℕ → ℕ → ℕ → ℕ → ℕ
-sumWithin f s m k j =
+-- of f only the years from m to before k of projection s: nothing elsewhere
+unfoldable pub onlyYears : (ℕ → ℕ) → ℕ → ℕ → ℕ → ℕ → ℕ
+onlyYears f s m k j =
     cond (eqb (j % aYear / 2) s) (cond (ltb (j / aYear) m) 0 (cond (ltb (j / aYear) k) (f j) 0)) 0
 
 -- all of f where `which` is 5, and else the fifty years of that projection
 unfoldable pub chosen : ℕ → (ℕ → ℕ) → ℕ → ℕ
-chosen which f j = cond (eqb which 5) (f j) (sumWithin f which 0 yearCount j)
+chosen which f j = cond (eqb which 5) (f j) (onlyYears f which 0 yearCount j)
 
 -- projection s is among them
 abbrev pub Among : ℕ → ℕ → Type 0

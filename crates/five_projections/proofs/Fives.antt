@@ -13,7 +13,7 @@ use Rattle.valuation.specs.Steps.{inForce}
 use Rattle.cell.specs.declared.Cell.{Cell}
 use Rattle.cell.specs.States.{cellIn, stateIn, Projectable}
 use Rattle.cell.proofs.Cells.{state-ready, state-start, state-next, premium-is, claims-is}
-use Rattle.cell_projection.specs.Tables.{amountBy, added, late, sumWithin}
+use Rattle.cell_projection.specs.Tables.{amountBy, added, late, onlyYears}
 use Rattle.five_projections.specs.Five.{fiveIn, startOf, FiveReady, AllInForce, nextFive, tenMore}
 use Rattle.cell_projection.specs.Tables.{yearMore}
 use Rattle.five_projections.specs.SideBySide.{Reached, ProjectedTo}
@@ -192,16 +192,16 @@ early-added f m u h =
 -- the years of all five before year k, and those of each from there on, are all years
 module _ (f : ℕ → ℕ) (k : ℕ) (few : k ≤ 50) where
   Whole : ℕ → Type 0
-  Whole j = early (10 * k) f j + sumWithin f 0 k 50 j + sumWithin f 1 k 50 j + sumWithin f 2 k 50 j + sumWithin f 3 k 50
-      j + sumWithin f 4 k 50 j ≡ f j
+  Whole j = early (10 * k) f j + onlyYears f 0 k 50 j + onlyYears f 1 k 50 j + onlyYears f 2 k 50 j + onlyYears f 3 k 50
+      j + onlyYears f 4 k 50 j ≡ f j
 
   whole : (j : ℕ) → j < 500 → Whole j
   unfolding Whole
   whole j l = by (ltb j (10 * k)) refl
     where
       by : (b : Bool) → ltb j (10 * k) ≡ b
-          → early (10 * k) f j + sumWithin f 0 k 50 j + sumWithin f 1 k 50 j + sumWithin f 2 k 50 j + sumWithin f 3 k 50
-          j + sumWithin f 4 k 50 j ≡ f j
+          → early (10 * k) f j + onlyYears f 0 k 50 j + onlyYears f 1 k 50 j + onlyYears f 2 k 50 j + onlyYears f 3 k 50
+          j + onlyYears f 4 k 50 j ≡ f j
       by true e =
           let h = ltb-true j (10 * k) e in
           omega (
@@ -219,8 +219,8 @@ module _ (f : ℕ → ℕ) (k : ℕ) (few : k ≤ 50) where
           let h = ltb-false j (10 * k) e in
           let z = early-high f (10 * k) j h in
           each-five
-          (λ s. j % 10 / 2 ≡ s → early (10 * k) f j + sumWithin f 0 k 50 j + sumWithin f 1 k 50 j + sumWithin f 2 k 50 j
-          + sumWithin f 3 k 50 j + sumWithin f 4 k 50 j ≡ f j)
+          (λ s. j % 10 / 2 ≡ s → early (10 * k) f j + onlyYears f 0 k 50 j + onlyYears f 1 k 50 j + onlyYears f 2 k 50 j
+          + onlyYears f 3 k 50 j + onlyYears f 4 k 50 j ≡ f j)
           (λ q. omega (
             arith,
             z,
@@ -279,15 +279,15 @@ module _ (f : ℕ → ℕ) (k : ℕ) (few : k ≤ 50) where
           (j % 10 / 2) (omega arith) refl
 
   pub all-added : (u v v₀ v₁ v₂ v₃ v₄ : List ℕ) → v ≡ added (late 0 f) (10 * k) u
-      → v₀ ≡ added (sumWithin f 0 k 50) 500 v → v₁ ≡ added (sumWithin f 1 k 50) 500 v₀
-      → v₂ ≡ added (sumWithin f 2 k 50) 500 v₁ → v₃ ≡ added (sumWithin f 3 k 50) 500 v₂
-      → v₄ ≡ added (sumWithin f 4 k 50) 500 v₃ → v₄ ≡ added f 500 u
+      → v₀ ≡ added (onlyYears f 0 k 50) 500 v → v₁ ≡ added (onlyYears f 1 k 50) 500 v₀
+      → v₂ ≡ added (onlyYears f 2 k 50) 500 v₁ → v₃ ≡ added (onlyYears f 3 k 50) 500 v₂
+      → v₄ ≡ added (onlyYears f 4 k 50) 500 v₃ → v₄ ≡ added f 500 u
   unfolding Whole
   all-added u v v₀ v₁ v₂ v₃ v₄ e e₀ e₁ e₂ e₃ e₄ =
-      added-join _ (sumWithin f 4 k 50) f 500 u v₃ v₄
-      (added-join _ (sumWithin f 3 k 50) _ 500 u v₂ v₃
-      (added-join _ (sumWithin f 2 k 50) _ 500 u v₁ v₂
-      (added-join _ (sumWithin f 1 k 50) _ 500 u v₀ v₁
-      (added-join (early (10 * k) f) (sumWithin f 0 k 50) (λ j. early (10 * k) f j + sumWithin f 0 k 50 j) 500 u v v₀
+      added-join _ (onlyYears f 4 k 50) f 500 u v₃ v₄
+      (added-join _ (onlyYears f 3 k 50) _ 500 u v₂ v₃
+      (added-join _ (onlyYears f 2 k 50) _ 500 u v₁ v₂
+      (added-join _ (onlyYears f 1 k 50) _ 500 u v₀ v₁
+      (added-join (early (10 * k) f) (onlyYears f 0 k 50) (λ j. early (10 * k) f j + onlyYears f 0 k 50 j) 500 u v v₀
       (from-start f (10 * k) u v e ∙ early-added f (10 * k) u (omega arith)) e₀ (λ j l. refl))
       e₁ (λ j l. refl)) e₂ (λ j l. refl)) e₃ (λ j l. refl)) e₄ whole

@@ -1,9 +1,7 @@
--- Laws of sums over an index: when two are equal, one term more, at either end, in two parts, and bounds. Assumes
--- nothing.
+-- Laws of sums over an index: equal sums, one term more, bounds, the first term apart, two parts. Assumes nothing.
 use mathlib.Core.Path.{_≡_, refl, ap, _∙_}
-use mathlib.Core.Logic.{⊎-elim}
-use Prim.Native.Nat.{ℕ, zero, suc, _+_, _*_, _<_, _≤_}
-use native.Mathlib.Nat.{zero-add, eq-or-lt-of-le, not-suc-le-zero}
+use Prim.Native.Nat.{ℕ, zero, suc, _+_, _-_, _*_, _<_, _≤_}
+use native.Mathlib.Nat.{zero-add}
 use native.Mathlib.Numerals.{add-one}
 use native.Mathlib.Omega.{arith}
 use Rattle.lists.specs.Sums.{sumBy, sumBelow, sumFrom}
@@ -66,8 +64,6 @@ sum-rest f m n none =
 
 -- a term and those before it are no more than the sum
 pub sum-within : (f : ℕ → ℕ) (n k : ℕ) → k < n → sumBelow f k + f k ≤ sumBelow f n
-unfolding sumBy
-sum-within f zero k h = absurd (not-suc-le-zero h)
-sum-within f (suc n) k h =
-    ⊎-elim (λ (e : k ≡ n). rw e (omega arith)) (λ (g : k < n). omega (arith, sum-within f n k g))
-    (eq-or-lt-of-le (omega arith))
+sum-within f n k h =
+    let e : k + 1 + (n - (k + 1)) ≡ n = omega arith in
+    omega (arith, rw e at (sum-split f (k + 1) (n - (k + 1))), sum-more 0 _+_ f k _ _ _ refl refl refl)
