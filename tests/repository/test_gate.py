@@ -267,7 +267,7 @@ class Progress(unittest.TestCase):
 
     def test_crates(self):
         self.assertEqual(crates_needed("book_check_header"),
-                         {"verdict", "le_bytes", "book", "book_check_header"})
+                         {"lists", "verdict", "le_bytes", "book", "book_check_header"})
         self.assertLess(crates_needed("c_api"), set(crates_listed()))
 
 
