@@ -5,7 +5,7 @@ ghost use mathlib.Core.Bool.{true};
 ghost use mathlib.Core.Path.{_≡_};
 ghost use Prim.Native.Nat.{_+_, _*_, _<_, _≤_};
 ghost use Rattle.lists.specs.AtMost.{AtMost};
-ghost use Rattle.settings.specs.Settings.{columnsOf, fiveColumns};
+ghost use Rattle.settings_columns.specs.Columns.{columnsOf, fiveColumns};
 ghost use Rattle.cell.specs.States.{cellIn, Projectable};
 ghost use Rattle.cell_projection.specs.Tables.{amountBy, added, chosen, twoMore};
 ghost use Rattle.five_projections.specs.Five.{FiveReady, startOf, nextFive, tenMore};
@@ -26,8 +26,8 @@ use rate_table::COLUMNS;
 use rate_table::PREMIUM;
 use rate_table::RATES;
 use rate_table::RateTable;
-use settings::Columns;
-use settings::FiveColumns;
+use settings_columns::Columns;
+use settings_columns::FiveColumns;
 
 // In place of a projection: all five.
 pub const ALL: usize = 5;

@@ -16,7 +16,8 @@ use lib.Signed.{mag}
 use mir.Syntax.{w64}
 use mir.Val.{toZ, ofZ, hbits}
 use borrow.Author.Tests.{le-ltb, ltb-true, ltb-false}
-use Rattle.settings.specs.Settings.{decrementsOf, outgoingsOf}
+use Rattle.settings_decrements.specs.Decrements.{decrementsOf}
+use Rattle.settings_outgo.specs.Outgoings.{outgoingsOf}
 use Rattle.settings.proofs.Weights.{each-setting}
 use Rattle.present_value.specs.declared.Amounts.{Amounts}
 use Rattle.signed.proofs.Sizes.{signed-roundtrip, less-mag}

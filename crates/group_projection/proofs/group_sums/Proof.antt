@@ -8,7 +8,7 @@ use borrow.Author.Needs.{needs}
 use lib.ListN.{getD, replicate}
 use Rattle.lists.proofs.AtMost.{most-higher, most-replicate}
 use Rattle.book.specs.Cells.{heldIn, sumOf, chainsOf, heldOfGroup}
-use Rattle.settings.specs.Settings.{decrementsOf}
+use Rattle.settings_decrements.specs.Decrements.{decrementsOf}
 use Rattle.valuation.specs.Arithmetic.{rounded}
 use Rattle.valuation.specs.Steps.{premiumSum, claimsSum}
 use Rattle.valuation.specs.Portfolio.{groupLinks, groupCells}
