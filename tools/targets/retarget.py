@@ -46,9 +46,10 @@ class Target(NamedTuple):
 # WebAssembly has a stack that traps at its end. At its level of optimisation little is inlined: the
 # year of a cell, and what is constant for all of them, would be called each time.
 WASM32 = Target("wasm32", "wasm32-unknown-unknown", "nounwind", inlined=(
-    "cell::Cell::next_year", "cell_projection::one_year", "settings::Columns::new",
-    "settings::FiveColumns::new", "settings::persistency_column", "settings::same_mortality",
-    "settings::survival_column", "settings::weight"))
+    "cell::Cell::next_year", "cell_projection::one_year", "settings::weight",
+    "settings_columns::Columns::new", "settings_columns::FiveColumns::new",
+    "settings_columns::persistency_column", "settings_columns::same_mortality",
+    "settings_columns::survival_column"))
 # Windows protects nothing below the stack pointer and unwinds by tables; it has its own probe of
 # the stack.
 WINDOWS = Target("windows-x86_64", "x86_64-pc-windows-gnu",

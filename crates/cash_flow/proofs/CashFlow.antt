@@ -8,7 +8,8 @@ use lib.IntN.{pos, _-ℤ_}
 use lib.ListN.{length, set, take, drop, length-append, length-drop}
 use lib.Seq.{sets-eq, take-at, drop-at, drop-drop}
 use Rattle.lists.specs.Sums.{sumBelow}
-use Rattle.settings.specs.Settings.{decrementsOf, outgoingsOf}
+use Rattle.settings_decrements.specs.Decrements.{decrementsOf}
+use Rattle.settings_outgo.specs.Outgoings.{outgoingsOf}
 use Rattle.valuation.specs.Arithmetic.{rounded}
 use Rattle.valuation.specs.Steps.{Cell, Terms, premiumSum, claimsSum, outgo, capped, countedPremium, discounted}
 use Rattle.valuation.specs.Steps.{discountedOutgo, discountedPremium, totalOutgo, totalPremium, liability}

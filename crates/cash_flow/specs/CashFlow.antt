@@ -4,8 +4,8 @@ use mathlib.Core.List.{List, [], _∷_}
 use Prim.Native.Nat.{ℕ, _+_, _*_, _/_, _<_, _≤_, min}
 use lib.ListN.{getD}
 use Rattle.arith.specs.Fractions.{IsFraction}
-use Rattle.settings.specs.Settings.{costsIn, claimsWeightIn}
-use Rattle.settings.specs.declared.Outgoings.{Outgoings}
+use Rattle.settings_outgo.specs.Outgoings.{costsIn, claimsWeightIn}
+use Rattle.settings_outgo.specs.declared.Outgoings.{Outgoings}
 use Rattle.valuation.specs.Arithmetic.{rounded}
 use Rattle.valuation.specs.Steps.{Cell, Terms, outgo, countedPremium, discounted, discountedOutgo, discountedPremium}
 use Rattle.cash_flow.specs.declared.Year.{Year}

@@ -7,7 +7,7 @@ ghost use Prim.Native.Nat.{_+_, _*_, _/_, _<_, _≤_};
 ghost use lib.ListN.{length, getD, set, take, drop};
 ghost use Rattle.book.specs.Reading.{ValidBook};
 ghost use Rattle.lists.specs.AtMost.{AtMost};
-ghost use Rattle.settings.specs.Settings.{OutgoWeighed};
+ghost use Rattle.settings_outgo.specs.Outgoings.{OutgoWeighed};
 ghost use Rattle.valuation.specs.Arithmetic.{rounded};
 ghost use Rattle.valuation.specs.Steps.{capped};
 ghost use Rattle.valuation.specs.Portfolio.{costRateOf, divisorOf};
@@ -16,7 +16,7 @@ ghost use Rattle.cash_flow.specs.CashFlow.{Divisor, Divisors, Stepped};
 ghost use Rattle.cash_flow.specs.CashFlow.{DiscountedIn, outgoOf, fourOf};
 use arith::Two;
 use arith::Weighted;
-use settings::Outgoings;
+use settings_outgo::Outgoings;
 
 // No doubled amount is above that: amounts before a step are at most 10^16.
 const MOST_DOUBLED: u64 = 20_000_000_000_000_000;

@@ -9,11 +9,12 @@ use native.Mathlib.Omega.{arith}
 use lib.Dec.{ltb}
 use Rattle.book.specs.Layout.{chainSex, sexOf, classOf, fieldOf, countOffset, lapseOffset, premiumOffset, claimsOffset}
 use Rattle.book.specs.Reading.{Standing}
-use Rattle.settings.specs.Settings.{weightOf, mortalityWeight, decrementsOf, mortalityIn, lapseIn, sameMortality}
-use Rattle.settings.specs.Settings.{survivalColumn, persistencyColumn}
+use Rattle.settings.specs.Settings.{weightOf}
+use Rattle.settings_decrements.specs.Decrements.{mortalityWeight, decrementsOf, mortalityIn, lapseIn}
+use Rattle.settings_decrements.specs.declared.Decrements.{Decrements}
+use Rattle.settings_columns.specs.Columns.{sameMortality, survivalColumn, persistencyColumn}
 use Rattle.settings.proofs.Weights.{each-setting}
-use Rattle.settings.proofs.Held.{survival-low, persistency-low}
-use Rattle.settings.specs.declared.Decrements.{Decrements}
+use Rattle.settings_columns.proofs.Held.{survival-low, persistency-low}
 use Rattle.valuation.specs.Arithmetic.{rounded}
 use Rattle.valuation.specs.Steps.{inForce, cellPremium, cellClaims}
 use Rattle.valuation.specs.Portfolio.{mortalityOf, oneLess, onward, rowAt, cellOf}

@@ -7,9 +7,9 @@ use Prim.Native.Nat.{ℕ, zero, suc, _+_, _*_, _/_, _≤_, _<_}
 use native.Mathlib.Nat.{add-zero, le-trans, mul-le-mul, mul-le-mul-left, div-le-of-le-mul}
 use native.Mathlib.Numerals.{add-one}
 use native.Mathlib.Omega.{arith}
-use Rattle.settings.specs.Settings.{survivalColumn, persistencyColumn, columnsOf, survivesIn, persistsIn}
-use Rattle.settings.specs.declared.Columns.{Columns}
-use Rattle.settings.proofs.Held.{survival-low, persistency-low, survives-is, persists-is}
+use Rattle.settings_columns.specs.Columns.{survivalColumn, persistencyColumn, columnsOf, survivesIn, persistsIn}
+use Rattle.settings_columns.specs.declared.Columns.{Columns}
+use Rattle.settings_columns.proofs.Held.{survival-low, persistency-low, survives-is, persists-is}
 use Rattle.valuation.specs.Arithmetic.{rounded}
 use Rattle.valuation.specs.Steps.{inForce, cellPremium, cellClaims}
 use Rattle.rate_table.specs.Rows.{rate, RowReady}

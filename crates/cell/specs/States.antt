@@ -4,8 +4,8 @@ use mathlib.Core.List.{List}
 use Prim.Native.Nat.{ℕ, _+_, _*_, _/_, _<_, _≤_}
 use lib.ListN.{getD}
 use Rattle.arith.specs.Fractions.{IsFraction}
-use Rattle.settings.specs.Settings.{survivalColumn, persistencyColumn}
-use Rattle.settings.specs.declared.Decrements.{Decrements}
+use Rattle.settings_decrements.specs.declared.Decrements.{Decrements}
+use Rattle.settings_columns.specs.Columns.{survivalColumn, persistencyColumn}
 use Rattle.valuation.specs.Arithmetic.{rounded}
 use Rattle.valuation.specs.Steps as steps
 use Rattle.valuation.specs.Steps.{inForce, cellPremium, cellClaims}

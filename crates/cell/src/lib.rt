@@ -3,14 +3,14 @@
 // Internal: the functions ask for rows as `rows` reads them from an accepted book.
 ghost use mathlib.Core.Path.{_≡_};
 ghost use Prim.Native.Nat.{_*_, _<_, _≤_};
-ghost use Rattle.settings.specs.Settings.{survivesIn, persistsIn};
+ghost use Rattle.settings_columns.specs.Columns.{survivesIn, persistsIn};
 ghost use Rattle.cell.specs.States.{Ready, ShareAt, shareOf, nextBy, premiumIn, claimsIn};
 use rate_table::CLAIMS;
 use rate_table::COLUMNS;
 use rate_table::PREMIUM;
 use rate_table::RATES;
 use rate_table::RateTable;
-use settings::Columns;
+use settings_columns::Columns;
 
 // What 100,000 contracts have in force, in billionths: no cell has more.
 const MOST_IN_FORCE: u64 = 100_000_000_000_000;

@@ -8,7 +8,7 @@ use native.Mathlib.Omega.{arith}
 use lib.Dec.{eqb}
 use Rattle.book.specs.Layout.{classOf, fieldOf, countOffset}
 use Rattle.book.specs.Reading.{Standing}
-use Rattle.settings.specs.Settings.{decrementsOf}
+use Rattle.settings_decrements.specs.Decrements.{decrementsOf}
 use Rattle.valuation.specs.Arithmetic.{rounded}
 use Rattle.valuation.specs.Steps.{inForce}
 use Rattle.valuation.specs.Portfolio.{rowAt, cellOf}

@@ -5,13 +5,13 @@ ghost use mathlib.Core.Path.{_≡_};
 ghost use Prim.Native.Nat.{_+_, _*_, _<_, _≤_, _^_};
 ghost use lib.ListN.{getD, set};
 ghost use Rattle.lists.specs.AtMost.{AtMost};
-ghost use Rattle.settings.specs.Settings.{columnsOf};
+ghost use Rattle.settings_columns.specs.Columns.{columnsOf};
 ghost use Rattle.cell.specs.States.{premiumIn, claimsIn, nextYear, Ready, Projectable};
 ghost use Rattle.cell_projection.specs.Tables.{twoMore};
 ghost use Rattle.cell_projection.specs.Projected.{ReachedIn, StoppedIn, ProjectedIn};
 use cell::Cell;
 use rate_table::RateTable;
-use settings::Columns;
+use settings_columns::Columns;
 
 // For each of the fifty years premium and claims of the five projections.
 pub const YEARS: usize = 50;

@@ -7,7 +7,8 @@ use Prim.Native.Nat.{ℕ, zero, suc, _+_, _*_, _/_, _≤_, _<_}
 use native.Mathlib.Nat.{mul-le-mul}
 use native.Mathlib.Omega.{arith}
 use lib.Dec.{ltb}
-use Rattle.settings.specs.Settings.{weightOf, sameMortality, survivalColumn, persistencyColumn}
+use Rattle.settings.specs.Settings.{weightOf}
+use Rattle.settings_columns.specs.Columns.{sameMortality, survivalColumn, persistencyColumn}
 use Rattle.valuation.specs.Arithmetic.{rounded}
 use Rattle.valuation.specs.Steps.{Cell, inForce}
 use Rattle.rate_table.specs.Rows.{rate, RowOrdered}

@@ -5,7 +5,7 @@ ghost use mathlib.Core.Bool.{true};
 ghost use mathlib.Core.Path.{_≡_};
 ghost use Prim.Native.Nat.{_+_, _*_, _<_, _≤_};
 ghost use Rattle.lists.specs.AtMost.{AtMost};
-ghost use Rattle.settings.specs.Settings.{columnsOf, fiveColumns};
+ghost use Rattle.settings_columns.specs.Columns.{columnsOf, fiveColumns};
 ghost use Rattle.cell.specs.States.{cellIn, Projectable};
 ghost use Rattle.cell_projection.specs.Tables.{yearCount, tableNumbers, amountBy, added};
 ghost use Rattle.cell_projection.specs.Tables.{chosen, twoMore};
@@ -27,8 +27,8 @@ use rate_table::COLUMNS;
 use rate_table::PREMIUM;
 use rate_table::RATES;
 use rate_table::RateTable;
-use settings::Columns;
-use settings::FiveColumns;
+use settings_columns::Columns;
+use settings_columns::FiveColumns;
 
 // In place of a projection: all five.
 pub const ALL: usize = 5;

@@ -5,8 +5,8 @@ use cell_projection::A_YEAR;
 use cell_projection::YEARS;
 use rate_table::COLUMNS;
 use rate_table::ROWS;
-use settings::Setting;
-use settings::Shifts;
+use settings_decrements::Shifts;
+use settings_outgo::Setting;
 use valuation::GroupReply;
 use verdict::Verdict;
 

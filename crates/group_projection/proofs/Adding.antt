@@ -18,7 +18,7 @@ use Rattle.book.specs.Reading.{ChainFrom, Standing, ValidBook}
 use Rattle.book.proofs.Cells.{held-none}
 use Rattle.book.proofs.Links.{after-some}
 use Rattle.book.proofs.Valid.{chain-class, chain-next}
-use Rattle.settings.specs.declared.Decrements.{Decrements}
+use Rattle.settings_decrements.specs.declared.Decrements.{Decrements}
 use Rattle.valuation.specs.Arithmetic.{rounded}
 use Rattle.valuation.specs.Steps.{held, sumCells, premiumSum, claimsSum}
 use Rattle.valuation.specs.Portfolio.{rowAt, linksFrom, chainLinks, linksOf, cellsOf}

@@ -3,8 +3,9 @@ use mathlib.Core.Path.{_≡_}
 use mathlib.Core.List.{List}
 use Prim.Native.Nat.{ℕ, _+_, _*_, _<_}
 use lib.ListN.{getD}
-use Rattle.settings.specs.Settings.{decrementsOf, projectionOf}
-use Rattle.settings.proofs.Serving.{served}
+use Rattle.settings_decrements.specs.Decrements.{decrementsOf}
+use Rattle.settings_columns.specs.Columns.{projectionOf}
+use Rattle.settings_outgo.proofs.Serving.{served}
 use Rattle.valuation.specs.Arithmetic.{rounded}
 use Rattle.valuation.specs.Steps.{premiumSum, claimsSum}
 use Rattle.valuation.specs.Portfolio.{groupCells}

@@ -6,7 +6,7 @@ use lib.ListN.{getD}
 use Rattle.lists.specs.AtMost.{AtMost}
 use Rattle.book.specs.Layout.{lastClass}
 use Rattle.book.specs.Cells.{heldFrom, heldIn, heldOfGroup}
-use Rattle.settings.specs.Settings.{decrementsOf}
+use Rattle.settings_decrements.specs.Decrements.{decrementsOf}
 use Rattle.valuation.specs.Arithmetic.{rounded}
 use Rattle.valuation.specs.Steps.{premiumSum, claimsSum}
 use Rattle.valuation.specs.Portfolio.{linksFrom, chainLinks, groupCells}

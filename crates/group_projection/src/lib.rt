@@ -8,15 +8,16 @@ ghost use lib.ListN.{replicate};
 ghost use Rattle.lists.specs.AtMost.{AtMost};
 ghost use Rattle.book.specs.Cells.{firstChain, chainsOf};
 ghost use Rattle.book.specs.Reading.{Standing, ValidBook};
-ghost use Rattle.settings.specs.Settings.{ShiftsOf, columnsOf};
+ghost use Rattle.settings_decrements.specs.Decrements.{ShiftsOf};
+ghost use Rattle.settings_columns.specs.Columns.{columnsOf};
 ghost use Rattle.rate_table.specs.Rows.{RowsOf};
 ghost use Rattle.cell_projection.specs.Tables.{tableNumbers};
 ghost use Rattle.group_projection.specs.Added.{CellsAdded, ChainAdded, SumsOf};
 use cell_projection::ModelPoint;
 use cell_projection::YearSums;
 use rate_table::RateTable;
-use settings::Columns;
-use settings::Shifts;
+use settings_columns::Columns;
+use settings_decrements::Shifts;
 
 // In place of a projection: all five.
 pub const ALL: usize = five_projections::ALL;

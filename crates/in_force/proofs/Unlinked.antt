@@ -18,7 +18,7 @@ use Rattle.book.specs.Reading.{ValidBook}
 use Rattle.book.proofs.Links.{link-next}
 use Rattle.book.proofs.Same.{SameRecord, class-same, next-same, head-same, record-same}
 use Rattle.book.proofs.Unlinked.{unlinked-same}
-use Rattle.settings.specs.Settings.{decrementsOf}
+use Rattle.settings_decrements.specs.Decrements.{decrementsOf}
 use Rattle.valuation.specs.Portfolio.{linksFrom, chainLinks}
 use Rattle.valuation.proofs.Unlinked.{Kept, cell-same, decrements-same}
 use Rattle.in_force.specs.InForceRun.{chainOf, ofClass, recordAtClass, askedCheck, inForceCheck, inForceRun}

@@ -11,7 +11,7 @@ use Rattle.verdict.specs.declared.Verdict.{Verdict}
 use Rattle.buffer.specs.Replies.{bufferFor}
 use Rattle.book.specs.Layout.{chains, codeOf, sexOf, classOf, linkAt}
 use Rattle.book.specs.Check.{checkBook}
-use Rattle.settings.specs.Settings.{decrementsOf}
+use Rattle.settings_decrements.specs.Decrements.{decrementsOf}
 use Rattle.valuation.specs.Arithmetic.{rounded}
 use Rattle.valuation.specs.Steps.{inForce}
 use Rattle.valuation.specs.Portfolio.{cellOf, chainLinks}

@@ -5,7 +5,8 @@ ghost use mathlib.Core.List.{_++_};
 ghost use Prim.Native.Nat.{_<_, _≤_};
 ghost use lib.ListN.{length, drop};
 ghost use Rattle.book.specs.Reading.{Standing, ValidBook};
-ghost use Rattle.settings.specs.Settings.{decrementsOf, survivesIn, persistsIn};
+ghost use Rattle.settings_decrements.specs.Decrements.{decrementsOf};
+ghost use Rattle.settings_columns.specs.Columns.{survivesIn, persistsIn};
 ghost use Rattle.cell.specs.States.{Ready, nextBy};
 ghost use Rattle.valuation.specs.Arithmetic.{rounded};
 ghost use Rattle.valuation.specs.Steps.{inForce};
@@ -17,8 +18,8 @@ use cell::Cell;
 use rate_table::COLUMNS;
 use rate_table::ROWS;
 use rate_table::RateTable;
-use settings::Columns;
-use settings::Shifts;
+use settings_columns::Columns;
+use settings_decrements::Shifts;
 use verdict::Verdict;
 
 // The refusals that the caller alone decides, in their order.

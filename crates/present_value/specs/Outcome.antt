@@ -7,7 +7,7 @@ use lib.Signed.{mag}
 use lib.ListN.{getD, drop}
 use Rattle.lists.specs.AtMost.{AtMost}
 use Rattle.lists.specs.Sums.{sumBelow}
-use Rattle.settings.specs.Settings.{decrementsOf}
+use Rattle.settings_decrements.specs.Decrements.{decrementsOf}
 use Rattle.valuation.specs.Arithmetic.{rounded}
 use Rattle.valuation.specs.Steps.{outgo, countedPremium, discountedOutgo, discountedPremium}
 use Rattle.valuation.specs.Portfolio.{divisorOf, termsOf, groupCells}

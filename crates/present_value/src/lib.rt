@@ -4,14 +4,15 @@
 ghost use Prim.Native.Nat.{_<_, _≤_};
 ghost use lib.ListN.{length};
 ghost use Rattle.book.specs.Reading.{ValidBook};
-ghost use Rattle.settings.specs.Settings.{projectionOf, SettingOf};
+ghost use Rattle.settings_columns.specs.Columns.{projectionOf};
+ghost use Rattle.settings_outgo.specs.Outgoings.{SettingOf};
 ghost use Rattle.group_projection.specs.Added.{TableIn};
 ghost use Rattle.present_value.specs.Outcome.{CurveOf, Undiscounted, NoneFrom, GroupValued};
 ghost use Rattle.present_value.specs.Outcome.{AmountsIn};
 use cash_flow::Year;
 use cell_projection::A_YEAR;
 use cell_projection::YearSums;
-use settings::Setting;
+use settings_outgo::Setting;
 
 // The divisor of each year, and the fraction by which an amount goes a year back: the divisions,
 // made once for all groups and settings.

@@ -5,7 +5,8 @@ use Prim.Native.Nat.{ℕ, _*_, _≤_}
 use native.Mathlib.Nat.{mul-le-mul-left}
 use native.Mathlib.Omega.{arith}
 use lib.Dec.{eqb}
-use Rattle.settings.specs.Settings.{weightOf, percentOf, mortalityWeight, decrementsAt, ofSex}
+use Rattle.settings.specs.Settings.{weightOf}
+use Rattle.settings_decrements.specs.Decrements.{percentOf, mortalityWeight, decrementsAt, ofSex}
 use Rattle.valuation.specs.Portfolio.{oneLess}
 use Rattle.rate_table.specs.Rows.{rate, rateOf, survivalAt, RowOf, RowOrdered}
 

@@ -10,8 +10,8 @@ use lib.Seq.{getD-set-same, getD-set-other}
 use Rattle.arith.specs.Fractions.{IsFraction}
 use Rattle.book.specs.Rules.{RecordRules}
 use Rattle.book.specs.Layout.{classOf, fieldOf, lapseOffset}
-use Rattle.settings.specs.Settings.{ofSex, WeightsOf}
-use Rattle.settings.specs.declared.DecrementWeights.{DecrementWeights}
+use Rattle.settings_decrements.specs.Decrements.{ofSex, WeightsOf}
+use Rattle.settings_decrements.specs.declared.DecrementWeights.{DecrementWeights}
 use Rattle.settings.proofs.Weights.{pick-le}
 use Rattle.valuation.specs.Portfolio.{mortalityOf, oneLess}
 use Rattle.rate_table.specs.Rows.{rate, fraction, survivalAt, persistencyAt, rateOf, RowOf}

@@ -12,7 +12,7 @@ use lib.Dec.{eqb}
 use lib.ListN.{getD}
 use Rattle.arith.specs.Fractions.{IsFraction}
 use Rattle.book.specs.Layout.{chainSex, classOf, fieldOf, lapseOffset, premiumOffset, claimsOffset}
-use Rattle.settings.specs.Settings.{decrementsAt, ofSex}
+use Rattle.settings_decrements.specs.Decrements.{decrementsAt, ofSex}
 use Rattle.valuation.specs.Portfolio.{mortalityOf, oneLess, rowAt}
 
 -- the rate of row r in column c, and the fraction by which shares of it are taken

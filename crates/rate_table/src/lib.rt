@@ -10,11 +10,11 @@ ghost use Rattle.arith.specs.Fractions.{IsFraction};
 ghost use Rattle.book.specs.Layout.{chainSex, classOf};
 ghost use Rattle.book.specs.Reading.{Standing, ValidBook};
 ghost use Rattle.book.specs.Rules.{RecordRules};
-ghost use Rattle.settings.specs.Settings.{ShiftsOf};
+ghost use Rattle.settings_decrements.specs.Decrements.{ShiftsOf};
 ghost use Rattle.valuation.specs.Portfolio.{mortalityOf, oneLess};
 ghost use Rattle.rate_table.specs.Rows.{RowsOf};
 ghost use Rattle.rate_table.specs.Puts.{Put, ThreeMore, RowPut, RowsBelow, Repeated};
-use settings::Shifts;
+use settings_decrements::Shifts;
 
 // A row for each year that a cell can reach. Its columns: what survives at three weights and what
 // persists at three, premium and claims, as fractions; and in the same order, RATES columns

@@ -1,14 +1,12 @@
--- Laws of the weights: their bounds, and what the weights of a year are.
+-- Laws of the weights: their bounds, and in which years they hold.
 -- Assumes nothing.
 use mathlib.Core.Path.{_≡_, refl}
 use mathlib.Core.Bool.{Bool, true, false, cond}
-use mathlib.Core.List.{List}
 use Prim.Native.Nat.{ℕ, zero, suc, _*_, _<_, _≤_}
 use native.Mathlib.Nat.{le-refl, mul-le-mul, div-le-of-le-mul}
 use native.Mathlib.Omega.{arith}
 use lib.Dec.{ltb, eqb}
-use Rattle.settings.specs.Settings.{baseWeight, shift, weightIn, weightOf, percentOf, mortalityWeight}
-use Rattle.settings.specs.Settings.{decrementsOf, outgoingsOf, mortalityIn, lapseIn, costsIn, claimsWeightIn}
+use Rattle.settings.specs.Settings.{baseWeight, shift, weightIn, weightOf}
 
 pub pick-le : (t : Bool) {a b : ℕ} (m : ℕ) → a ≤ m → b ≤ m → cond t a b ≤ m
 pick-le true m p q = p
@@ -72,50 +70,11 @@ multiple-most setting sex k h = by-sex sex h
     by-sex (suc (suc sex)) h = absurd (omega arith)
 
 -- the first five years are as year 0, the later ones as year 5
-weight-by : (setting kind : ℕ) (t : Bool)
+pub weight-by : (setting kind : ℕ) (t : Bool)
     → cond t (weightOf setting kind 0) (weightOf setting kind 5) ≡ weightIn t setting kind
 unfolding weightOf
 weight-by setting kind true = refl
 weight-by setting kind false = refl
-
-percent-by : (percent setting kind : ℕ) (t : Bool)
-    → cond t (percent * weightOf setting kind 0) (percent * weightOf setting kind 5) ≡ percent * weightIn t setting kind
-unfolding weightOf
-percent-by percent setting kind true = refl
-percent-by percent setting kind false = refl
-
--- so what is picked for the year k is the weight of the year k
-pub lapse-is : (b : List ℕ) (setting k : ℕ) → lapseIn (decrementsOf b setting) k ≡ weightOf setting 2 k
-unfolding decrementsOf weightOf
-lapse-is b setting k = weight-by setting 2 (ltb k 5)
-
-pub men-is : (b : List ℕ) (setting k : ℕ) → mortalityIn (decrementsOf b setting) 0 k ≡ mortalityWeight b setting 0 k
-unfolding decrementsOf weightOf mortalityWeight
-men-is b setting k = percent-by (percentOf b 0) setting 0 (ltb k 5)
-
-pub women-is : (b : List ℕ) (setting k : ℕ) → mortalityIn (decrementsOf b setting) 1 k ≡ mortalityWeight b setting 1 k
-unfolding decrementsOf weightOf mortalityWeight
-women-is b setting k = percent-by (percentOf b 1) setting 1 (ltb k 5)
-
-pub mortality-is : (b : List ℕ) (setting sex k : ℕ) → sex ≤ 1
-    → mortalityIn (decrementsOf b setting) sex k ≡ mortalityWeight b setting sex k
-mortality-is b setting zero k h = men-is b setting k
-mortality-is b setting (suc zero) k h = women-is b setting k
-mortality-is b setting (suc (suc sex)) k h = absurd (omega arith)
-
-pub costs-is : (setting k : ℕ) → costsIn (outgoingsOf setting) k ≡ weightOf setting 3 k
-unfolding outgoingsOf weightOf
-costs-is setting k = weight-by setting 3 (ltb k 5)
-
-pub claims-is : (setting k : ℕ) → claimsWeightIn (outgoingsOf setting) k ≡ weightOf setting 4 k
-unfolding outgoingsOf weightOf
-claims-is setting k = weight-by setting 4 (ltb k 5)
-
-pub costs-most : (setting k : ℕ) → costsIn (outgoingsOf setting) k ≤ 1200
-costs-most setting k = omega (arith, costs-is setting k, cost-weight-most setting k)
-
-pub claims-most : (setting k : ℕ) → claimsWeightIn (outgoingsOf setting) k ≤ 1050
-claims-most setting k = omega (arith, claims-is setting k, claims-weight-most setting k)
 
 -- what holds of each of the eight settings
 pub each-setting : (P : ℕ → Type 0) → P 0 → P 1 → P 2 → P 3 → P 4 → P 5 → P 6 → P 7 → (setting : ℕ) → setting < 8

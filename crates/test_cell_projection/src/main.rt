@@ -11,7 +11,7 @@ use libc::STDIN_FILENO;
 use libc::STDOUT_FILENO;
 use rate_table::COLUMNS;
 use rate_table::ROWS;
-use settings::Shifts;
+use settings_decrements::Shifts;
 use verdict::Verdict;
 
 pub enum Years {
@@ -23,7 +23,7 @@ pub enum Years {
 fn years_of(counts: Counts, setting: usize) -> usize
     requires { ⌜ setting < 8 ⌝ }
 {
-    let projection = settings::projection_of(setting);
+    let projection = settings_columns::projection_of(setting);
     if projection == 1 {
         return counts.mortality_up;
     }

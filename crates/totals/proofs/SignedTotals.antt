@@ -17,7 +17,8 @@ use mir.Val.{toZ, ofZ, hbits}
 use borrow.Author.Tests.{le-ltb, ltb-true, ltb-false}
 use Rattle.lists.specs.Sums.{sumBy, sumBelow}
 use Rattle.lists.proofs.Sums.{sum-same, sum-more, sum-split}
-use Rattle.settings.specs.Settings.{decrementsOf, outgoingsOf}
+use Rattle.settings_decrements.specs.Decrements.{decrementsOf}
+use Rattle.settings_outgo.specs.Outgoings.{outgoingsOf}
 use Rattle.settings.proofs.Weights.{each-setting}
 use Rattle.present_value.specs.declared.Amounts.{Amounts}
 use Rattle.signed.proofs.Sizes.{signed-roundtrip, less-mag}

@@ -6,9 +6,9 @@ use lib.IntN.{ℤ, pos}
 use lib.Signed.{mag}
 use lib.ListN.{length, getD}
 use Rattle.book.specs.Reading.{ValidBook}
-use Rattle.settings.specs.Settings.{SettingOf}
-use Rattle.settings.specs.declared.OutgoWeights.{OutgoWeights}
-use Rattle.settings.specs.declared.Setting.{Setting}
+use Rattle.settings_outgo.specs.Outgoings.{SettingOf}
+use Rattle.settings_outgo.specs.declared.OutgoWeights.{OutgoWeights}
+use Rattle.settings_outgo.specs.declared.Setting.{Setting}
 use Rattle.valuation.specs.Totals.{totalOfGroups}
 use Rattle.group_projection.specs.Added.{TableOf}
 

@@ -15,8 +15,8 @@ use Rattle.book.specs.Layout.{lastClass, chains, headOf, nextOf, curvePlace, mo
 use Rattle.book.specs.Cells.{firstChain, chainsOf}
 use Rattle.book.specs.Reading.{ChainFrom, Standing, ValidBook}
 use Rattle.book.proofs.Valid.{valid, chain-next}
-use Rattle.settings.specs.declared.Decrements.{Decrements}
-use Rattle.settings.proofs.Weights.{costs-most, claims-most}
+use Rattle.settings_decrements.specs.declared.Decrements.{Decrements}
+use Rattle.settings_outgo.proofs.Weights.{costs-most, claims-most}
 use Rattle.valuation.specs.Steps.{Cell}
 use Rattle.valuation.specs.Bounds.{GoodCell, GoodCells, GoodTerms}
 use Rattle.valuation.specs.Portfolio.{mortalityOf, costRateOf, divisorOf, NoRateBelowZero, oneLess, cellOf}

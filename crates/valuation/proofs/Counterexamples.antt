@@ -9,7 +9,8 @@ use lib.IntN.{natAbs}
 use Rattle.lists.specs.Sums.{sumBy}
 use Rattle.le_bytes.specs.Bytes.{readU16, readU32, twoBytes, fourBytes}
 use Rattle.book.specs.Layout.{classOf, nextOf, fieldOf}
-use Rattle.settings.specs.Settings.{weightOf, percentOf, mortalityWeight, decrementsOf}
+use Rattle.settings.specs.Settings.{weightOf}
+use Rattle.settings_decrements.specs.Decrements.{percentOf, mortalityWeight, decrementsOf}
 use Rattle.valuation.specs.Steps.{inForce, cellPremium, cellClaims, sumCells, premiumSum, claimsSum, outgo}
 use Rattle.valuation.specs.Steps.{cappedIf, capped, countedPremium, discounted, discountedOutgo}
 use Rattle.valuation.specs.Steps.{discountedPremium, totalOutgo, totalPremium, liability}

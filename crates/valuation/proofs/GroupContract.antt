@@ -17,7 +17,7 @@ use Rattle.book.specs.Layout.{lastClass}
 use Rattle.book.specs.Cells.{heldOfGroup}
 use Rattle.book.specs.Reading.{ValidBook}
 use Rattle.book.proofs.Numbers.{zero-accepted}
-use Rattle.settings.specs.Settings.{decrementsOf}
+use Rattle.settings_decrements.specs.Decrements.{decrementsOf}
 use Rattle.valuation.specs.Arithmetic.{rounded}
 use Rattle.valuation.specs.Steps.{Cell, Terms, outgo, cappedIf, capped, countedPremium}
 use Rattle.valuation.specs.Portfolio.{divisorOf, NoRateBelowZero, groupCells, termsOf}

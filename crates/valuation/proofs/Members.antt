@@ -14,7 +14,7 @@ use Rattle.book.specs.Cells.{holds, heldFrom, heldIn, heldOfGroup, firstChain, 
 use Rattle.book.specs.Reading.{ChainFrom}
 use Rattle.book.proofs.Cells.{held-none}
 use Rattle.book.proofs.Valid.{chain-here, chain-end, chain-next}
-use Rattle.settings.specs.declared.Decrements.{Decrements}
+use Rattle.settings_decrements.specs.declared.Decrements.{Decrements}
 use Rattle.valuation.specs.Steps.{Cell, held, oneUnless}
 use Rattle.valuation.specs.Portfolio.{cellOf, linksFrom, chainLinks, linksOf, cellsOf, groupCells}
 

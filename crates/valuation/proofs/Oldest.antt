@@ -10,8 +10,8 @@ use borrow.Author.Tests.{ltb-true, ltb-false, le-ltb}
 use lib.Dec.{ltb}
 use Rattle.book.specs.Layout.{lastClass, sexOf, classOf, nextOf, fieldOf, lapseOffset, premiumOffset, claimsOffset}
 use Rattle.book.specs.Reading.{Standing}
-use Rattle.settings.specs.Settings.{mortalityIn, lapseIn}
-use Rattle.settings.specs.declared.Decrements.{Decrements}
+use Rattle.settings_decrements.specs.Decrements.{mortalityIn, lapseIn}
+use Rattle.settings_decrements.specs.declared.Decrements.{Decrements}
 use Rattle.valuation.specs.Portfolio.{mortalityOf, oneLess, onward, rowAt, cellOf}
 use Rattle.valuation.proofs.Rows.{row-standing, row-class}
 

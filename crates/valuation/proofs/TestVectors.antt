@@ -7,8 +7,9 @@ use native.Mathlib.Omega.{arith}
 use borrow.Author.Tests.{lt-ltb}
 use Rattle.book.specs.Layout.{lastClass, classOf}
 use Rattle.book.proofs.TestVectors.{t11, t12}
-use Rattle.settings.specs.Settings.{weightOf, percentOf, mortalityWeight, decrementsOf}
-use Rattle.settings.specs.declared.Decrements.{Decrements}
+use Rattle.settings.specs.Settings.{weightOf}
+use Rattle.settings_decrements.specs.Decrements.{percentOf, mortalityWeight, decrementsOf}
+use Rattle.settings_decrements.specs.declared.Decrements.{Decrements}
 use Rattle.valuation.specs.Arithmetic.{rounded}
 use Rattle.valuation.specs.Steps.{inForce, cappedIf, capped, discounted}
 use Rattle.valuation.specs.Portfolio.{divisorOf, oneLess, rowAt, cellOf}

@@ -27,8 +27,8 @@ use Rattle.book.proofs.Same.{record-same}
 use Rattle.book.proofs.Valid.{valid}
 use Rattle.book.proofs.Exact.{accepted-held}
 use Rattle.book.proofs.Unlinked.{unlinked-same}
-use Rattle.settings.specs.Settings.{percentOf, mortalityWeight, decrementsOf, lapseIn}
-use Rattle.settings.specs.declared.Decrements.{Decrements}
+use Rattle.settings_decrements.specs.Decrements.{percentOf, mortalityWeight, decrementsOf, lapseIn}
+use Rattle.settings_decrements.specs.declared.Decrements.{Decrements}
 use Rattle.valuation.specs.Arithmetic.{rounded}
 use Rattle.valuation.specs.Steps.{Cell, Terms, held, outgo, countedPremium, discountedOutgo, discountedPremium}
 use Rattle.valuation.specs.Steps.{totalOutgo, totalPremium, liability}

@@ -7,8 +7,9 @@ use Rattle.le_bytes.specs.Bytes.{readU32}
 use Rattle.book.specs.Layout.{lastClass, headOf, sexOf, classOf, nextOf, fieldOf, countOffset, lapseOffset}
 use Rattle.book.specs.Layout.{premiumOffset, claimsOffset, costPlace, curvePlace, mortalityPlace, mortalitySize}
 use Rattle.book.specs.Cells.{firstChain, chainsOf}
-use Rattle.settings.specs.Settings.{outgoingsOf, mortalityIn, lapseIn, costsIn, claimsWeightIn}
-use Rattle.settings.specs.declared.Decrements.{Decrements}
+use Rattle.settings_decrements.specs.Decrements.{mortalityIn, lapseIn}
+use Rattle.settings_decrements.specs.declared.Decrements.{Decrements}
+use Rattle.settings_outgo.specs.Outgoings.{outgoingsOf, costsIn, claimsWeightIn}
 use Rattle.valuation.specs.Steps.{Cell, Terms}
 
 -- Tables: the mortality of a sex and class, the cost rate of product group g, and 1,000,000 more than the rate of year

@@ -13,7 +13,7 @@ use Rattle.buffer.specs.Replies.{bufferFor}
 use Rattle.book.specs.Layout.{lastClass}
 use Rattle.book.specs.Cells.{heldOfGroup}
 use Rattle.book.specs.Check.{checkBook}
-use Rattle.settings.specs.Settings.{decrementsOf}
+use Rattle.settings_decrements.specs.Decrements.{decrementsOf}
 use Rattle.valuation.specs.Arithmetic.{rounded}
 use Rattle.valuation.specs.Steps.{Cell, Terms, SignedFraction, outgo, countedPremium, discountedOutgo}
 use Rattle.valuation.specs.Steps.{discountedPremium, liability, exactLiability}

@@ -7,7 +7,7 @@ use Rattle.verdict.specs.declared.Verdict.the-variants.{Refused}
 use Rattle.le_bytes.specs.Bytes.{readU32}
 use Rattle.book.specs.Layout.{edition, curvePlace, lastClass, sexOf, classOf, nextOf, fieldOf, countOffset, lapseOffset}
 use Rattle.book.specs.Check.{checkBook}
-use Rattle.settings.specs.Settings.{decrementsOf}
+use Rattle.settings_decrements.specs.Decrements.{decrementsOf}
 use Rattle.valuation.specs.Arithmetic.{rounded}
 use Rattle.valuation.specs.Steps.{inForce, capped, discounted}
 use Rattle.valuation.specs.Portfolio.{mortalityOf, divisorOf, rowAt, cellOf}

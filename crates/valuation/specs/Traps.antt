@@ -8,7 +8,7 @@ use lib.Dec.{leb, eqb}
 use lib.IntN.{ℤ, pos, _+ℤ_, _-ℤ_}
 use lib.ListN.{getD, replicate}
 use Rattle.le_bytes.specs.Bytes.{fourBytes}
-use Rattle.settings.specs.Settings.{decrementsOf}
+use Rattle.settings_decrements.specs.Decrements.{decrementsOf}
 use Rattle.valuation.specs.Arithmetic.{rounded}
 use Rattle.valuation.specs.Steps.{Cell, Terms, inForce, premiumSum, claimsSum, outgo, cappedIf}
 use Rattle.valuation.specs.Steps.{countedPremium, liability}

@@ -11,8 +11,8 @@ use Rattle.lists.specs.AtMost.{AtMost}
 use Rattle.lists.proofs.AtMost.{most-higher, most-replicate}
 use Rattle.book.specs.Cells.{firstChain, chainsOf}
 use Rattle.book.specs.Reading.{ValidBook}
-use Rattle.settings.specs.Settings.{decrementsOf}
-use Rattle.settings.specs.declared.Decrements.{Decrements}
+use Rattle.settings_decrements.specs.Decrements.{decrementsOf}
+use Rattle.settings_decrements.specs.declared.Decrements.{Decrements}
 use Rattle.settings.proofs.Weights.{pick-le}
 use Rattle.valuation.specs.Arithmetic.{rounded}
 use Rattle.valuation.specs.Steps.{Cell, Terms, premiumSum, claimsSum, outgo, cappedIf, capped, countedPremium}

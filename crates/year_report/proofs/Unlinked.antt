@@ -15,7 +15,7 @@ use Rattle.le_bytes.proofs.Ranges.{within-good}
 use Rattle.book.specs.Check.{checkBook}
 use Rattle.book.specs.Rules.{SameButUnlinked}
 use Rattle.book.proofs.Unlinked.{unlinked-same}
-use Rattle.settings.specs.Settings.{decrementsOf}
+use Rattle.settings_decrements.specs.Decrements.{decrementsOf}
 use Rattle.valuation.specs.Arithmetic.{rounded}
 use Rattle.valuation.specs.Steps.{outgo, countedPremium}
 use Rattle.valuation.specs.Portfolio.{groupCells, termsOf}

@@ -7,7 +7,7 @@ use lib.ListN.{length}
 use Rattle.verdict.specs.Verdicts.{need, _andThen_}
 use Rattle.verdict.specs.declared.Verdict.{Verdict}
 use Rattle.book.specs.Check.{checkBook}
-use Rattle.settings.specs.Settings.{decrementsOf}
+use Rattle.settings_decrements.specs.Decrements.{decrementsOf}
 use Rattle.valuation.specs.Arithmetic.{rounded}
 use Rattle.valuation.specs.Steps.{outgo, countedPremium}
 use Rattle.valuation.specs.Portfolio.{groupCells, termsOf}

@@ -4,9 +4,10 @@ use mathlib.Core.Path.{_≡_}
 use Prim.Native.Nat.{ℕ, _+_, _*_, _<_, _≤_}
 use lib.ListN.{getD}
 use Rattle.book.specs.Reading.{ValidBook}
-use Rattle.settings.specs.Settings.{ShiftsOf, SettingOf, decrementsOf}
-use Rattle.settings.specs.declared.Setting.{Setting}
-use Rattle.settings.specs.declared.Shifts.{Shifts}
+use Rattle.settings_decrements.specs.Decrements.{ShiftsOf, decrementsOf}
+use Rattle.settings_decrements.specs.declared.Shifts.{Shifts}
+use Rattle.settings_outgo.specs.Outgoings.{SettingOf}
+use Rattle.settings_outgo.specs.declared.Setting.{Setting}
 use Rattle.valuation.specs.Arithmetic.{rounded}
 use Rattle.valuation.specs.Steps.{outgo, countedPremium}
 use Rattle.valuation.specs.Portfolio.{groupCells, termsOf}

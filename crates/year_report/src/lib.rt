@@ -12,8 +12,8 @@ use cell_projection::YEARS;
 use present_value::Span;
 use rate_table::COLUMNS;
 use rate_table::ROWS;
-use settings::Setting;
-use settings::Shifts;
+use settings_decrements::Shifts;
+use settings_outgo::Setting;
 use verdict::Verdict;
 
 // The refusals of both calls, in their order.

@@ -3,8 +3,8 @@ use mathlib.Core.Path.{ap}
 use native.Mathlib.Omega.{arith}
 use Rattle.lists.specs.AtMost.{AtMost}
 use Rattle.lists.proofs.AtMost.{most-higher}
-use Rattle.settings.specs.Settings.{fiveColumns}
-use Rattle.settings.specs.declared.FiveColumns.{FiveColumns}
+use Rattle.settings_columns.specs.Columns.{fiveColumns}
+use Rattle.settings_columns.specs.declared.FiveColumns.{FiveColumns}
 use Rattle.five_projections.specs.Five.{fiveIn}
 use Rattle.five_projections.specs.declared.Five.{Five}
 use Rattle.cell_projection.proofs.Single.{within-capacity}

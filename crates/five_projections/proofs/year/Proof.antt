@@ -5,8 +5,8 @@ use Prim.Native.Nat.{ℕ, _+_, _*_}
 use native.Mathlib.Omega.{arith}
 use Rattle.lists.specs.AtMost.{AtMost}
 use Rattle.lists.proofs.AtMost.{most-higher}
-use Rattle.settings.specs.Settings.{fiveColumns}
-use Rattle.settings.specs.declared.FiveColumns.{FiveColumns}
+use Rattle.settings_columns.specs.Columns.{fiveColumns}
+use Rattle.settings_columns.specs.declared.FiveColumns.{FiveColumns}
 use Rattle.cell.specs.declared.Cell.{Cell}
 use Rattle.cell.specs.States.{Ready}
 use Rattle.cell.proofs.Cells.{premium-in-le, claims-in-le}

@@ -7,9 +7,9 @@ use native.Mathlib.Nat.{add-zero, mul-le-mul, le-trans}
 use native.Mathlib.Omega.{arith}
 use borrow.Author.Needs.{needs}
 use lib.ListN.{getD}
-use Rattle.settings.specs.Settings.{columnsOf, fiveColumns, survivesIn, persistsIn}
-use Rattle.settings.specs.declared.Columns.{Columns}
-use Rattle.settings.specs.declared.FiveColumns.{FiveColumns}
+use Rattle.settings_columns.specs.Columns.{columnsOf, fiveColumns, survivesIn, persistsIn}
+use Rattle.settings_columns.specs.declared.Columns.{Columns}
+use Rattle.settings_columns.specs.declared.FiveColumns.{FiveColumns}
 use Rattle.rate_table.specs.Rows.{rate, RowReady}
 use Rattle.cell.specs.declared.Cell.{Cell}
 use Rattle.cell.specs.States.{Projectable, Ready, nextBy, nextYear}

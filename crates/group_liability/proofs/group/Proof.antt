@@ -11,8 +11,8 @@ use borrow.Author.Needs.{needs}
 use Rattle.valuation.specs.Replies.{groupLiability, groupReply, groupTable}
 use Rattle.valuation.specs.declared.GroupReply.the-variants.{Valued}
 use Rattle.valuation.proofs.Accepted.{group-setting, group-table, group-range, group-valid}
+use Rattle.settings_columns.proofs.Held.{projection-low}
 use Rattle.valuation.proofs.GroupContract.{length-years, promised}
-use Rattle.settings.proofs.Serving.{projection-low}
 use Rattle.group_liability.proofs.group.Statement.{statement}
 use Rattle.group_liability.proofs.group.Tie as tie
 

@@ -11,7 +11,7 @@ use Rattle.book.specs.Cells.{heldFrom}
 use Rattle.book.specs.Rules.{RecordRules}
 use Rattle.book.specs.Reading.{ChainFrom, Inside, Standing}
 use Rattle.book.proofs.Valid.{chain-here, chain-next}
-use Rattle.settings.specs.Settings.{decrementsOf}
+use Rattle.settings_decrements.specs.Decrements.{decrementsOf}
 use Rattle.valuation.specs.Portfolio.{rowAt, linksFrom}
 use Rattle.valuation.proofs.Rows.{chain-standing}
 use Rattle.valuation.proofs.Members.{counted, links-counted}

@@ -3,8 +3,8 @@ use mathlib.Core.Path.{_≡_, sym, ap, _∙_}
 use Prim.Native.Nat.{ℕ, _<_}
 use native.Mathlib.Omega.{arith}
 use borrow.Author.Needs.{needs}
-use Rattle.settings.specs.Settings.{columnsOf}
-use Rattle.settings.specs.declared.Columns.{Columns}
+use Rattle.settings_columns.specs.Columns.{columnsOf}
+use Rattle.settings_columns.specs.declared.Columns.{Columns}
 use Rattle.group_projection.proofs.columns_in.Statement.{statement}
 use Rattle.group_projection.proofs.columns_in.Tie as tie
 

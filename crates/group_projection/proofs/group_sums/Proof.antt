@@ -10,7 +10,7 @@ use lib.ListN.{getD, replicate}
 use Rattle.lists.specs.Sums.{sumFrom}
 use Rattle.lists.proofs.AtMost.{most-higher, most-replicate}
 use Rattle.book.specs.Cells.{heldIn, chainsOf, heldOfGroup}
-use Rattle.settings.specs.Settings.{decrementsOf}
+use Rattle.settings_decrements.specs.Decrements.{decrementsOf}
 use Rattle.valuation.specs.Arithmetic.{rounded}
 use Rattle.valuation.specs.Steps.{premiumSum, claimsSum}
 use Rattle.valuation.specs.Portfolio.{groupLinks, groupCells}

@@ -6,7 +6,7 @@ use Prim.Native.Nat.{_+_, _-_, _*_, _≤_, _<_}
 use native.Mathlib.Omega.{arith}
 use borrow.Author.Needs.{needs}
 use lib.ListN.{length, getD, length-set}
-use Rattle.settings.proofs.Serving.{projection-low}
+use Rattle.settings_columns.proofs.Held.{projection-low}
 use Rattle.group_projection.proofs.Serving.{premium-served, claims-served}
 use Rattle.cash_flow.proofs.CashFlow.{outgo-of, premium-of}
 use Rattle.present_value.specs.Outcome.{InYears, premiumBefore, outgoBefore}

@@ -7,7 +7,7 @@ use lib.IntN.{pos}
 use lib.ListN.{getD}
 use mir.Syntax.{w64}
 use mir.Val.{toZ, ofZ}
-use Rattle.settings.proofs.Serving.{projection-low}
+use Rattle.settings_columns.proofs.Held.{projection-low}
 use Rattle.totals.specs.Sums.{Sum}
 use Rattle.totals.proofs.SignedTotals.{Growing, growing-start, growing-more, growing-end, Liability}
 use Rattle.totals.proofs.SignedTotals.{liability-read, sum-read, sum-stored, sum-capacity}

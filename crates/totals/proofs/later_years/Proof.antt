@@ -2,7 +2,8 @@
 -- nothing.
 use mathlib.Core.Path.{sym, _∙_}
 use native.Mathlib.Omega.{arith}
-use Rattle.settings.proofs.Serving.{projection-low, later-decrements, later-outgo}
+use Rattle.settings_columns.proofs.Held.{projection-low}
+use Rattle.settings_outgo.proofs.Serving.{later-decrements, later-outgo}
 use Rattle.totals.proofs.SignedTotals.{later-same}
 use Rattle.totals.proofs.later_years.Statement.{statement}
 use Rattle.totals.proofs.later_years.Tie as tie

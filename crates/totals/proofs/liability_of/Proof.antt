@@ -1,7 +1,7 @@
 -- `totals::liability_of` meets its contract: the first five years and the later ones are all fifty. Assumes nothing.
 use mathlib.Core.Path.{_∙_}
 use native.Mathlib.Omega.{arith}
-use Rattle.settings.proofs.Serving.{projection-low}
+use Rattle.settings_columns.proofs.Held.{projection-low}
 use Rattle.signed.proofs.Sizes.{signed-roundtrip}
 use Rattle.totals.proofs.SignedTotals.{both-parts, parts-most}
 use Rattle.totals.proofs.liability_of.Statement.{statement}

@@ -1,0 +1,2 @@
+pub mod Outgoings
+pub mod BookWeights
