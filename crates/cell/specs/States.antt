@@ -10,7 +10,7 @@ use Rattle.valuation.specs.Arithmetic.{rounded}
 use Rattle.valuation.specs.Steps as steps
 use Rattle.valuation.specs.Steps.{inForce, cellPremium, cellClaims}
 use Rattle.valuation.specs.Portfolio.{cellOf}
-use Rattle.rate_table.specs.Rows.{rate, RowReady, RowOrdered}
+use Rattle.rate_table.specs.Rows.{rowCount, rate, RowReady, RowOrdered}
 use Rattle.cell.specs.declared.Cell.{Cell}
 
 -- the cell that starts at row r of the table t with n contracts, in a setting: in year k it has reached row r + k
@@ -33,7 +33,7 @@ pub record Projectable (t : List ℕ) (r n : ℕ) : Type 0 where
 -- a state that can go on
 pub record Ready (t : List ℕ) (c : Cell) : Type 0 where
   pub row : RowReady t (c .row)
-  pub fits : c .row < 170
+  pub fits : c .row < rowCount
   pub bound : c .inforce ≤ 100_000_000_000_000
 
 -- a place of the rows by which shares can be taken: it has the fraction of the rate eight further, which is at most the

@@ -2,8 +2,9 @@
 // what it adds to a year.
 // Internal: the functions ask for rows as `rows` reads them from an accepted book.
 ghost use mathlib.Core.Path.{_≡_};
-ghost use Prim.Native.Nat.{_*_, _<_, _≤_};
+ghost use Prim.Native.Nat.{_+_, _*_, _<_, _≤_};
 ghost use Rattle.settings_columns.specs.Columns.{survivesIn, persistsIn};
+ghost use Rattle.rate_table.specs.Rows.{rowCount, aRow};
 ghost use Rattle.cell.specs.States.{Ready, ShareAt, shareOf, nextBy, premiumIn, claimsIn};
 use rate_table::CLAIMS;
 use rate_table::COLUMNS;
@@ -19,7 +20,7 @@ const MOST_IN_FORCE: u64 = 100_000_000_000_000;
 // of a product is the share, or, where it may be one too few, corrected by the rate.
 fn part(x: u64, rows: &RateTable, at: usize) -> u64
     requires { ⌜ (x ≤ 100000000000000)
-        × (at < 2712)
+        × (at + 8 < aRow * rowCount)
         × ShareAt (now rows) at ⌝ }
     ensures { λ r. ⌜ r ≡ shareOf (now (rows .entry)) at x ⌝ }
 {

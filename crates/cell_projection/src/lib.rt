@@ -7,7 +7,7 @@ ghost use lib.ListN.{getD, set};
 ghost use Rattle.lists.specs.AtMost.{AtMost};
 ghost use Rattle.settings_columns.specs.Columns.{columnsOf};
 ghost use Rattle.cell.specs.States.{premiumIn, claimsIn, nextYear, Ready, Projectable};
-ghost use Rattle.cell_projection.specs.Tables.{twoMore};
+ghost use Rattle.cell_projection.specs.Tables.{yearCount, tableNumbers, twoMore};
 ghost use Rattle.cell_projection.specs.Projected.{ReachedIn, StoppedIn, ProjectedIn};
 use cell::Cell;
 use rate_table::RateTable;
@@ -45,7 +45,7 @@ struct Stretch {
 
 // Adds x to number j of the table.
 pub fn add_at(sums: &mut YearSums, j: usize, x: u64)
-    requires { ⌜ (j < 500)
+    requires { ⌜ (j < tableNumbers)
         × (getD (now sums) j 0 + x < 2 ^ 64) ⌝ }
     ensures { λ _. ⌜ now (sums .exit) ≡ set (now (sums .entry)) j (getD (now (sums .entry)) j 0 + x)
         ⌝ }
@@ -65,8 +65,8 @@ pub fn one_year(
 ) -> Cell
     requires { ⌜ Ready (now rows) cell
         × (setting < 5)
-        × (k < 50)
-        × AtMost 4000000000000000 500 (now sums)
+        × (k < yearCount)
+        × AtMost 4000000000000000 tableNumbers (now sums)
         × (columns ≡ columnsOf setting) ⌝ }
     ensures { λ r. ⌜ (r ≡ nextYear (now (rows .entry)) setting k cell)
         × (now (sums .exit) ≡ twoMore (now (sums .entry)) (10 * k + 2 * setting)
@@ -91,9 +91,9 @@ fn project_stretch(
     requires { ⌜ Projectable (now rows) (point .row) (point .count)
         × (setting < 5)
         × (stretch .from ≤ stretch .to)
-        × (stretch .to ≤ 50)
+        × (stretch .to ≤ yearCount)
         × ReachedIn (now rows) (point .row) (point .count) setting (stretch .from) (stretch .cell)
-        × AtMost 3000000000000000 500 (now sums)
+        × AtMost 3000000000000000 tableNumbers (now sums)
         × (columns ≡ columnsOf setting) ⌝ }
     ensures { λ r. ⌜ StoppedIn (now (rows .entry)) (point .row) (point .count) setting
         (stretch .from) (stretch .to) (r .k) (r .cell) (now (sums .entry)) (now (sums .exit)) ⌝ }
@@ -120,9 +120,9 @@ pub fn alone(
 ) -> usize
     requires { ⌜ Projectable (now rows) (point .row) (point .count)
         × (setting < 5)
-        × (start .k ≤ 50)
+        × (start .k ≤ yearCount)
         × ReachedIn (now rows) (point .row) (point .count) setting (start .k) (start .cell)
-        × AtMost 3000000000000000 500 (now sums)
+        × AtMost 3000000000000000 tableNumbers (now sums)
         × (columns ≡ columnsOf setting) ⌝ }
     ensures { λ years.
         ⌜ ProjectedIn (now (rows .entry)) (point .row) (point .count) setting (start .k) years
@@ -148,7 +148,7 @@ pub fn project_in(
 ) -> usize
     requires { ⌜ Projectable (now rows) (point .row) (point .count)
         × (setting < 5)
-        × AtMost 2000000000000000 500 (now sums)
+        × AtMost 2000000000000000 tableNumbers (now sums)
         × (columns ≡ columnsOf setting) ⌝ }
     ensures { λ years.
         ⌜ ProjectedIn (now (rows .entry)) (point .row) (point .count) setting 0 years

@@ -15,12 +15,19 @@ use Rattle.book.specs.Layout.{chainSex, classOf, fieldOf, lapseOffset, premiumO
 use Rattle.settings_decrements.specs.Decrements.{decrementsAt, ofSex}
 use Rattle.valuation.specs.Portfolio.{mortalityOf, oneLess, rowAt}
 
+-- the rows of a table, and the numbers of a row
+abbrev pub rowCount : ℕ
+rowCount = 170
+
+abbrev pub aRow : ℕ
+aRow = 16
+
 -- the rate of row r in column c, and the fraction by which shares of it are taken
 abbrev pub rate : List ℕ → ℕ → ℕ → ℕ
-rate t r c = getD t (16 * r + c + 8) 0
+rate t r c = getD t (aRow * r + c + 8) 0
 
 abbrev pub fraction : List ℕ → ℕ → ℕ → ℕ
-fraction t r c = getD t (16 * r + c) 0
+fraction t r c = getD t (aRow * r + c) 0
 
 -- a row by which shares can be taken: each fraction is its rate's, and the rates keep their ranges
 pub record RowReady (t : List ℕ) (r : ℕ) : Type 0 where
@@ -62,4 +69,4 @@ pub record RowOf (b : List ℕ) (sex i : ℕ) (t : List ℕ) (r : ℕ) : Type 0 
 -- the rows from record i of a chain on: row r holds what holds for the cell of i in year r, up to fifty years of the
 -- last class
 abbrev pub RowsOf : List ℕ → ℕ → ℕ → List ℕ → Type 0
-RowsOf b chain i t = (r : ℕ) → r < 170 - classOf b i → RowOf b (chainSex chain) (rowAt b i r) t r
+RowsOf b chain i t = (r : ℕ) → r < rowCount - classOf b i → RowOf b (chainSex chain) (rowAt b i r) t r

@@ -12,7 +12,7 @@ ghost use Rattle.book.specs.Reading.{Standing, ValidBook};
 ghost use Rattle.book.specs.Rules.{RecordRules};
 ghost use Rattle.settings_decrements.specs.Decrements.{ShiftsOf};
 ghost use Rattle.valuation.specs.Portfolio.{mortalityOf, oneLess};
-ghost use Rattle.rate_table.specs.Rows.{RowsOf};
+ghost use Rattle.rate_table.specs.Rows.{rowCount, RowsOf};
 ghost use Rattle.rate_table.specs.Puts.{Put, ThreeMore, RowPut, RowsBelow, Repeated};
 use settings_decrements::Shifts;
 
@@ -95,7 +95,7 @@ struct Weights {
 
 // Stores three columns of row r from column n on: what a rate leaves at three weights.
 fn put_three(rows: &mut RateTable, r: usize, n: usize, rate: u64, weights: Weights)
-    requires { ⌜ (r < 170)
+    requires { ⌜ (r < rowCount)
         × (n ≤ 3)
         × (rate ≤ 1000000)
         × (weights .base ≤ 1300)
@@ -122,7 +122,7 @@ fn put_row(book: &[u8], w: Shifts, link: Link, r: usize, rows: &mut RateTable)
         × ValidBook 1 (now book)
         × RecordRules (now book) 120 (link .chain) (link .number)
         × (link .class ≡ classOf (now book) (link .number))
-        × (r < 170) ⌝ }
+        × (r < rowCount) ⌝ }
     ensures { λ _. ⌜ RowPut (now (book .entry)) (chainSex (link .chain)) (link .number)
         (now (rows .entry)) (now (rows .exit)) r ⌝ }
 {
