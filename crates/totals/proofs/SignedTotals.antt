@@ -18,10 +18,11 @@ use mir.Val.{toZ, ofZ, hbits}
 use borrow.Author.Tests.{le-ltb, ltb-true, ltb-false}
 use Rattle.settings.specs.Settings.{decrementsOf, outgoingsOf}
 use Rattle.settings.proofs.Weights.{each-setting}
-use Rattle.present_value.specs.declared.Amounts.{Amounts}
+use Rattle.present_value_span.specs.declared.Amounts.{Amounts}
 use Rattle.signed.proofs.Sizes.{signed-roundtrip, less-mag}
-use Rattle.cash_flow.proofs.CashFlow.{liability-is}
-use Rattle.present_value.specs.Outcome.{AmountsIn, yearOutgo, yearPremium}
+use Rattle.present_value.specs.Outcome.{yearOutgo, yearPremium}
+use Rattle.present_value.proofs.Discounted.{liability-is}
+use Rattle.present_value_span.specs.Spans.{AmountsIn}
 use Rattle.valuation.specs.Arithmetic.{rounded}
 use Rattle.valuation.specs.Steps.{outgo, countedPremium, discountedOutgo, discountedPremium, sumYears}
 use Rattle.valuation.specs.Portfolio.{termsOf}
