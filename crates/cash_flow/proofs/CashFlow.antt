@@ -1,70 +1,17 @@
--- Laws of the year table, of a year, and of the liability. Assumes nothing.
-use mathlib.Core.Path.{_≡_, refl, sym, ap, _∙_}
-use mathlib.Core.List.{List, [], _∷_, _++_, append-assoc}
-use Prim.Native.Nat.{ℕ, suc, _+_, _*_, _≤_}
-use native.Mathlib.Numerals.{add-one}
+-- Laws of premium and outgo before discounting: of a year, and of a table filled year by year. Assumes nothing.
+use mathlib.Core.Path.{_≡_, _∙_}
+use mathlib.Core.List.{List}
+use Prim.Native.Nat.{ℕ, _+_, _≤_, _<_}
 use native.Mathlib.Omega.{arith}
-use lib.IntN.{pos, _-ℤ_}
-use lib.ListN.{length, set, take, drop, length-append, length-drop}
-use lib.Seq.{sets-eq, take-at, drop-at, drop-drop}
-use Rattle.lists.specs.Sums.{sumBelow}
+use lib.ListN.{length, set, replicate}
+use Rattle.lists.proofs.AtMost.{most-higher, most-replicate}
+use Rattle.lists.proofs.Stored.{stored}
 use Rattle.settings_decrements.specs.Decrements.{decrementsOf}
 use Rattle.settings_outgo.specs.Outgoings.{outgoingsOf}
 use Rattle.valuation.specs.Arithmetic.{rounded}
-use Rattle.valuation.specs.Steps.{Cell, Terms, premiumSum, claimsSum, outgo, capped, countedPremium, discounted}
-use Rattle.valuation.specs.Steps.{discountedOutgo, discountedPremium, totalOutgo, totalPremium, liability}
-use Rattle.valuation.specs.Portfolio.{costRateOf, divisorOf, termsOf, groupCells}
-use Rattle.valuation.specs.Replies.{groupLiability, yearTable}
-use Rattle.valuation.proofs.GroupContract.{length-years}
-use Rattle.cash_flow.specs.declared.Year.{Year}
-use Rattle.cash_flow.specs.CashFlow.{outgoOf, yearOf, fourOf}
-
--- four stores in a row
-pub four-stores : (t : List ℕ) (i a b c d : ℕ) → i + 4 ≤ length t
-    → set (set (set (set t i a) (i + 1) b) (i + 2) c) (i + 3) d ≡ take i t ++ ((a ∷ b ∷ c ∷ d ∷ []) ++ drop (i + 4) t)
-four-stores t i a b c d h =
-    let e1 : i + 1 ≡ suc i = omega arith in
-    let e2 : i + 2 ≡ suc (suc i) = omega arith in
-    let e3 : i + 3 ≡ suc (suc (suc i)) = omega arith in
-    rw (e1, e2, e3) (sets-eq (a ∷ b ∷ c ∷ d ∷ []) t i h ∙ append-assoc (take i t) (a ∷ b ∷ c ∷ d ∷ []) (drop (i + 4) t))
-
-module _ (t : Terms) (cs : List Cell) where
-  -- one year more in the caller's table
-  pub years-more : (n : ℕ) (y : Year) (before u v : List ℕ) → y ≡ yearOf t cs n → 4 * n + 4 ≤ length before
-      → u ≡ yearTable t cs n ++ drop (4 * n) before
-      → v ≡ take (4 * n) u ++ (fourOf y ++ drop (4 * n + 4) u) → v ≡ yearTable t cs (n + 1) ++ drop (4 * (n + 1)) before
-  unfolding yearTable yearOf
-  years-more n y before u v ey h eu ev =
-      let e : 4 * (n + 1) ≡ 4 * n + 4 = omega arith in
-      let front : take (4 * n) u ≡ yearTable t cs n =
-      ap (take (4 * n)) eu ∙ take-at (yearTable t cs n) (drop (4 * n) before) (4 * n) (length-years t cs n) in
-      let rest : drop (4 * n + 4) u ≡ drop (4 * n + 4) before =
-      sym (drop-drop 4 (4 * n) u) ∙ ap (λ (l : List ℕ). drop 4 (drop (4 * n) l)) eu
-      ∙ ap (drop 4) (drop-at (yearTable t cs n) (drop (4 * n) before) (4 * n) (length-years t cs n)) ∙ drop-drop 4
-      (4 * n) before in
-      ev ∙ rw (front, rest, e, add-one n, ey)
-      (sym (append-assoc (yearTable t cs n) (fourOf (yearOf t cs n)) (drop (4 * n + 4) before)))
-
-  -- the table keeps its length
-  pub years-length : (n : ℕ) (before u : List ℕ) → 4 * n ≤ length before → u ≡ yearTable t cs n ++ drop (4 * n) before
-      → length u ≡ length before
-  years-length n before u h e =
-      ap length e ∙ omega (
-        arith,
-        length-append (yearTable t cs n) (drop (4 * n) before),
-        length-years t cs n,
-        length-drop (4 * n)
-            before,
-      )
-
--- the year's four numbers
-pub year-is : (t : Terms) (cs : List Cell) (k a b c d : ℕ) → a ≡ countedPremium rounded t cs k
-    → b ≡ outgo rounded t cs k
-    → c ≡ discountedPremium rounded t cs k → d ≡ discountedOutgo rounded t cs k
-    → _≡_ {A = Year} (record { premium = a; outgo = b; «discounted_premium» = c; «discounted_outgo» = d })
-    (yearOf t cs k)
-unfolding yearOf
-year-is t cs k a b c d h1 h2 h3 h4 = rw (h1, h2, h3, h4)
+use Rattle.valuation.specs.Steps.{premiumSum, claimsSum, outgo, capped, countedPremium}
+use Rattle.valuation.specs.Portfolio.{costRateOf, termsOf, groupCells}
+use Rattle.cash_flow.specs.CashFlow.{outgoOf, InYears}
 
 module _ (b : List ℕ) (s g : ℕ) where
   -- outgo and cap of the year's sums are the valuation's
@@ -82,26 +29,14 @@ module _ (b : List ℕ) (s g : ℕ) where
   unfolding countedPremium
   premium-of k p x y e h1 h2 = e ∙ rw (h1, h2)
 
-  -- both are discounted for k years with the divisor of year k
-  pub outgo-discounted : (k : ℕ) → discountedOutgo rounded (termsOf b s g) (groupCells b (decrementsOf b s) g) k
-      ≡ discounted rounded (divisorOf b k) k (outgo rounded (termsOf b s g) (groupCells b (decrementsOf b s) g) k)
-  unfolding discountedOutgo termsOf
-  outgo-discounted k = refl
+-- no year at first, then one more
+pub in-none : (f : ℕ → ℕ) (m from : ℕ) → InYears f m from from (replicate 50 0)
+in-none f m from = record { are = λ k h l. absurd (omega arith); most = most-higher (most-replicate 50 0) (omega arith) }
 
-  pub premium-discounted : (k : ℕ) → discountedPremium rounded (termsOf b s g) (groupCells b (decrementsOf b s) g) k
-      ≡ discounted rounded (divisorOf b k) k
-      (countedPremium rounded (termsOf b s g) (groupCells b (decrementsOf b s) g) k)
-  unfolding discountedPremium termsOf
-  premium-discounted k = refl
-
-  pub liability-is : (k paid earned : ℕ) → k ≡ 50
-      → paid ≡ sumBelow (discountedOutgo rounded (termsOf b s g) (groupCells b (decrementsOf b s) g)) k
-      → earned ≡ sumBelow (discountedPremium rounded (termsOf b s g) (groupCells b (decrementsOf b s) g)) k
-      → pos paid -ℤ pos earned ≡ groupLiability b s g
-  unfolding groupLiability liability totalOutgo totalPremium
-  liability-is k paid earned h hp he =
-      let cs = groupCells b (decrementsOf b s) g in
-      let o = rw h at hp in
-      let p = rw h at he in
-      ap (λ (x : ℕ). pos x -ℤ pos earned) o ∙ ap
-      (λ (x : ℕ). pos (sumBelow (discountedOutgo rounded (termsOf b s g) cs) 50) -ℤ pos x) p
+pub in-more : (f : ℕ → ℕ) (m from k x : ℕ) (table : List ℕ) → k < length table → InYears f m from k table → x ≡ f k
+    → x ≤ m
+    → InYears f m from (k + 1) (set table k x)
+in-more f m from k x table l h e small = record {
+  are = stored (λ i y. from ≤ i → y ≡ f i) table k x l (h .are) (λ _. e);
+  most = record { each = stored (λ i y. y ≤ m) table k x l (h .most .each) small };
+}

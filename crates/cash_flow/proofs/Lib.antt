@@ -1,2 +1,1 @@
-pub mod Discounting
 pub mod CashFlow

@@ -1,54 +1,32 @@
--- A year valued from its sums, as the code computes it: outgo, cap, discounting.
+-- Premium and outgo of a product group's years before discounting, as the code computes them.
 use mathlib.Core.Path.{_≡_}
-use mathlib.Core.List.{List, [], _∷_}
-use Prim.Native.Nat.{ℕ, _+_, _*_, _/_, _<_, _≤_, min}
+use mathlib.Core.List.{List}
+use Prim.Native.Nat.{ℕ, _+_, _*_, _/_, _<_, _≤_}
 use lib.ListN.{getD}
-use Rattle.arith.specs.Fractions.{IsFraction}
+use Rattle.lists.specs.AtMost.{AtMost}
 use Rattle.settings_outgo.specs.Outgoings.{costsIn, claimsWeightIn}
+use Rattle.settings_decrements.specs.Decrements.{decrementsOf}
 use Rattle.settings_outgo.specs.declared.Outgoings.{Outgoings}
 use Rattle.valuation.specs.Arithmetic.{rounded}
-use Rattle.valuation.specs.Steps.{Cell, Terms, outgo, countedPremium, discounted, discountedOutgo, discountedPremium}
-use Rattle.cash_flow.specs.declared.Year.{Year}
+use Rattle.valuation.specs.Steps.{outgo, countedPremium}
+use Rattle.valuation.specs.Portfolio.{termsOf, groupCells}
 
 -- step 3 of sums of premium and claims
 unfoldable pub outgoOf : Outgoings → ℕ → ℕ → ℕ → ℕ → ℕ
 outgoOf w k rate premium claims = claims * claimsWeightIn w k / 1000 + premium * (rate * costsIn w k) / 1_000_000_000
 
--- a divisor, and 1,000,000 over twice that as a fraction
-pub record Divisor (d fraction : ℕ) : Type 0 where
-  pub low : 990_000 ≤ d
-  pub high : d ≤ 1_200_000
-  pub fraction-is : IsFraction 1_000_000 (2 * d) fraction
+-- the amounts of the years from `from` to before `to` are f's, and no year's before `to` is above m
+pub record InYears (f : ℕ → ℕ) (m from to : ℕ) (amounts : List ℕ) : Type 0 where
+  pub are : (k : ℕ) → k < to → from ≤ k → getD amounts k 0 ≡ f k
+  pub most : AtMost m to amounts
 
--- those of the fifty years
-abbrev pub Divisors : List ℕ → List ℕ → Type 0
-Divisors divisors fractions = (k : ℕ) → k < 50 → Divisor (getD divisors k 0) (getD fractions k 0)
+-- premium after the cap and outgo of product group g by year
+abbrev pub premiumBefore : List ℕ → ℕ → ℕ → ℕ → ℕ
+premiumBefore b setting g = countedPremium rounded (termsOf b setting g) (groupCells b (decrementsOf b setting) g)
 
--- a year back in the years from `from` to before `to`, each at its own divisor; the other years stay
-pub record Stepped (divisors : List ℕ) (from to : ℕ) (before after : List ℕ) : Type 0 where
-  pub stepped : (k : ℕ) → from ≤ k → k < to → getD after k 0 ≡ getD before k 0 * 1_000_000 / getD divisors k 0
-  pub earlier : (k : ℕ) → k < from → getD after k 0 ≡ getD before k 0
-  pub later : (k : ℕ) → to ≤ k → getD after k 0 ≡ getD before k 0
+abbrev pub outgoBefore : List ℕ → ℕ → ℕ → ℕ → ℕ
+outgoBefore b setting g = outgo rounded (termsOf b setting g) (groupCells b (decrementsOf b setting) g)
 
--- step 5 of an amount, for j years with the divisor d. The bound leaves space for a further step.
-pub record Discounted (d j x r : ℕ) : Type 0 where
-  pub is : r ≡ discounted rounded d j x
-  pub most : r ≤ 4_000_000_000_000_000 + 82_000_000_000_000 * j
-
--- step 5 of the years before `to`, each at its own divisor: for j years, or for its own number of years where that is
--- less
-pub record DiscountedIn (divisors : List ℕ) (j to : ℕ) (before after : List ℕ) : Type 0 where
-  pub each : (k : ℕ) → k < to → Discounted (getD divisors k 0) (min j k) (getD before k 0) (getD after k 0)
-
--- the year's four numbers by the valuation's steps
-unfoldable pub yearOf : Terms → List Cell → ℕ → Year
-yearOf t cs k = record {
-  premium = countedPremium rounded t cs k;
-  outgo = outgo rounded t cs k;
-  «discounted_premium» = discountedPremium rounded t cs k;
-  «discounted_outgo» = discountedOutgo rounded t cs k;
-}
-
--- in the order of the year table
-abbrev pub fourOf : Year → List ℕ
-fourOf y = y .premium ∷ y .outgo ∷ y .«discounted_premium» ∷ y .«discounted_outgo» ∷ []
+pub record Undiscounted (b : List ℕ) (setting g from to : ℕ) (premium outgo : List ℕ) : Type 0 where
+  pub premium-in : InYears (premiumBefore b setting g) 4_000_000_000_000_000 from to premium
+  pub outgo-in : InYears (outgoBefore b setting g) 4_000_000_000_000_000 from to outgo

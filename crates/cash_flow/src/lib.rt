@@ -1,25 +1,21 @@
-// A year valued from its sums: outgo, cap, discounting, and its four numbers in the year table.
+// Premium and outgo of a product group's years before discounting: a year's outgo and cap, and the
+// years of a span from the group's year sums.
 // Internal: the functions ask for an accepted book's ranges, which the calls above have from the
 // check.
 ghost use mathlib.Core.Path.{_≡_};
-ghost use mathlib.Core.List.{_++_};
-ghost use Prim.Native.Nat.{_+_, _*_, _/_, _<_, _≤_};
-ghost use lib.ListN.{length, getD, set, take, drop};
+ghost use Prim.Native.Nat.{_≤_};
 ghost use Rattle.book.specs.Reading.{ValidBook};
-ghost use Rattle.lists.specs.AtMost.{AtMost};
-ghost use Rattle.settings_outgo.specs.Outgoings.{OutgoWeighed};
+ghost use Rattle.settings_outgo.specs.Outgoings.{OutgoWeighed, SettingOf};
+ghost use Rattle.settings_columns.specs.Columns.{projectionOf};
 ghost use Rattle.valuation.specs.Arithmetic.{rounded};
 ghost use Rattle.valuation.specs.Steps.{capped};
-ghost use Rattle.valuation.specs.Portfolio.{costRateOf, divisorOf};
-ghost use Rattle.arith.specs.Fractions.{IsFraction};
-ghost use Rattle.cash_flow.specs.CashFlow.{Divisor, Divisors, Stepped};
-ghost use Rattle.cash_flow.specs.CashFlow.{DiscountedIn, outgoOf, fourOf};
-use arith::Two;
-use arith::Weighted;
+ghost use Rattle.valuation.specs.Portfolio.{costRateOf};
+ghost use Rattle.group_projection.specs.Added.{TableIn};
+ghost use Rattle.cash_flow.specs.CashFlow.{outgoOf, Undiscounted};
+use cell_projection::A_YEAR;
+use cell_projection::YearSums;
 use settings_outgo::Outgoings;
-
-// No doubled amount is above that: amounts before a step are at most 10^16.
-const MOST_DOUBLED: u64 = 20_000_000_000_000_000;
+use settings_outgo::Setting;
 
 // The cost rate of a product group, in millionths of premium.
 pub fn cost_rate_of(book: &[u8], group: usize) -> u64
@@ -30,133 +26,6 @@ pub fn cost_rate_of(book: &[u8], group: usize) -> u64
         × (r ≤ 1000000) ⌝ }
 {
     le_bytes::read_u32(book, book::COST_PLACE + 4 * (group - 1))
-}
-
-// 1,000,000 more than the rate of year k. A rate below zero is stored in two's complement, so the
-// sum is cut to 32 bits.
-pub fn divisor_of(book: &[u8], k: usize) -> u64
-    requires { ⌜ (k < 50)
-        × ValidBook 1 (now book) ⌝ }
-    ensures { λ r. ⌜ (r ≡ divisorOf (now (book .entry)) k)
-        × (990000 ≤ r)
-        × (r ≤ 1200000) ⌝ }
-{
-    if k == 0 {
-        return 1_000_000;
-    }
-    (le_bytes::read_u32(book, book::CURVE_PLACE + 4 * (k - 1)) + 1_000_000) % 4_294_967_296
-}
-
-// 1,000,000 over 2 d in parts of 2^64, rounded down: 1,000,000 times 2^63 over d.
-pub fn fraction_of(d: u64) -> u64
-    requires { ⌜ (990000 ≤ d)
-        × (d ≤ 1200000) ⌝ }
-    ensures { λ r. ⌜ IsFraction 1000000 (2 * d) r ⌝ }
-{
-    let whole = 9_223_372_036_854_775_808 / d;
-    let rest = 9_223_372_036_854_775_808 % d;
-    1_000_000 * whole + 1_000_000 * rest / d
-}
-
-// Two amounts a year back at divisor d, by its fraction. Amounts and divisor are doubled, so that
-// the fraction of every divisor is below one.
-fn step_back(x: u64, y: u64, d: u64, fraction: u64) -> Two
-    requires { ⌜ (x ≤ 10000000000000000)
-        × (y ≤ 10000000000000000)
-        × Divisor d fraction ⌝ }
-    ensures { λ r. ⌜ (r .first ≡ x * 1000000 / d)
-        × (r .second ≡ y * 1000000 / d) ⌝ }
-{
-    let first = Weighted {
-        amount: 2 * x,
-        weight: 1_000_000,
-        fraction,
-    };
-    let second = Weighted {
-        amount: 2 * y,
-        weight: 1_000_000,
-        fraction,
-    };
-    arith::two_parts(first, second, 2 * d, MOST_DOUBLED)
-}
-
-// One step on premium and outgo of year k, at the divisor of that year.
-fn step_year(
-    divisors: &[u64; 50],
-    fractions: &[u64; 50],
-    k: usize,
-    premium: &mut [u64; 50],
-    outgo: &mut [u64; 50],
-)
-    requires { ⌜ (k < 50)
-        × (getD (now premium) k 0 ≤ 10000000000000000)
-        × (getD (now outgo) k 0 ≤ 10000000000000000)
-        × Divisors (now divisors) (now fractions) ⌝ }
-    ensures { λ _. ⌜ now (premium .exit) ≡ set (now (premium .entry)) k
-        (getD (now (premium .entry)) k 0 * 1000000 / getD (now (divisors .entry)) k 0) ⌝ }
-    ensures { λ _. ⌜ now (outgo .exit) ≡ set (now (outgo .entry)) k
-        (getD (now (outgo .entry)) k 0 * 1000000 / getD (now (divisors .entry)) k 0) ⌝ }
-{
-    let back = step_back(premium[k], outgo[k], divisors[k], fractions[k]);
-    premium[k] = back.first;
-    outgo[k] = back.second;
-}
-
-// One step on the amounts of the years from `from` to before `to`. No step waits for another. Two
-// years a turn, which was measured to cost less, and a last one alone where their number is odd.
-fn step_years(
-    divisors: &[u64; 50],
-    fractions: &[u64; 50],
-    from: usize,
-    to: usize,
-    premium: &mut [u64; 50],
-    outgo: &mut [u64; 50],
-)
-    requires { ⌜ (from ≤ to)
-        × (to ≤ 50)
-        × Divisors (now divisors) (now fractions)
-        × AtMost 10000000000000000 to (now premium)
-        × AtMost 10000000000000000 to (now outgo) ⌝ }
-    ensures { λ _. ⌜ Stepped (now (divisors .entry)) from to (now (premium .entry))
-        (now (premium .exit))
-        × Stepped (now (divisors .entry)) from to (now (outgo .entry)) (now (outgo .exit)) ⌝ }
-{
-    let mut k = from;
-    while k + 1 < to {
-        step_year(divisors, fractions, k, premium, outgo);
-        step_year(divisors, fractions, k + 1, premium, outgo);
-        k += 2;
-    }
-    if k < to {
-        step_year(divisors, fractions, k, premium, outgo);
-    }
-}
-
-// The amounts of the years before `to`, each discounted for j years with the divisor of its year,
-// or for its own number of years where that is less: one step on the amounts discounted for one
-// year less.
-pub fn discount(
-    divisors: &[u64; 50],
-    fractions: &[u64; 50],
-    j: usize,
-    to: usize,
-    premium: &mut [u64; 50],
-    outgo: &mut [u64; 50],
-)
-    requires { ⌜ (j < to)
-        × (to ≤ 50)
-        × Divisors (now divisors) (now fractions)
-        × AtMost 4000000000000000 to (now premium)
-        × AtMost 4000000000000000 to (now outgo) ⌝ }
-    ensures { λ _. ⌜ DiscountedIn (now (divisors .entry)) j to (now (premium .entry))
-        (now (premium .exit))
-        × DiscountedIn (now (divisors .entry)) j to (now (outgo .entry)) (now (outgo .exit)) ⌝ }
-{
-    if j == 0 {
-        return;
-    }
-    discount(divisors, fractions, j - 1, to, premium, outgo);
-    step_years(divisors, fractions, j, to, premium, outgo);
 }
 
 // The outgo of year k: weighted claims, and the cost of the premium before the cap.
@@ -184,23 +53,44 @@ pub fn counted(k: usize, premium: u64, outgo: u64) -> u64
     if premium < cap { premium } else { cap }
 }
 
-// The numbers of one year: premium after cap, outgo, and both discounted.
-pub struct Year {
-    pub premium: u64,
-    pub outgo: u64,
-    pub discounted_premium: u64,
-    pub discounted_outgo: u64,
+// Premium after the cap and outgo, year by year.
+pub struct Years {
+    pub premium: [u64; 50],
+    pub outgo: [u64; 50],
 }
 
-// Writes a year's numbers to its place in the table.
-pub fn put_year(table: &mut [u64], k: usize, y: Year)
-    requires { ⌜ 4 * k + 4 ≤ length (now table) ⌝ }
-    ensures { λ _. ⌜ now (table .exit) ≡ take (4 * k) (now (table .entry)) ++
-        (fourOf y ++ drop (4 * k + 4) (now (table .entry))) ⌝ }
+// The years from k = `from` to before k = `to`.
+pub struct Span {
+    pub from: usize,
+    pub to: usize,
+}
+
+// The years of a span, before discounting, in a setting: whoever values many groups makes it once.
+pub fn undiscounted(book: &[u8], s: Setting, group: usize, numbers: &YearSums, span: Span) -> Years
+    requires { ⌜ SettingOf s
+        × (1 ≤ group)
+        × (group ≤ 5)
+        × (span .from ≤ span .to)
+        × (span .to ≤ 50)
+        × ValidBook 1 (now book)
+        × TableIn (now book) (projectionOf (s .number)) group (now numbers) ⌝ }
+    ensures { λ r. ⌜ Undiscounted (now (book .entry)) (s .number) group (span .from) (span .to)
+        (r .premium) (r .outgo) ⌝ }
 {
-    let at = 4 * k;
-    table[at] = y.premium;
-    table[at + 1] = y.outgo;
-    table[at + 2] = y.discounted_premium;
-    table[at + 3] = y.discounted_outgo;
+    let from = span.from;
+    let to = span.to;
+    let setting = s.number;
+    let projection = s.projection;
+    let rate = cost_rate_of(book, group);
+    let w = s.outgo;
+    let mut premium = [0u64; 50];
+    let mut outgo = [0u64; 50];
+    for k in from..to {
+        let j = A_YEAR * k + 2 * projection;
+        let due = numbers[j];
+        let spent = crate::outgo(w, k, rate, due, numbers[j + 1]);
+        outgo[k] = spent;
+        premium[k] = counted(k, due, spent);
+    }
+    Years { premium, outgo }
 }

@@ -1,3 +1,4 @@
 pub mod AtMost
 pub mod Each
+pub mod Stored
 pub mod Sums

@@ -20,10 +20,11 @@ use Rattle.lists.proofs.Sums.{sum-same, sum-more, sum-split}
 use Rattle.settings_decrements.specs.Decrements.{decrementsOf}
 use Rattle.settings_outgo.specs.Outgoings.{outgoingsOf}
 use Rattle.settings.proofs.Weights.{each-setting}
-use Rattle.present_value.specs.declared.Amounts.{Amounts}
+use Rattle.present_value_span.specs.declared.Amounts.{Amounts}
 use Rattle.signed.proofs.Sizes.{signed-roundtrip, less-mag}
-use Rattle.cash_flow.proofs.CashFlow.{liability-is}
-use Rattle.present_value.specs.Outcome.{AmountsIn, yearOutgo, yearPremium}
+use Rattle.present_value.specs.Outcome.{yearOutgo, yearPremium}
+use Rattle.present_value.proofs.Discounted.{liability-is}
+use Rattle.present_value_span.specs.Spans.{AmountsIn}
 use Rattle.valuation.specs.Steps.{outgo, countedPremium, discountedOutgo, discountedPremium}
 use Rattle.valuation.specs.Portfolio.{termsOf}
 use Rattle.valuation.specs.Replies.{groupLiability}

@@ -9,14 +9,15 @@ ghost use Rattle.settings_outgo.specs.Outgoings.{SettingOf};
 ghost use Rattle.valuation.specs.Totals.{totalsOf, differencesOf, totalsFor};
 ghost use Rattle.valuation.specs.Totals.{TotalsContract};
 ghost use Rattle.valuation.specs.Replies.{groupLiability};
-ghost use Rattle.present_value.specs.Outcome.{CurveOf, AmountsIn};
+ghost use Rattle.discount_curve.specs.Curve.{CurveOf};
+ghost use Rattle.present_value_span.specs.Spans.{AmountsIn};
 ghost use Rattle.totals.specs.Sums.{EightSettings, GroupTable, Sums, Sizes};
+use cash_flow::Span;
 use cell_projection::A_YEAR;
 use cell_projection::YEARS;
 use cell_projection::YearSums;
-use present_value::Amounts;
-use present_value::Curve;
-use present_value::Span;
+use discount_curve::Curve;
+use present_value_span::Amounts;
 use rate_table::COLUMNS;
 use rate_table::ROWS;
 use settings_decrements::Shifts;
@@ -66,7 +67,7 @@ fn later_years(
     if s.later_as(base.setting) {
         return base.later;
     }
-    present_value::amounts_in(book, curve, s, group, numbers, Span { from: 5, to: 50 })
+    present_value_span::amounts_in(book, curve, s, group, numbers, Span { from: 5, to: 50 })
 }
 
 // The liability of a product group in a setting: its first five years, and its later ones.
@@ -86,7 +87,14 @@ fn liability_of(
     ensures { λ r. ⌜ (r ≡ groupLiability (now (book .entry)) (s .number) group)
         × (mag r ≤ 495000000000000000) ⌝ }
 {
-    let first = present_value::amounts_in(book, curve, s, group, numbers, Span { from: 0, to: 5 });
+    let first = present_value_span::amounts_in(
+        book,
+        curve,
+        s,
+        group,
+        numbers,
+        Span { from: 0, to: 5 },
+    );
     let later = later_years(book, curve, s, group, numbers, base);
     signed::less(first.outgo + later.outgo, first.premium + later.premium)
 }
@@ -108,7 +116,7 @@ fn add_group(
     ensures { λ _. ⌜ Sums (now (book .entry)) group (now (totals .exit)) ⌝ }
 {
     let setting = settings[0];
-    let later = present_value::amounts_in(
+    let later = present_value_span::amounts_in(
         book,
         curve,
         setting,
@@ -131,7 +139,7 @@ fn all_totals(book: &[u8]) -> [i64; 8]
     ensures { λ a. ⌜ (a ≡ totalsOf (now (book .entry)))
         × Sizes a ⌝ }
 {
-    let curve = present_value::curve_of(book);
+    let curve = discount_curve::curve_of(book);
     let w = Shifts::new(book);
     let settings = eight_settings();
     let mut rows = [0u64; ROWS * COLUMNS];

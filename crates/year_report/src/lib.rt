@@ -7,9 +7,9 @@ ghost use Rattle.buffer.specs.Text.{Wrote};
 ghost use Rattle.year_report.specs.Report.{reportCheck, ReportContract, ReportLengthContract};
 ghost use Rattle.year_report.specs.Tables.{Asked, Placed, Years, Measures, reportFrom};
 use buffer::TextReply;
+use cash_flow::Span;
 use cell_projection::A_YEAR;
 use cell_projection::YEARS;
-use present_value::Span;
 use rate_table::COLUMNS;
 use rate_table::ROWS;
 use settings_decrements::Shifts;
@@ -52,7 +52,7 @@ fn year_table(book: &[u8], s: Setting, w: Shifts, group: usize) -> YearTable
     let mut rows = [0u64; ROWS * COLUMNS];
     let mut sums = [0u64; YEARS * A_YEAR];
     group_projection::group_sums(book, w, group, s.projection, &mut rows, &mut sums);
-    let years = present_value::undiscounted(book, s, group, &sums, Span { from: 0, to: 50 });
+    let years = cash_flow::undiscounted(book, s, group, &sums, Span { from: 0, to: 50 });
     let premium = years.premium;
     let outgo = years.outgo;
     placed(&premium, &outgo)

@@ -12,14 +12,17 @@ use mir.ValLaws.{toZ-ofZ}
 use Rattle.lists.specs.Sums.{sumBy, sumBelow}
 use Rattle.lists.proofs.Sums.{sum-more}
 use Rattle.settings_decrements.specs.Decrements.{decrementsOf}
+use Rattle.valuation.specs.Arithmetic.{rounded}
 use Rattle.valuation.specs.Steps.{Cell, Terms}
 use Rattle.valuation.specs.Portfolio.{termsOf, groupCells}
 use Rattle.valuation.specs.Replies.{yearTable}
-use Rattle.cash_flow.proofs.CashFlow.{years-more, years-length, year-is, outgo-discounted, premium-discounted}
+use Rattle.cash_flow.specs.CashFlow.{InYears, outgoBefore, premiumBefore}
+use Rattle.discount_curve.proofs.Divisors.{curve-divisors}
 use Rattle.signed.proofs.Sizes.{less-mag}
-use Rattle.cash_flow.proofs.CashFlow.{liability-is}
-use Rattle.present_value.specs.Outcome.{InYears, outgoBefore, premiumBefore, yearOutgo, yearPremium}
-use Rattle.present_value.proofs.Tables.{curve-divisors, in-discounted}
+use Rattle.present_value.specs.Outcome.{yearOutgo, yearPremium}
+use Rattle.present_value.proofs.YearTable.{years-more, years-length, year-is}
+use Rattle.present_value.proofs.Discounted.{in-discounted, outgo-discounted, premium-discounted}
+use Rattle.present_value.proofs.Discounted.{liability-is}
 use Rattle.present_value.proofs.value_group.Statement.{statement}
 use Rattle.present_value.proofs.value_group.Tie as tie
 
