@@ -12,7 +12,6 @@ use mir.ValLaws.{toZ-ofZ}
 use Rattle.lists.specs.Sums.{sumBy, sumBelow}
 use Rattle.lists.proofs.Sums.{sum-more}
 use Rattle.settings_decrements.specs.Decrements.{decrementsOf}
-use Rattle.valuation.specs.Arithmetic.{rounded}
 use Rattle.valuation.specs.Steps.{Cell, Terms}
 use Rattle.valuation.specs.Portfolio.{termsOf, groupCells}
 use Rattle.valuation.specs.Replies.{yearTable}
