@@ -22,8 +22,8 @@ STEPS = {
     "rate_table/specs/Puts", "rate_table/specs/Rows", "cash_flow/specs/CashFlow",
     "totals/specs/Sums", "claims_estimates/specs/Ranked",
     "cell_projection/specs/Tables", "cell_projection/specs/Projected",
-    "five_projections/specs/Five", "five_projections/specs/SideBySide", "year_report/specs/Tables",
-    "present_value/specs/Outcome",
+    "five_projections/specs/Five", "five_projections/specs/SideBySide", "report_text/specs/Tables",
+    "year_report/specs/Asked", "present_value/specs/Outcome",
 }
 
 # What is no part of a definition, and levels of types; both are blanked, so that places stay.
