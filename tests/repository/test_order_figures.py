@@ -23,8 +23,8 @@ STEPS = {
     "discount/specs/Discount", "discount_curve/specs/Curve",
     "totals/specs/Sums", "claims_estimates/specs/Ranked",
     "cell_projection/specs/Tables", "cell_projection/specs/Projected",
-    "five_projections/specs/Five", "five_projections/specs/SideBySide", "year_report/specs/Tables",
-    "present_value/specs/Outcome", "present_value_span/specs/Spans",
+    "five_projections/specs/Five", "five_projections/specs/SideBySide", "report_text/specs/Tables",
+    "year_report/specs/Asked", "present_value/specs/Outcome", "present_value_span/specs/Spans",
 }
 
 # What is no part of a definition, and levels of types; both are blanked, so that places stay.

@@ -11,7 +11,7 @@ use Rattle.book.specs.Contracts.{CheckContract}
 use Rattle.age_basis.specs.Conversion.{convertCheck, ConvertContract}
 use Rattle.valuation.specs.Replies.{groupReply, GroupContract}
 use Rattle.listing.specs.Listing.{listingReply, ListingContract}
-use Rattle.year_report.specs.Report.{reportReply, reportLengthReply, ReportContract, ReportLengthContract}
+use Rattle.report_text.specs.Report.{reportReply, reportLengthReply, ReportContract, ReportLengthContract}
 use Rattle.book_contents.specs.Contents.{Contents}
 use Rattle.book_contents.specs.Contracts.{writeReply, WriteContract}
 use Rattle.funds.specs.Funds.{fundsReply, FundsContract}

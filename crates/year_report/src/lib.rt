@@ -3,15 +3,17 @@
 ghost use mathlib.Core.Path.{_≡_};
 ghost use Prim.Native.Nat.{_<_};
 ghost use Rattle.book.specs.Reading.{ValidBook};
-ghost use Rattle.buffer.specs.Text.{Wrote};
-ghost use Rattle.year_report.specs.Report.{reportCheck, ReportContract, ReportLengthContract};
-ghost use Rattle.year_report.specs.Tables.{Asked, Placed, Years, Measures, reportFrom};
+ghost use Rattle.report_text.specs.Report.{reportCheck, ReportContract, ReportLengthContract};
+ghost use Rattle.report_text.specs.Tables.{Years, Measures};
+ghost use Rattle.year_report.specs.Asked.{Asked};
 use buffer::TextReply;
 use cash_flow::Span;
 use cell_projection::A_YEAR;
 use cell_projection::YEARS;
 use rate_table::COLUMNS;
 use rate_table::ROWS;
+use report_text::Measured;
+use report_text::YearTable;
 use settings_decrements::Shifts;
 use settings_outgo::Setting;
 use verdict::Verdict;
@@ -27,23 +29,6 @@ fn check_report(book: &[u8], setting: usize) -> Verdict
     book_check::check(book)
 }
 
-// Premium after cap and outgo of each of a product group's fifty years, at the places that they
-// have in a year table.
-struct YearTable {
-    numbers: [u64; 200],
-}
-
-fn placed(premium: &[u64; 50], outgo: &[u64; 50]) -> YearTable
-    ensures { λ r. ⌜ Placed (now (premium .entry)) (now (outgo .entry)) 50 (r .numbers) ⌝ }
-{
-    let mut numbers = [0u64; 200];
-    for k in 0usize..50 {
-        numbers[4 * k] = premium[k];
-        numbers[4 * k + 1] = outgo[k];
-    }
-    YearTable { numbers }
-}
-
 // Nothing is discounted: the report has the amounts as they fall due.
 fn year_table(book: &[u8], s: Setting, w: Shifts, group: usize) -> YearTable
     requires { ⌜ Asked (now book) s w group ⌝ }
@@ -55,16 +40,10 @@ fn year_table(book: &[u8], s: Setting, w: Shifts, group: usize) -> YearTable
     let years = cash_flow::undiscounted(book, s, group, &sums, Span { from: 0, to: 50 });
     let premium = years.premium;
     let outgo = years.outgo;
-    placed(&premium, &outgo)
+    report_text::placed(&premium, &outgo)
 }
 
-// The five product groups' tables, and how many bytes their report has: 25 of heading, and the
-// lines. No text is built.
-struct Measured {
-    tables: [YearTable; 5],
-    bytes: usize,
-}
-
+// No text is built.
 fn measured_years(book: &[u8], setting: usize) -> Measured
     requires { ⌜ (setting < 8)
         × ValidBook 1 (now book) ⌝ }
@@ -85,18 +64,6 @@ fn measured_years(book: &[u8], setting: usize) -> Measured
     years
 }
 
-fn put_report(years: Measured, out: &mut [u8]) -> usize
-    ensures { λ r. ⌜ Wrote (now (out .entry)) 0 (reportFrom (years .tables)) (now (out .exit)) r ⌝ }
-{
-    let mut at = buffer::put_bytes(out, 0, b"group,year,premium,outgo\n");
-    for j in 0usize..5 {
-        let table = years.tables[j];
-        let numbers = table.numbers;
-        at = report_lines::put_lines(out, at, j as u64 + 1, numbers);
-    }
-    at
-}
-
 // Writes the report where the caller's buffer has the space that `report_length` says; else, and
 // where the book is refused, nothing. The book is checked and computed once: length and text are
 // those of the same tables.
@@ -112,7 +79,7 @@ pub fn write_report(book: &[u8], setting: usize, out: &mut [u8]) -> TextReply
     if out.len() < years.bytes {
         return TextReply::Refused(20, 0);
     }
-    TextReply::Bytes(put_report(years, out))
+    TextReply::Bytes(report_text::put_report(years, out))
 }
 
 // Replies with the buffer that `write_report` wants: the report's length, to the byte.

@@ -3,7 +3,7 @@ use mathlib.Core.Path.{_≡_, sym, _∙_}
 use borrow.Author.Needs.{needs}
 use lib.Dec.{ltb}
 use Rattle.verdict.specs.Verdicts.{need, _andThen_}
-use Rattle.year_report.specs.Report.{reportCheck}
+use Rattle.report_text.specs.Report.{reportCheck}
 use Rattle.year_report.proofs.check_report.Statement.{statement}
 use Rattle.year_report.proofs.check_report.Tie as tie
 

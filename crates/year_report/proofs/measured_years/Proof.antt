@@ -10,9 +10,9 @@ use borrow.Author.Needs.{needs}
 use lib.ListN.{length, length-set}
 use Rattle.buffer.specs.Text.{joined}
 use Rattle.report_lines.proofs.Lengths.{joined-length}
-use Rattle.year_report.specs.Report.{heading, groupLines, reportText, reportLength}
-use Rattle.year_report.specs.Tables.{FirstYears}
-use Rattle.year_report.proofs.Figures.{lines-same, one-more}
+use Rattle.report_text.specs.Report.{heading, groupLines, reportText, reportLength}
+use Rattle.report_text.specs.Tables.{FirstYears}
+use Rattle.report_text.proofs.Figures.{lines-same, one-more}
 use Rattle.year_report.proofs.measured_years.Statement.{statement}
 use Rattle.year_report.proofs.measured_years.Tie as tie
 

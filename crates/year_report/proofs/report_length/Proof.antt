@@ -3,9 +3,9 @@
 use mathlib.Core.Path.{sym, ap, _∙_}
 use borrow.Author.Needs.{needs}
 use Rattle.buffer.specs.declared.TextReply.the-variants.{Bytes}
-use Rattle.year_report.specs.Report.{reportLengthReply}
-use Rattle.year_report.proofs.Refusals.{report-setting, report-valid}
-use Rattle.year_report.proofs.ReportLengthContract.{report-length-contract}
+use Rattle.report_text.specs.Report.{reportLengthReply}
+use Rattle.report_text.proofs.Refusals.{report-setting, report-valid}
+use Rattle.report_text.proofs.ReportLengthContract.{report-length-contract}
 use Rattle.year_report.proofs.report_length.Statement.{statement}
 use Rattle.year_report.proofs.report_length.Tie as tie
 

@@ -5,9 +5,9 @@ use native.Mathlib.Omega.{arith}
 use borrow.Author.Needs.{needs}
 use Rattle.buffer.proofs.Digits.{kept}
 use Rattle.buffer.proofs.Replies.{text-refused, text-short, text-written}
-use Rattle.year_report.specs.Report.{reportLength}
-use Rattle.year_report.proofs.Refusals.{report-setting, report-valid}
-use Rattle.year_report.proofs.Figures.{report-same}
+use Rattle.report_text.specs.Report.{reportLength}
+use Rattle.report_text.proofs.Refusals.{report-setting, report-valid}
+use Rattle.report_text.proofs.Figures.{report-same}
 use Rattle.year_report.proofs.write_report.Statement.{statement}
 use Rattle.year_report.proofs.write_report.Tie as tie
 

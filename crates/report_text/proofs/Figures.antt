@@ -8,9 +8,9 @@ use lib.ListN.{length, getD, set, length-set}
 use lib.Seq.{getD-set-same, getD-set-other}
 use Rattle.buffer.proofs.Digits.{le-or-lt, joined-same}
 use Rattle.report_lines.specs.Sheet.{tableLine, tableLines}
-use Rattle.year_report.specs.Report.{heading, yearLine, groupLines, reportText}
-use Rattle.year_report.specs.Tables.{Placed, Years, none, numbersAt, FirstYears, linesAt, reportFrom}
-use Rattle.year_report.specs.declared.YearTable.{YearTable}
+use Rattle.report_text.specs.Report.{heading, yearLine, groupLines, reportText}
+use Rattle.report_text.specs.Tables.{Placed, Years, none, numbersAt, FirstYears, linesAt, reportFrom}
+use Rattle.report_text.specs.declared.YearTable.{YearTable}
 
 module _ (b : List ℕ) (setting : ℕ) where
   -- the lines of a table with a product group's years are that group's

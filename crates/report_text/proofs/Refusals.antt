@@ -7,7 +7,7 @@ use Rattle.verdict.specs.declared.Verdict.the-variants.{Accepted}
 use Rattle.verdict.proofs.Verdicts.{need-true, then-left, then-right}
 use Rattle.book.specs.Reading.{ValidBook}
 use Rattle.book.proofs.Valid.{valid}
-use Rattle.year_report.specs.Report.{reportCheck}
+use Rattle.report_text.specs.Report.{reportCheck}
 
 module _ (b : List ℕ) (setting n : ℕ) (e : reportCheck b setting ≡ Accepted n) where
   pub report-setting : setting < 8

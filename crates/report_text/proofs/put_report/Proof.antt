@@ -1,4 +1,4 @@
--- `year_report::put_report` meets its contract. The invariant: after the heading the lines of the groups passed are
+-- `report_text::put_report` meets its contract. The invariant: after the heading the lines of the groups passed are
 -- written. The measure is the number of groups left. Assumes nothing.
 use mathlib.Core.List.{[]}
 use mathlib.Core.Path.{_≡_}
@@ -7,9 +7,9 @@ use native.Mathlib.Omega.{arith}
 use borrow.Author.Needs.{needs}
 use Rattle.buffer.specs.Text.{Wrote, joined}
 use Rattle.buffer.proofs.Digits.{_then_, nothing, kept, joined-more}
-use Rattle.year_report.specs.Tables.{linesAt, reportFrom}
-use Rattle.year_report.proofs.put_report.Statement.{statement}
-use Rattle.year_report.proofs.put_report.Tie as tie
+use Rattle.report_text.specs.Tables.{linesAt, reportFrom}
+use Rattle.report_text.proofs.put_report.Statement.{statement}
+use Rattle.report_text.proofs.put_report.Tie as tie
 
 abbrev Inv-loop : tie.InvT-loop
 Inv-loop out₀ years at₀ j₀ out at j =

@@ -1,14 +1,14 @@
--- `year_report::placed` meets its contract. The invariant: the years before k stand at their places. The measure is the
+-- `report_text::placed` meets its contract. The invariant: the years before k stand at their places. The measure is the
 -- number of years left.
 -- Assumes nothing.
 use mathlib.Core.Path.{_≡_, refl, _∙_}
 use Prim.Native.Nat.{_+_, _-_, _*_, _≤_, _<_}
 use native.Mathlib.Omega.{arith}
 use lib.ListN.{length, getD, set, length-set}
-use Rattle.year_report.specs.Tables.{Placed}
-use Rattle.year_report.proofs.Figures.{placed-none, placed-more}
-use Rattle.year_report.proofs.placed.Statement.{statement}
-use Rattle.year_report.proofs.placed.Tie as tie
+use Rattle.report_text.specs.Tables.{Placed}
+use Rattle.report_text.proofs.Figures.{placed-none, placed-more}
+use Rattle.report_text.proofs.placed.Statement.{statement}
+use Rattle.report_text.proofs.placed.Tie as tie
 
 abbrev Inv-loop : tie.InvT-loop
 Inv-loop premium outgo numbers₀ k₀ numbers k = (k ≤ 50) × (length numbers ≡ 200) × Placed premium outgo k numbers

@@ -24,9 +24,9 @@ use Rattle.valuation.proofs.GroupContract.{premium-at, outgo-at, length-years}
 use Rattle.valuation.proofs.Unlinked.{table-same}
 use Rattle.buffer.specs.Replies.{lengthFor, bufferFor, withCapacity, textReply, textBuffer}
 use Rattle.buffer.proofs.Digits.{joined-same}
-use Rattle.year_report.specs.Report.{heading, yearLine, groupLines, reportText, reportCheck, reportLength}
-use Rattle.year_report.specs.Report.{reportReply, reportBuffer, reportLengthReply}
-use Rattle.year_report.proofs.Refusals.{report-setting}
+use Rattle.report_text.specs.Report.{heading, yearLine, groupLines, reportText, reportCheck, reportLength}
+use Rattle.report_text.specs.Report.{reportReply, reportBuffer, reportLengthReply}
+use Rattle.report_text.proofs.Refusals.{report-setting}
 
 -- a table for Group to fill
 abbrev blank : List ℕ

@@ -1,29 +1,17 @@
 -- The year tables of the five product groups, as the code carries them from the valuation to the text.
 use mathlib.Core.List.{List, [], _++_}
 use mathlib.Core.Path.{_≡_}
-use Prim.Native.Nat.{ℕ, _+_, _*_, _<_, _≤_}
+use Prim.Native.Nat.{ℕ, _+_, _*_, _<_}
 use lib.ListN.{getD}
-use Rattle.book.specs.Reading.{ValidBook}
-use Rattle.settings_decrements.specs.Decrements.{ShiftsOf, decrementsOf}
-use Rattle.settings_decrements.specs.declared.Shifts.{Shifts}
-use Rattle.settings_outgo.specs.Outgoings.{SettingOf}
-use Rattle.settings_outgo.specs.declared.Setting.{Setting}
+use Rattle.settings_decrements.specs.Decrements.{decrementsOf}
 use Rattle.valuation.specs.Arithmetic.{rounded}
 use Rattle.valuation.specs.Steps.{outgo, countedPremium}
 use Rattle.valuation.specs.Portfolio.{groupCells, termsOf}
 use Rattle.buffer.specs.Text.{joined}
 use Rattle.report_lines.specs.Sheet.{tableLines}
-use Rattle.year_report.specs.Report.{heading, reportLength}
-use Rattle.year_report.specs.declared.YearTable.{YearTable}
-use Rattle.year_report.specs.declared.Measured.{Measured}
-
--- what valuing one product group of an accepted book asks: the weights w are the book's
-pub record Asked (b : List ℕ) (s : Setting) (w : Shifts) (g : ℕ) : Type 0 where
-  pub setting-is : SettingOf s
-  pub lo : 1 ≤ g
-  pub hi : g ≤ 5
-  pub book : ValidBook 1 b
-  pub weights : ShiftsOf b w
+use Rattle.report_text.specs.Report.{heading, reportLength}
+use Rattle.report_text.specs.declared.YearTable.{YearTable}
+use Rattle.report_text.specs.declared.Measured.{Measured}
 
 -- the table has the premium after cap and the outgo of each year of product group g
 pub record Years (b : List ℕ) (setting g : ℕ) (table : List ℕ) : Type 0 where

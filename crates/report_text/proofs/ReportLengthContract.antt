@@ -11,9 +11,9 @@ use Rattle.verdict.proofs.Verdicts.{ZeroAccepts, zero-accepts-need, zero-accept
 use Rattle.book.proofs.Numbers.{zero-accepted}
 use Rattle.buffer.specs.Replies.{textRefusal, textLength, lengthFor}
 use Rattle.buffer.specs.declared.TextReply.{TextReply}
-use Rattle.year_report.specs.Report.{reportCheck, reportLength, reportLengthReply, ReportLengthContract}
-use Rattle.year_report.proofs.Lengths.{report-most}
-use Rattle.year_report.proofs.Refusals.{report-valid}
+use Rattle.report_text.specs.Report.{reportCheck, reportLength, reportLengthReply, ReportLengthContract}
+use Rattle.report_text.proofs.Lengths.{report-most}
+use Rattle.report_text.proofs.Refusals.{report-valid}
 
 -- refusal 0 is acceptance, of the telling call too
 report-told : (b : List ℕ) (setting : ℕ) → ZeroAccepts (reportCheck b setting)

@@ -7,8 +7,8 @@ use Rattle.book.specs.Reading.{ValidBook}
 use Rattle.buffer.specs.Text.{joined}
 use Rattle.buffer.proofs.Digits.{joined-most}
 use Rattle.report_lines.proofs.Lengths.{line-most}
-use Rattle.year_report.specs.Report.{heading, yearLine, groupLines, reportText}
-use Rattle.year_report.proofs.Ranges.{premium-digits, outgo-digits}
+use Rattle.report_text.specs.Report.{heading, yearLine, groupLines, reportText}
+use Rattle.report_text.proofs.Ranges.{premium-digits, outgo-digits}
 
 module _ (b : List ℕ) (v : ValidBook 1 b) (setting : ℕ) where
   year-most : (j k : ℕ) → j < 5 → k < 50 → length (yearLine b setting (j + 1) k) ≤ 38
