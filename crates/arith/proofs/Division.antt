@@ -2,7 +2,7 @@
 -- nothing.
 use mathlib.Core.Path.{_≡_, sym, ap, _∙_}
 use Prim.Native.Nat.{ℕ, zero, suc, _+_, _-_, _*_, _/_, _%_, _≤_, _<_}
-use native.Mathlib.Nat.{one-mul, div-add-mod', div-mul-le-self, lt-div-mul-add, le-of-mul-le-mul-right}
+use native.Mathlib.Nat.{one-mul, div-add-mod', div-mul-le-self, le-of-mul-le-mul-right}
 use native.Mathlib.Nat.{lt-of-mul-lt-mul-right, div-eq-of-lt, add-mul, mul-assoc, mul-comm, mul-add-div-right}
 use native.Mathlib.Nat.{mul-le-mul, mul-le-mul-left, mul-le-mul-right, mod-lt, le-of-lt, mul-lt-mul-of-pos-right}
 use native.Mathlib.Nat.{lt-of-lt-of-le, zero-mul}

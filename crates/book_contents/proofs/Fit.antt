@@ -14,7 +14,7 @@ use Rattle.verdict.specs.declared.Verdict.the-variants.{Accepted}
 use Rattle.verdict.proofs.Verdicts.{need-true, need-good, then-left, then-right, then-good, all-each, all-zero}
 use Rattle.le_bytes.proofs.Ranges.{within-means, within-good}
 use native.Mathlib.Nat.{eq-or-lt-of-le}
-use Rattle.book.specs.Layout.{mostPercent, mostRate, mostCount, mostAmount}
+use Rattle.book.specs.Layout.{mostPercent, mostRate, mostAmount}
 use Rattle.buffer.proofs.Digits.{le-or-lt}
 use Rattle.book_contents.specs.Contents.{Contents, noClass}
 use Rattle.book_contents.specs.Written.{bookSize}

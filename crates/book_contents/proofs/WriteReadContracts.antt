@@ -15,7 +15,6 @@ use Rattle.verdict.specs.declared.Verdict.the-variants.{Accepted, Refused}
 use Rattle.verdict.proofs.Verdicts.{ZeroAccepts}
 use Rattle.book.specs.Layout.{chains, records, countOffset, lapseOffset, premiumOffset, claimsOffset}
 use Rattle.book.specs.Check.{checkBook}
-use Rattle.book_contents.specs.declared.Values.{Values}
 use Rattle.book_contents.specs.declared.WriteReply.{WriteReply}
 use Rattle.book_contents.specs.declared.ReadReply.{ReadReply}
 use Rattle.book_contents.specs.Contents.{Contents, given, recordsBefore}

@@ -1,13 +1,13 @@
 -- A cell that is projected over the rows of its chain is the valuation's cell of its record, for the fifty years; and
 -- what such a cell adds is bounded in every year. Assumes nothing.
-use mathlib.Core.Path.{_≡_, refl, sym, ap, _∙_}
+use mathlib.Core.Path.{_≡_, refl, ap, _∙_}
 use mathlib.Core.List.{List}
 use mathlib.Core.Bool.{Bool, true, false}
-use Prim.Native.Nat.{ℕ, zero, suc, _+_, _-_, _*_, _/_, _≤_, _<_}
+use Prim.Native.Nat.{ℕ, zero, suc, _+_, _-_, _≤_, _<_}
 use native.Mathlib.Nat.{add-zero, add-suc, le-trans, mul-le-mul, div-le-of-le-mul}
 use native.Mathlib.Omega.{arith}
 use lib.Dec.{ltb}
-use Rattle.book.specs.Layout.{chainSex, sexOf, classOf, fieldOf, countOffset, lapseOffset, premiumOffset, claimsOffset}
+use Rattle.book.specs.Layout.{chainSex, sexOf, classOf, fieldOf, countOffset, lapseOffset}
 use Rattle.book.specs.Reading.{Standing}
 use Rattle.settings.specs.Settings.{weightOf}
 use Rattle.settings_decrements.specs.Decrements.{mortalityWeight, decrementsOf, mortalityIn, lapseIn}
@@ -19,7 +19,7 @@ use Rattle.valuation.specs.Arithmetic.{rounded}
 use Rattle.valuation.specs.Steps.{inForce, cellPremium, cellClaims}
 use Rattle.valuation.specs.Portfolio.{mortalityOf, oneLess, onward, rowAt, cellOf}
 use Rattle.valuation.proofs.Rows.{row-standing}
-use Rattle.rate_table.specs.Rows.{rate, rateOf, RowReady, RowOf, RowsOf}
+use Rattle.rate_table.specs.Rows.{rate, rateOf, RowOf, RowsOf}
 use Rattle.rate_table.proofs.Order.{row-ordered}
 use Rattle.cell.specs.States.{cellIn, Projectable, premiumBy, claimsBy, premiumAt, claimsAt}
 use Rattle.cell.proofs.Cells.{share-le}

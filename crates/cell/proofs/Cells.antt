@@ -1,7 +1,7 @@
 -- Laws of a cell's state over the rows of its chain: every state of a projection can go on, is the valuation's, and
 -- what it adds is bounded.
 -- Assumes nothing.
-use mathlib.Core.Path.{_≡_, refl, sym, ap, _∙_}
+use mathlib.Core.Path.{_≡_, refl, ap, _∙_}
 use mathlib.Core.List.{List}
 use Prim.Native.Nat.{ℕ, zero, suc, _+_, _*_, _/_, _≤_, _<_}
 use native.Mathlib.Nat.{add-zero, le-trans, mul-le-mul, mul-le-mul-left, div-le-of-le-mul}
@@ -12,7 +12,6 @@ use Rattle.settings_columns.specs.declared.Columns.{Columns}
 use Rattle.settings_columns.proofs.Held.{survival-low, persistency-low, survives-is, persists-is}
 use Rattle.valuation.specs.Arithmetic.{rounded}
 use Rattle.valuation.specs.Steps.{inForce, cellPremium, cellClaims}
-use Rattle.rate_table.specs.Rows.{rate, RowReady}
 use Rattle.cell.specs.declared.Cell.{Cell}
 use Rattle.cell.specs.States.{cellIn, Projectable, Ready, nextBy, nextYear, stateIn, premiumIn, claimsIn}
 use Rattle.cell.specs.States.{premiumBy, claimsBy}

@@ -1,5 +1,4 @@
 -- The state of a cell from year to year in a setting, as the code carries it over the rows of its chain.
-use mathlib.Core.Path.{_≡_}
 use mathlib.Core.List.{List}
 use Prim.Native.Nat.{ℕ, _+_, _*_, _/_, _<_, _≤_}
 use lib.ListN.{getD}

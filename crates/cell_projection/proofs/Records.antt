@@ -1,6 +1,6 @@
 -- A projection over the rows of a chain is that of the cell of its record: what it adds, and its years. Assumes
 -- nothing.
-use mathlib.Core.Path.{_≡_, refl, sym, ap, _∙_}
+use mathlib.Core.Path.{_≡_, refl, _∙_}
 use mathlib.Core.Bool.{Bool, true, false, cond}
 use mathlib.Core.List.{List}
 use Prim.Native.Nat.{ℕ, zero, suc, _+_, _-_, _*_, _/_, _%_, _<_, _≤_}
@@ -9,8 +9,6 @@ use lib.Dec.{eqb}
 use Rattle.book.specs.Layout.{classOf, fieldOf, countOffset}
 use Rattle.book.specs.Reading.{Standing}
 use Rattle.settings_decrements.specs.Decrements.{decrementsOf}
-use Rattle.valuation.specs.Arithmetic.{rounded}
-use Rattle.valuation.specs.Steps.{inForce}
 use Rattle.valuation.specs.Portfolio.{rowAt, cellOf}
 use Rattle.rate_table.specs.Rows.{RowsOf}
 use Rattle.cell.specs.States.{cellIn, Projectable, premiumBy, claimsBy, premiumAt, claimsAt}

@@ -8,7 +8,7 @@ use lib.Dec.{eqb}
 use Rattle.settings.specs.Settings.{weightOf}
 use Rattle.settings_decrements.specs.Decrements.{percentOf, mortalityWeight, decrementsAt, ofSex}
 use Rattle.valuation.specs.Portfolio.{oneLess}
-use Rattle.rate_table.specs.Rows.{rate, rateOf, survivalAt, RowOf, RowOrdered}
+use Rattle.rate_table.specs.Rows.{rateOf, RowOf, RowOrdered}
 
 less-left : (v w x : ℕ) → w ≤ x → oneLess v x ≤ oneLess v w
 unfolding oneLess

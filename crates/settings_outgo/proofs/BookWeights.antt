@@ -4,7 +4,7 @@ use mathlib.Core.Path.{_≡_, _∙_, ap}
 use mathlib.Core.List.{List}
 use Prim.Native.Nat.{ℕ, _*_}
 use Rattle.book.specs.Layout.{edition, percentAt}
-use Rattle.settings.specs.PaperWeights.{YearWeights, mortalityOf, unshifted, Always, FiveYears, SettingWeights}
+use Rattle.settings.specs.PaperWeights.{YearWeights, mortalityOf, Always, FiveYears, SettingWeights}
 use Rattle.settings.specs.PaperWeights.{tableAt}
 use Rattle.settings.proofs.PaperWeights.{table-weights}
 use Rattle.settings_decrements.specs.Decrements.{percentOf, mortalityWeight}

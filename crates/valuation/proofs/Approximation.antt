@@ -1,7 +1,7 @@
 -- How far a rounded number is from the exact one, and what each step of a valuation does to that distance. Assumes
 -- nothing.
 use mathlib.Core.Bool.{Bool, true, false, not}
-use Prim.Native.Nat.{ℕ, _+_, _*_, _/_, _≤_, _<_, min}
+use Prim.Native.Nat.{ℕ, _+_, _*_, _≤_, _<_, min}
 use native.Mathlib.Decide.{decLe}
 use native.Mathlib.Nat.{min-le-left, min-comm, le-of-lt, mul-le-mul-right, le-of-mul-le-mul-right, mul-pos}
 use native.Mathlib.Nat.{div-mul-le-self, lt-div-mul-add}

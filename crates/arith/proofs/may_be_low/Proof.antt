@@ -1,6 +1,5 @@
 -- `arith::may_be_low` meets its contract: the lower half is compared. Assumes nothing.
 use mathlib.Core.Path.{ap}
-use Prim.Native.Nat.{ℕ}
 use borrow.Author.Needs.{needs}
 use lib.Dec.{ltb}
 use Rattle.arith.proofs.may_be_low.Statement.{statement}

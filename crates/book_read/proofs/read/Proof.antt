@@ -2,11 +2,10 @@
 -- nothing.
 use mathlib.Core.Path.{_≡_, sym, _∙_}
 use native.Mathlib.Omega.{arith}
-use lib.ListN.{length}
 use borrow.Author.Needs.{needs}
 use Rattle.verdict.specs.declared.Verdict.the-variants.{Accepted}
 use Rattle.book.specs.Layout.{countOffset, lapseOffset, premiumOffset, claimsOffset}
-use Rattle.book_contents.specs.Reading.{checkRead, Sound, OfBytes}
+use Rattle.book_contents.specs.Reading.{Sound, OfBytes}
 use Rattle.book_contents.specs.Contracts.{readVerdict}
 use Rattle.book_contents.proofs.Projection.{read-sound, read-counts, read-lapses, read-premiums, read-claims, filled}
 use Rattle.book_contents.proofs.Projection.{filled-kept}

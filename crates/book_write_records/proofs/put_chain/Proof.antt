@@ -9,7 +9,7 @@ use borrow.Author.Needs.{needs}
 use Rattle.book.specs.Layout.{recordSize}
 use Rattle.buffer.specs.Text.{Wrote, joined}
 use Rattle.buffer.proofs.Digits.{nothing, kept}
-use Rattle.book_contents.specs.Contents.{Contents, given, sizeOf, recordsBefore}
+use Rattle.book_contents.specs.Contents.{Contents, given, sizeOf}
 use Rattle.book_contents.specs.Written.{recordBytesOf, chainBytes}
 use Rattle.book_write_records.proofs.ChainRecords.{records-more, Room, chain-capacity}
 use Rattle.book_write_records.proofs.put_chain.Statement.{statement}

@@ -1,7 +1,6 @@
 -- `cell::part` meets its contract: where the product is not near, its upper half is the share; else it is corrected.
 -- Assumes nothing.
 use mathlib.Core.Path.{sym, _∙_}
-use native.Mathlib.Omega.{arith}
 use borrow.Author.Needs.{needs}
 use Rattle.cell.proofs.Parts.{sure, short}
 use Rattle.cell.proofs.part.Statement.{statement}

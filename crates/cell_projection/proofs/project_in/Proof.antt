@@ -1,7 +1,6 @@
 -- `cell_projection::project_in` meets its contract: a stretch of the first years, and from there on alone. Assumes
 -- nothing.
-use mathlib.Core.Path.{_≡_, sym, _∙_}
-use Prim.Native.Nat.{_<_}
+use mathlib.Core.Path.{sym, _∙_}
 use native.Mathlib.Omega.{arith}
 use Rattle.lists.proofs.AtMost.{most-higher}
 use Rattle.cell.proofs.Cells.{state-start}

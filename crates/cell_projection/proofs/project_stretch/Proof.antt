@@ -1,7 +1,6 @@
 -- `cell_projection::project_stretch` meets its contract. The invariant is `RunIn`; the measure is the number of years left.
 -- Assumes nothing.
-use mathlib.Core.Path.{_≡_, refl}
-use Prim.Native.Nat.{ℕ, _-_, _≤_, _<_}
+use Prim.Native.Nat.{ℕ, _-_, _<_}
 use native.Mathlib.Omega.{arith}
 use borrow.Author.Tests.{ltb-true, ltb-false}
 use Rattle.lists.proofs.AtMost.{most-higher}

@@ -2,11 +2,10 @@
 -- nothing.
 use mathlib.Core.Path.{_≡_, ap, _∙_}
 use mathlib.Core.List.{List}
-use Prim.Native.Nat.{ℕ, _+_, _*_, _/_, _≤_, _<_}
+use Prim.Native.Nat.{ℕ, _*_, _/_, _≤_}
 use native.Mathlib.Nat.{add-zero, mul-le-mul, le-trans}
 use native.Mathlib.Omega.{arith}
 use borrow.Author.Needs.{needs}
-use lib.ListN.{getD}
 use Rattle.settings_columns.specs.Columns.{columnsOf, fiveColumns, survivesIn, persistsIn}
 use Rattle.settings_columns.specs.declared.Columns.{Columns}
 use Rattle.settings_columns.specs.declared.FiveColumns.{FiveColumns}

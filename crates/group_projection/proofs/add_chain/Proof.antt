@@ -1,7 +1,6 @@
 -- `group_projection::add_chain` meets its contract: an empty chain adds nothing; of any other the rows are read and its
 -- cells added. Assumes nothing.
-use mathlib.Core.Path.{_≡_, refl, sym, ap, _∙_}
-use mathlib.Core.List.{List}
+use mathlib.Core.Path.{refl, sym, ap, _∙_}
 use Prim.Native.Nat.{ℕ}
 use native.Mathlib.Omega.{arith}
 use borrow.Author.Needs.{needs}

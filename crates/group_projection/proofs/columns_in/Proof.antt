@@ -1,6 +1,6 @@
 -- `group_projection::columns_in` meets its contract: it says nothing where all are asked for. Assumes nothing.
 use mathlib.Core.Path.{_≡_, sym, ap, _∙_}
-use Prim.Native.Nat.{ℕ, _<_}
+use Prim.Native.Nat.{ℕ}
 use native.Mathlib.Omega.{arith}
 use borrow.Author.Needs.{needs}
 use Rattle.settings_columns.specs.Columns.{columnsOf}

@@ -1,9 +1,9 @@
 -- `in_force::record_of` meets its contract. The invariant: what is found from record i on is what is found in the whole
 -- chain. The measure is the number of classes above. Assumes nothing.
-use mathlib.Core.Path.{_≡_, refl, sym, ap, _∙_}
+use mathlib.Core.Path.{_≡_, sym, _∙_}
 use Prim.Native.Nat.{ℕ, _+_, _-_, _≤_}
 use native.Mathlib.Omega.{arith}
-use Rattle.book.specs.Layout.{headOf, classOf}
+use Rattle.book.specs.Layout.{classOf}
 use Rattle.book.specs.Rules.{RecordRules}
 use Rattle.book.specs.Reading.{ChainFrom}
 use Rattle.book.proofs.Valid.{chain-here, chain-next}

@@ -2,13 +2,13 @@
 -- and the numbers of the years before k stand first. The measure is the number of years left. Assumes nothing.
 use mathlib.Core.Path.{_≡_, refl, sym, ap, _∙_}
 use mathlib.Core.List.{List, _++_}
-use Prim.Native.Nat.{ℕ, _-_, _≤_, _<_}
+use Prim.Native.Nat.{ℕ, _-_, _≤_}
 use native.Mathlib.Omega.{arith}
 use lib.ListN.{length, drop}
 use Rattle.book.specs.Layout.{fieldOf, countOffset}
 use Rattle.valuation.specs.Arithmetic.{rounded}
 use Rattle.valuation.specs.Steps.{inForce}
-use Rattle.valuation.specs.Portfolio.{rowAt, cellOf}
+use Rattle.valuation.specs.Portfolio.{rowAt}
 use Rattle.cell.specs.declared.Cell.{Cell}
 use Rattle.cell.specs.States.{cellIn, stateIn, Projectable}
 use Rattle.cell.proofs.Cells.{state-ready, state-start, state-next, inforce-is, held-low, next-held}

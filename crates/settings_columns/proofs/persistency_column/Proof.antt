@@ -1,6 +1,5 @@
 -- `settings_columns::persistency_column` meets its contract: the tests on the weights pick as the definition does. Assumes
 -- nothing.
-use native.Mathlib.Omega.{arith}
 use borrow.Author.Needs.{needs}
 use borrow.Author.Tests.{eq-eqb, ne-eqb}
 use Rattle.settings_columns.specs.Columns.{persistencyColumn}

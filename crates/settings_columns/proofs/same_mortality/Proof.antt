@@ -1,5 +1,4 @@
 -- `settings_columns::same_mortality` meets its contract: for men and for women. Assumes nothing.
-use borrow.Author.Needs.{needs}
 use native.Mathlib.Omega.{arith}
 use Rattle.settings_columns.specs.Columns.{sameMortality}
 use Rattle.settings_columns.proofs.same_mortality.Statement.{statement}

@@ -2,7 +2,6 @@
 -- nothing.
 use mathlib.Core.Path.{sym, _∙_}
 use native.Mathlib.Omega.{arith}
-use borrow.Author.Needs.{needs}
 use Rattle.settings_columns.specs.Columns.{survivalColumn}
 use Rattle.settings_columns.proofs.survival_column.Statement.{statement}
 use Rattle.settings_columns.proofs.survival_column.Tie as tie

@@ -1,5 +1,4 @@
 -- `totals::computed` meets its contract: the eight totals, and four differences of them. Assumes nothing.
-use mathlib.Core.Path.{_≡_}
 use native.Mathlib.Omega.{arith}
 use borrow.Author.Needs.{needs}
 use Rattle.totals.proofs.SignedTotals.{total-small, total-at, difference-is}

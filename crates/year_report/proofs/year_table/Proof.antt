@@ -3,7 +3,6 @@
 use mathlib.Core.Logic.{inr}
 use mathlib.Core.Path.{refl, _∙_}
 use native.Mathlib.Omega.{arith}
-use borrow.Author.Needs.{needs}
 use Rattle.settings_columns.proofs.Held.{projection-low}
 use Rattle.year_report.proofs.year_table.Statement.{statement}
 use Rattle.year_report.proofs.year_table.Tie as tie

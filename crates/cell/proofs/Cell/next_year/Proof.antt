@@ -1,5 +1,4 @@
 -- `cell::Cell::next_year` meets its contract: by the columns that hold in year k. Assumes nothing.
-use mathlib.Core.Path.{_≡_}
 use native.Mathlib.Omega.{arith}
 use borrow.Author.Needs.{needs}
 use Rattle.cell.proofs.Cell.next_year.Statement.{statement}
