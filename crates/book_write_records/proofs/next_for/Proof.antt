@@ -1,6 +1,5 @@
 -- `book_write_records::next_for` meets its contract: none at the chain's last, else one higher. Assumes nothing.
 use native.Mathlib.Omega.{arith}
-use borrow.Author.Needs.{needs}
 use borrow.Author.Tests.{eq-eqb, ne-eqb}
 use Rattle.book_contents.specs.Written.{nextFor}
 use Rattle.book_write_records.proofs.next_for.Statement.{statement}
@@ -16,4 +15,4 @@ returns-2 c = rw (← c .before .size-of .ensures .0, ne-eqb _ _ (c .if1 .left))
 
 pub next-for-spec : {M : Type 1} → statement M
 next-for-spec = tie.close
-    (tie.spec (search needs) (search needs) returns (search needs) (search needs) (search needs) returns-2)
+    (tie.spec (λ c. omega arith) (λ c. omega arith) returns (λ c. omega arith) (λ c. omega arith) (λ c. omega arith) returns-2)

@@ -1,4 +1,5 @@
 -- `book_write_records::put_link` meets its contract: six fields, one after the other. Assumes nothing.
+use native.Mathlib.Omega.{arith}
 use borrow.Author.Needs.{needs}
 use Rattle.buffer.proofs.Digits.{_then_}
 use Rattle.book_write_records.proofs.put_link.Statement.{statement}
@@ -20,6 +21,6 @@ returns c =
 pub put-link-spec : {M : Type 1} → statement M
 put-link-spec =
     tie.close
-    (tie.spec (search needs) (search needs) (search needs) (search needs) (search needs) (search needs) (search needs)
-    (search needs)
-    (search needs) (search needs) (search needs) returns)
+    (tie.spec (λ c. omega arith) (λ c. omega arith) (λ c. omega arith) (λ c. omega arith) (λ c. omega arith) (λ c. omega arith) (λ c. omega arith)
+    (λ c. omega arith)
+    (λ c. omega arith) (λ c. omega arith) (λ c. omega arith) returns)

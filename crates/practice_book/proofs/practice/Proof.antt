@@ -1,6 +1,6 @@
 -- `practice_book::practice` meets its contract: what is not refused is written, and nothing else. Assumes nothing.
+use native.Mathlib.Omega.{arith}
 use mathlib.Core.Path.{_≡_, sym, _∙_}
-use borrow.Author.Needs.{needs}
 use lib.ListN.{length}
 use Rattle.practice_book.specs.Practice.{checkPractice, practiceReply}
 use Rattle.practice_book.proofs.PracticeContract.{promised, write-promised}
@@ -28,5 +28,5 @@ returns-2 c =
 
 pub practice-spec : {M : Type 1} → statement M
 practice-spec = tie.close
-    (tie.spec (search needs) (search needs) (search needs) (search needs) (search needs) (search needs)
+    (tie.spec (λ c. omega arith) (λ c. omega arith) (λ c. omega arith) (λ c. omega arith) (λ c. omega arith) (λ c. omega arith)
     returns returns-2)

@@ -1,6 +1,6 @@
 -- `practice_book::write_drawn` meets its contract: what was drawn, part after part, is the drawn contents. Assumes
 -- nothing.
-use borrow.Author.Needs.{needs}
+use native.Mathlib.Omega.{arith}
 use Rattle.generator.specs.Draws.{seeded}
 use Rattle.practice_book.proofs.Drawn.{contents-drawn, of-same}
 use Rattle.practice_book.proofs.write_drawn.Statement.{statement}
@@ -24,6 +24,6 @@ returns c =
 pub write-drawn-spec : {M : Type 1} → statement M
 write-drawn-spec =
     tie.close
-    (tie.spec (search needs) (search needs) (search needs) (search needs) (search needs) (search needs)
-    (search needs) (search needs) (search needs) (search needs) (search needs) (search needs) (search needs)
-    (search needs) (search needs) (search needs) (search needs) returns)
+    (tie.spec (λ c. omega arith) (λ c. omega arith) (λ c. omega arith) (λ c. omega arith) (λ c. omega arith) (λ c. omega arith)
+    (λ c. omega arith) (λ c. omega arith) (λ c. omega arith) (λ c. omega arith) (λ c. omega arith) (λ c. omega arith) (λ c. omega arith)
+    (λ c. omega arith) (λ c. omega arith) (λ c. omega arith) (λ c. omega arith) returns)

@@ -27,8 +27,8 @@ pub +digits-spec : {M : Type 1} → statement M
     (digits-at t)
     digits.Post
     (λ c. (length-one _ (c .if1 .taken), search needs))
-    (search needs)
-    (search needs)
+    (λ c. omega arith)
+    (λ c. omega arith)
     (λ c.
     let a = c .before .before in
     let e = length-more (a .args .n) _ (c .before .if1 .left) (c .digits .ensures .0) in

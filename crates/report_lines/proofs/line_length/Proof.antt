@@ -1,7 +1,6 @@
 -- `report_lines::line_length` meets its contract: the digits of four numbers, and the four bytes that end them.
 -- Assumes nothing.
 use native.Mathlib.Omega.{arith}
-use borrow.Author.Needs.{needs}
 use Rattle.report_lines.proofs.Lengths.{length-line}
 use Rattle.report_lines.proofs.line_length.Statement.{statement}
 use Rattle.report_lines.proofs.line_length.Tie as tie
@@ -14,5 +13,5 @@ returns c =
 pub line-length-spec : {M : Type 1} → statement M
 line-length-spec =
     tie.close
-    (tie.spec (search needs) (search needs) (search needs) (search needs) (search needs) (search needs) (search needs)
-    (search needs) returns)
+    (tie.spec (λ c. omega arith) (λ c. omega arith) (λ c. omega arith) (λ c. omega arith) (λ c. omega arith) (λ c. omega arith) (λ c. omega arith)
+    (λ c. omega arith) returns)

@@ -1,5 +1,6 @@
 -- `report_lines::put_line` meets its contract: four numbers one after the other, as the definition joins their texts.
 -- Assumes nothing.
+use native.Mathlib.Omega.{arith}
 use borrow.Author.Needs.{needs}
 use Rattle.buffer.proofs.Digits.{_then_}
 use Rattle.report_lines.specs.Sheet.{sheetLine}
@@ -20,4 +21,4 @@ returns c =
 
 pub put-line-spec : {M : Type 1} → statement M
 put-line-spec =
-    tie.close (tie.spec (search needs) (search needs) (search needs) (search needs) (search needs) returns)
+    tie.close (tie.spec (λ c. omega arith) (λ c. omega arith) (λ c. omega arith) (λ c. omega arith) (λ c. omega arith) returns)
