@@ -18,7 +18,7 @@ LIST = ROOT / "tests" / "repository" / "order_figures.tsv"
 # Steps of the code, as docs/VERIFICATION.md names them: no caller depends on these.
 STEPS = {
     "arith/specs/Fractions", "book/specs/Reading", "cell/specs/States", "age_basis/specs/Steps",
-    "cost_rate_shares/specs/Usable", "funds/specs/Valued", "group_projection/specs/Added",
+    "cost_rate_shares/specs/Usable", "fund_totals/specs/Valued", "group_projection/specs/Added",
     "rate_table/specs/Puts", "rate_table/specs/Rows", "cash_flow/specs/CashFlow",
     "discount/specs/Discount", "discount_curve/specs/Curve",
     "totals/specs/Sums", "claims_estimates/specs/Ranked",

@@ -13,10 +13,11 @@ use Rattle.valuation.specs.Bounds.{Within}
 use Rattle.valuation.specs.Contracts.{totalDistanceOf, halfTotalDistanceOf}
 use Rattle.valuation.specs.Totals.{exactTotalOf, totalsReply}
 use Rattle.valuation.proofs.Total.{totals-promised}
-use Rattle.funds.specs.Funds.{joinedBook, fundReply, fundHalf, fundsReply, firstHalf, secondHalf, fundsNumbers}
+use Rattle.fund_totals.specs.Fund.{joinedBook, fundReply, fundHalf}
+use Rattle.funds.specs.Funds.{fundsReply, firstHalf, secondHalf, fundsNumbers}
 use Rattle.funds.specs.Funds.{FundsContract}
 use Rattle.funds.specs.declared.FundsReply.{FundsReply}
-use Rattle.funds.proofs.Joined.{arguments-good, zero-accepts-accepted, fund-told}
+use Rattle.fund_totals.proofs.Joined.{arguments-good, zero-accepts-accepted, fund-told}
 use Rattle.funds.proofs.Halves.{half-totals, first-number, second-number, first-apart, second-apart}
 
 -- an accepted fund

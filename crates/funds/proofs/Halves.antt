@@ -8,43 +8,19 @@ use Prim.Native.Nat.{ℕ, _+_, _<_, _≤_}
 use native.Mathlib.Omega.{arith}
 use borrow.Author.Tests.{lt-leb}
 use lib.IntN.{ℤ, pos}
-use lib.ListN.{length, getD, take, drop, length-drop, take-append-drop, List·getD-append}
-use lib.Seq.{length-take-le, take-at, drop-at, take-add, drop-drop, getD-drop}
+use lib.ListN.{length, getD, take, drop, length-drop, List·getD-append}
+use lib.Seq.{length-take-le, take-at, drop-at, drop-drop, getD-drop}
 use Rattle.verdict.specs.Verdicts.{need, _andThen_}
 use Rattle.verdict.specs.declared.Verdict.{Verdict}
 use Rattle.verdict.specs.declared.Verdict.the-variants.{Accepted, Refused}
 use Rattle.book.specs.Check.{checkBook}
 use Rattle.valuation.specs.Totals.{totalsOf, totalsFor, totalsReply}
 use Rattle.buffer.proofs.Digits.{le-or-lt}
-use Rattle.funds.specs.Funds.{joinedBook, checkLent, fundReply, halfFor, fundHalf, fundsReply, firstHalf}
-use Rattle.funds.specs.Funds.{secondHalf, fundsNumbers, FirstApart, SecondApart}
-use Rattle.funds.specs.Valued.{FundValued}
+use Rattle.fund_totals.specs.Fund.{joinedBook, checkLent, fundReply, halfFor, fundHalf}
+use Rattle.fund_totals.specs.Valued.{FundValued}
+use Rattle.fund_totals.proofs.Half.{put-back}
+use Rattle.funds.specs.Funds.{fundsReply, firstHalf, secondHalf, fundsNumbers, FirstApart, SecondApart}
 use Rattle.funds.specs.declared.FundsReply.{FundsReply}
-
--- eight numbers in the middle of a list, put back
-put-back : (at : ℕ) (l : List ℤ) → take at l ++ take 8 (drop at l) ++ drop (at + 8) l ≡ l
-put-back at l = rw (← take-add at 8 l) (take-append-drop (at + 8) l)
-
--- one fund: refused it changes nothing, accepted its totals stand in its half
-module _ (table fund : List ℕ) (at : ℕ) (before : List ℤ) where
-  pub fund-refused : (reply : Verdict) → reply ≡ fundReply (length before) table fund
-      → ((n : ℕ) → reply ≡ Accepted n → ⊥) → FundValued table fund at before before reply
-  unfolding fundHalf
-  fund-refused reply reply-is never =
-      record { reply-is = reply-is; numbers-are = sym (rw (← reply-is) (by reply never)) }
-    where
-      by : (v : Verdict) → ((n : ℕ) → v ≡ Accepted n → ⊥)
-          → take at before ++ halfFor v (totalsReply (joinedBook table fund) .totals) (take 8 (drop at before)) ++ drop
-          (at + 8) before
-          ≡ before
-      by (Accepted n) never = absurd (never n refl)
-      by (Refused q p) never = put-back at before
-
-  pub fund-accepted : (n : ℕ) (after : List ℤ) → Accepted n ≡ fundReply (length before) table fund
-      → after ≡ take at before ++ totalsReply (joinedBook table fund) .totals ++ drop (at + 8) before
-      → FundValued table fund at before after (Accepted n)
-  unfolding fundHalf
-  fund-accepted n after reply-is numbers-are = record { reply-is = reply-is; numbers-are = rw (← reply-is) numbers-are }
 
 -- an accepted fund's half is its totals
 pub half-totals : (numbers : ℕ) (table fund : List ℕ) (n : ℕ) (half : List ℤ)

@@ -1,2 +1,1 @@
 pub mod Funds
-pub mod Valued

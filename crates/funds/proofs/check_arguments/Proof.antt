@@ -1,6 +1,6 @@
 -- `funds::check_arguments` meets its contract: the tests joined are those of `checkLent`. Assumes nothing.
 use borrow.Author.Needs.{needs}
-use Rattle.funds.specs.Funds.{checkLent}
+use Rattle.fund_totals.specs.Fund.{checkLent}
 use Rattle.funds.proofs.check_arguments.Statement.{statement}
 use Rattle.funds.proofs.check_arguments.Tie as tie
 

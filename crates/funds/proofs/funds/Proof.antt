@@ -4,7 +4,7 @@ use native.Mathlib.Omega.{arith}
 use borrow.Author.Needs.{needs}
 use lib.ListN.{length}
 use Rattle.funds.specs.Funds.{fundsReply}
-use Rattle.funds.proofs.Joined.{arguments-good, arguments-bad}
+use Rattle.fund_totals.proofs.Joined.{arguments-good, arguments-bad}
 use Rattle.funds.proofs.Halves.{both-refused, both}
 use Rattle.funds.proofs.FundsContract.{funds-promised}
 use Rattle.funds.proofs.funds.Statement.{statement}

@@ -1,4 +1,4 @@
--- `funds::join` meets its contract: three runs of bytes one after the other, as the definition joins them. Assumes
+-- `fund_totals::join` meets its contract: three runs of bytes one after the other, as the definition joins them. Assumes
 -- nothing.
 use mathlib.Core.Path.{sym}
 use native.Mathlib.Omega.{arith}
@@ -6,10 +6,10 @@ use lib.ListN.{length-drop}
 use lib.Seq.{length-take-le}
 use borrow.Author.Needs.{needs}
 use Rattle.buffer.proofs.Digits.{_then_}
-use Rattle.funds.specs.Funds.{frontSize, joinedBook}
-use Rattle.funds.proofs.Joined.{rest-whole}
-use Rattle.funds.proofs.join.Statement.{statement}
-use Rattle.funds.proofs.join.Tie as tie
+use Rattle.fund_totals.specs.Fund.{frontSize, joinedBook}
+use Rattle.fund_totals.proofs.Joined.{rest-whole}
+use Rattle.fund_totals.proofs.join.Statement.{statement}
+use Rattle.fund_totals.proofs.join.Tie as tie
 
 slice-aggregate-put-bytes : tie.Need-slice-aggregate-put-bytes
 slice-aggregate-put-bytes c =

@@ -1,14 +1,14 @@
--- `funds::value_fund` meets its contract: at each return the laws of the fund's reply say which it is. Assumes nothing.
+-- `fund_totals::value_fund` meets its contract: at each return the laws of the fund's reply say which it is. Assumes nothing.
 use mathlib.Core.Path.{_≡_, sym, ap, _∙_}
 use native.Mathlib.Omega.{arith}
 use borrow.Author.Needs.{needs}
 use borrow.Author.Tests.{eq-eqb, ne-eqb}
 use lib.ListN.{length}
-use Rattle.funds.specs.Funds.{fundReply, verdictIn}
-use Rattle.funds.proofs.Joined.{never-accepted, reply-short, reply-joined, reply-long, never-long}
-use Rattle.funds.proofs.Halves.{fund-refused, fund-accepted}
-use Rattle.funds.proofs.value_fund.Statement.{statement}
-use Rattle.funds.proofs.value_fund.Tie as tie
+use Rattle.fund_totals.specs.Fund.{fundReply, verdictIn}
+use Rattle.fund_totals.proofs.Joined.{never-accepted, reply-short, reply-joined, reply-long, never-long}
+use Rattle.fund_totals.proofs.Half.{fund-refused, fund-accepted}
+use Rattle.fund_totals.proofs.value_fund.Statement.{statement}
+use Rattle.fund_totals.proofs.value_fund.Tie as tie
 
 returns : tie.Need-returns
 returns c =

@@ -1,4 +1,4 @@
--- `funds::put_totals` meets its contract. The invariant: the totals of the settings passed are written.
+-- `fund_totals::put_totals` meets its contract. The invariant: the totals of the settings passed are written.
 -- The measure is what is left. Assumes nothing.
 use mathlib.Core.Path.{_≡_, ap, _∙_}
 use Prim.Native.Nat.{_≤_, _-_}
@@ -11,8 +11,8 @@ use mir.Syntax.{w64}
 use mir.ValLaws.{toZ-ofZ}
 use borrow.Author.Needs.{needs}
 use borrow.Kind.Array.{eSInt, good-length}
-use Rattle.funds.proofs.put_totals.Statement.{statement}
-use Rattle.funds.proofs.put_totals.Tie as tie
+use Rattle.fund_totals.proofs.put_totals.Statement.{statement}
+use Rattle.fund_totals.proofs.put_totals.Tie as tie
 
 abbrev Inv-loop : tie.InvT-loop
 Inv-loop numbers₀ at totals setting₀ numbers setting =

@@ -26,7 +26,7 @@ use Rattle.valuation.specs.Totals.{totalsOf, differencesOf, totalsFor, totalsRe
 use Rattle.valuation.specs.declared.TotalsReply.{TotalsReply}
 use Rattle.buffer.specs.Text.{Wrote}
 use Rattle.buffer.proofs.Digits.{from-start, kept}
-use Rattle.funds.specs.Funds.{frontSize, tableSize, joinedBook, verdictIn, checkLent, fundReply}
+use Rattle.fund_totals.specs.Fund.{frontSize, tableSize, joinedBook, verdictIn, checkLent, fundReply}
 
 -- a refusal is no acceptance
 pub never-accepted : {q p n : ℕ} → Refused q p ≡ Accepted n → ⊥

@@ -5,7 +5,7 @@ use mathlib.Core.List.{List, _++_}
 use lib.IntN.{ℤ}
 use lib.ListN.{length, take, drop}
 use Rattle.verdict.specs.declared.Verdict.{Verdict}
-use Rattle.funds.specs.Funds.{fundReply, fundHalf}
+use Rattle.fund_totals.specs.Fund.{fundReply, fundHalf}
 
 pub record FundValued (table fund : List ℕ) (at : ℕ) (before after : List ℤ) (reply : Verdict) : Type 0 where
   pub reply-is : reply ≡ fundReply (length before) table fund

@@ -1,14 +1,14 @@
--- `funds::joined_totals` meets its contract: what is read back from the buffer is the joined book. Assumes nothing.
+-- `fund_totals::joined_totals` meets its contract: what is read back from the buffer is the joined book. Assumes nothing.
 use mathlib.Core.Path.{_≡_, sym}
 use Prim.Native.Nat.{_≤_}
 use native.Mathlib.Omega.{arith}
 use lib.ListN.{length, take}
 use lib.Seq.{length-take-le}
 use borrow.Author.Needs.{needs}
-use Rattle.funds.specs.Funds.{joinedBook}
-use Rattle.funds.proofs.Joined.{read-back}
-use Rattle.funds.proofs.joined_totals.Statement.{statement}
-use Rattle.funds.proofs.joined_totals.Tie as tie
+use Rattle.fund_totals.specs.Fund.{joinedBook}
+use Rattle.fund_totals.proofs.Joined.{read-back}
+use Rattle.fund_totals.proofs.joined_totals.Statement.{statement}
+use Rattle.fund_totals.proofs.joined_totals.Tie as tie
 
 back : (c : tie.After-join) → (c .join .result ≤ length (c .join .last .0))
     × (take (c .join .result) (c .join .last .0) ≡ joinedBook

@@ -1,0 +1,2 @@
+pub mod Fund
+pub mod Valued
