@@ -37,7 +37,7 @@ BREAKS = [
     (names.parts, VERIFICATION, "- **sample books**", "- **sampled books**"),
     (names.counts, VERIFICATION, "/Bytes.antt, 16:", "/Bytes.antt, 17:"),
     (names.definitions, VERIFICATION, "specs/Version.antt", "specs/Versions.antt"),
-    (names.definitions, VERIFICATION, "`present_value_span` and", "and"),
+    (names.definitions, VERIFICATION, "`totals_group` and", "and"),
     (names.machines, README, "`/usr/local`", "`/" + "opt/local`"),
     (form.lengths, README, "# Xaropinto\n", "# Xaropinto\n" + 30 * "\n"),
     (form.widths, README, "**For whom.**", LONG + LONG),
