@@ -42,9 +42,9 @@ def script(name, module, least):
     return Part(name, [sys.executable, "-m", module], least)
 
 
-PROOFS = Part("proofs, must-fail edits and programs", ["rt", "ci"], 429)
+PROOFS = Part("proofs, must-fail edits and programs", ["rt", "ci"], 430)
 # The proofs of `quick`: a crate that is as it was when it was proved is not proved again.
-QUICK_PROOFS = Part("proofs and programs", ["rt", "check"], 70)
+QUICK_PROOFS = Part("proofs and programs", ["rt", "check"], 71)
 # What runs on the proved programs, two parts at once.
 PROGRAMS = [
     script("must-fail edits fit the proof files", "tests.repository.test_must_fail_reasons", 2),

@@ -37,7 +37,7 @@ BREAKS = [
     (names.parts, VERIFICATION, "- **sample books**", "- **sampled books**"),
     (names.counts, VERIFICATION, "/Bytes.antt, 21:", "/Bytes.antt, 22:"),
     (names.definitions, VERIFICATION, "specs/Version.antt", "specs/Versions.antt"),
-    (names.definitions, VERIFICATION, "`present_value_span` and", "and"),
+    (names.definitions, VERIFICATION, "`totals_group` and", "and"),
     (names.machines, README, "`/usr/local`", "`/" + "opt/local`"),
     (form.lengths, README, "# Xaropinto\n", "# Xaropinto\n" + 30 * "\n"),
     (form.widths, README, "**For whom.**", LONG + LONG),

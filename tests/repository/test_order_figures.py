@@ -21,7 +21,7 @@ STEPS = {
     "cost_rate_shares/specs/Usable", "fund_totals/specs/Valued", "group_projection/specs/Added",
     "rate_table/specs/Puts", "rate_table/specs/Rows", "cash_flow/specs/CashFlow",
     "discount/specs/Discount", "discount_curve/specs/Curve",
-    "totals/specs/Sums", "claims_estimates/specs/Ranked",
+    "totals/specs/Sizes", "totals_group/specs/Sums", "claims_estimates/specs/Ranked",
     "cell_projection/specs/Tables", "cell_projection/specs/Projected",
     "five_projections/specs/Five", "five_projections/specs/SideBySide", "report_text/specs/Tables",
     "year_report/specs/Asked", "present_value/specs/Outcome", "present_value_span/specs/Spans",

@@ -1,23 +1,14 @@
 // The call Totals: the eight totals of a book, n over all groups, and four differences.
 ghost use mathlib.Core.Path.{_≡_};
 ghost use mathlib.Core.List.{[]};
-ghost use Prim.Native.Nat.{_+_, _-_, _≤_};
-ghost use lib.Signed.{mag};
 ghost use Rattle.verdict.specs.declared.Verdict.the-variants.{Accepted, Refused};
 ghost use Rattle.book.specs.Reading.{ValidBook};
-ghost use Rattle.settings_outgo.specs.Outgoings.{SettingOf};
 ghost use Rattle.valuation.specs.Totals.{totalsOf, differencesOf, totalsFor};
 ghost use Rattle.valuation.specs.Totals.{TotalsContract};
-ghost use Rattle.valuation.specs.Replies.{groupLiability};
-ghost use Rattle.discount_curve.specs.Curve.{CurveOf};
-ghost use Rattle.present_value_span.specs.Spans.{AmountsIn};
-ghost use Rattle.totals.specs.Sums.{EightSettings, GroupTable, Sums, Sizes};
-use cash_flow::Span;
+ghost use Rattle.totals_group.specs.Sums.{EightSettings};
+ghost use Rattle.totals.specs.Sizes.{Sizes};
 use cell_projection::A_YEAR;
 use cell_projection::YEARS;
-use cell_projection::YearSums;
-use discount_curve::Curve;
-use present_value_span::Amounts;
 use rate_table::COLUMNS;
 use rate_table::ROWS;
 use settings_decrements::Shifts;
@@ -39,97 +30,6 @@ fn eight_settings() -> [Setting; 8]
         Setting::new(6),
         Setting::new(7),
     ]
-}
-
-// The base, and what its years from k = 5 on give to a product group.
-struct Base {
-    setting: Setting,
-    later: Amounts,
-}
-
-// What the years from k = 5 on give to a product group in a setting: those of the base serve every
-// setting whose later years are the base's.
-fn later_years(
-    book: &[u8],
-    curve: Curve,
-    s: Setting,
-    group: usize,
-    numbers: &YearSums,
-    base: Base,
-) -> Amounts
-    requires { ⌜ SettingOf s
-        × SettingOf (base .setting)
-        × GroupTable (now book) group (now numbers)
-        × CurveOf (now book) (curve .divisors) (curve .fractions)
-        × AmountsIn (now book) (base .setting .number) group 5 50 (base .later) ⌝ }
-    ensures { λ r. ⌜ AmountsIn (now (book .entry)) (s .number) group 5 50 r ⌝ }
-{
-    if s.later_as(base.setting) {
-        return base.later;
-    }
-    present_value_span::amounts_in(book, curve, s, group, numbers, Span { from: 5, to: 50 })
-}
-
-// The liability of a product group in a setting: its first five years, and its later ones.
-fn liability_of(
-    book: &[u8],
-    curve: Curve,
-    s: Setting,
-    group: usize,
-    numbers: &YearSums,
-    base: Base,
-) -> i64
-    requires { ⌜ SettingOf s
-        × SettingOf (base .setting)
-        × GroupTable (now book) group (now numbers)
-        × CurveOf (now book) (curve .divisors) (curve .fractions)
-        × AmountsIn (now book) (base .setting .number) group 5 50 (base .later) ⌝ }
-    ensures { λ r. ⌜ (r ≡ groupLiability (now (book .entry)) (s .number) group)
-        × (mag r ≤ 495000000000000000) ⌝ }
-{
-    let first = present_value_span::amounts_in(
-        book,
-        curve,
-        s,
-        group,
-        numbers,
-        Span { from: 0, to: 5 },
-    );
-    let later = later_years(book, curve, s, group, numbers, base);
-    signed::less(first.outgo + later.outgo, first.premium + later.premium)
-}
-
-// Adds a product group's liabilities to the eight totals. The later years of the base are valued
-// once.
-fn add_group(
-    book: &[u8],
-    curve: Curve,
-    settings: [Setting; 8],
-    group: usize,
-    numbers: &YearSums,
-    totals: &mut [i64; 8],
-)
-    requires { ⌜ EightSettings settings
-        × GroupTable (now book) group (now numbers)
-        × CurveOf (now book) (curve .divisors) (curve .fractions)
-        × Sums (now book) (group - 1) (now totals) ⌝ }
-    ensures { λ _. ⌜ Sums (now (book .entry)) group (now (totals .exit)) ⌝ }
-{
-    let setting = settings[0];
-    let later = present_value_span::amounts_in(
-        book,
-        curve,
-        setting,
-        group,
-        numbers,
-        Span { from: 5, to: 50 },
-    );
-    let base = Base { setting, later };
-    for j in 0usize..8 {
-        let s = settings[j];
-        let liability = liability_of(book, curve, s, group, numbers, base);
-        totals[j] = signed::plus(totals[j], liability);
-    }
 }
 
 // The eight totals, group by group. The curve and the weights are read once for all groups, which
@@ -154,7 +54,7 @@ fn all_totals(book: &[u8]) -> [i64; 8]
             &mut rows,
             &mut numbers,
         );
-        add_group(book, curve, settings, group, &numbers, &mut totals);
+        totals_group::add_group(book, curve, settings, group, &numbers, &mut totals);
     }
     totals
 }

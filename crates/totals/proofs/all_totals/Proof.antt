@@ -5,7 +5,7 @@ use mathlib.Core.Logic.{inl}
 use mathlib.Core.Path.{_≡_, refl}
 use Prim.Native.Nat.{_+_, _-_, _≤_}
 use native.Mathlib.Omega.{arith}
-use Rattle.totals.specs.Sums.{Sums}
+use Rattle.totals_group.specs.Sums.{Sums}
 use Rattle.totals.proofs.SignedTotals.{sums-none, eight}
 use Rattle.totals.proofs.all_totals.Statement.{statement}
 use Rattle.totals.proofs.all_totals.Tie as tie

@@ -1,7 +1,7 @@
 -- `totals::eight_settings` meets its contract: each stands at its number. Assumes nothing.
 use native.Mathlib.Omega.{arith}
 use Rattle.settings.proofs.Weights.{each-setting}
-use Rattle.totals.specs.Sums.{Numbered}
+use Rattle.totals_group.specs.Sums.{Numbered}
 use Rattle.totals.proofs.eight_settings.Statement.{statement}
 use Rattle.totals.proofs.eight_settings.Tie as tie
 

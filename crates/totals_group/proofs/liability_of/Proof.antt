@@ -1,11 +1,11 @@
--- `totals::liability_of` meets its contract: the first five years and the later ones are all fifty. Assumes nothing.
+-- `totals_group::liability_of` meets its contract: the first five years and the later ones are all fifty. Assumes nothing.
 use mathlib.Core.Path.{_∙_}
 use native.Mathlib.Omega.{arith}
 use Rattle.settings_columns.proofs.Held.{projection-low}
 use Rattle.signed.proofs.Sizes.{signed-roundtrip}
-use Rattle.totals.proofs.SignedTotals.{both-parts, parts-most}
-use Rattle.totals.proofs.liability_of.Statement.{statement}
-use Rattle.totals.proofs.liability_of.Tie as tie
+use Rattle.totals_group.proofs.Sums.{both-parts, parts-most}
+use Rattle.totals_group.proofs.liability_of.Statement.{statement}
+use Rattle.totals_group.proofs.liability_of.Tie as tie
 
 amounts-in-requires : tie.Need-amounts-in-requires
 amounts-in-requires c κs =

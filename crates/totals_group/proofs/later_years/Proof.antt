@@ -1,12 +1,12 @@
--- `totals::later_years` meets its contract: a setting whose later years are the base's has what these give. Assumes
+-- `totals_group::later_years` meets its contract: a setting whose later years are the base's has what these give. Assumes
 -- nothing.
 use mathlib.Core.Path.{sym, _∙_}
 use native.Mathlib.Omega.{arith}
 use Rattle.settings_columns.proofs.Held.{projection-low}
 use Rattle.settings_outgo.proofs.Serving.{later-decrements, later-outgo}
-use Rattle.totals.proofs.SignedTotals.{later-same}
-use Rattle.totals.proofs.later_years.Statement.{statement}
-use Rattle.totals.proofs.later_years.Tie as tie
+use Rattle.totals_group.proofs.Sums.{later-same}
+use Rattle.totals_group.proofs.later_years.Statement.{statement}
+use Rattle.totals_group.proofs.later_years.Tie as tie
 
 returns : tie.Need-returns
 returns c =

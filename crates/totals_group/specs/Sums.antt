@@ -43,7 +43,3 @@ pub record Sum (b : List ℕ) (setting n : ℕ) (z : ℤ) : Type 0 where
 pub record Sums (b : List ℕ) (n : ℕ) (totals : List ℤ) : Type 0 where
   pub size : length totals ≡ 8
   pub each : (j : ℕ) → j < 8 → Sum b j n (getD totals j (pos 0))
-
--- no total is too large for a difference
-abbrev pub Sizes : List ℤ → Type 0
-Sizes totals = (j : ℕ) → mag (getD totals j (pos 0)) ≤ 2_475_000_000_000_000_005

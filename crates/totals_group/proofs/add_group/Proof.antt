@@ -1,4 +1,4 @@
--- `totals::add_group` meets its contract. The invariant: the totals of the settings before j have the group, the others
+-- `totals_group::add_group` meets its contract. The invariant: the totals of the settings before j have the group, the others
 -- not yet.
 -- The measure is the number of settings left. Assumes nothing.
 use Prim.Native.Nat.{_-_, _≤_}
@@ -8,11 +8,11 @@ use lib.ListN.{getD}
 use mir.Syntax.{w64}
 use mir.Val.{toZ, ofZ}
 use Rattle.settings_columns.proofs.Held.{projection-low}
-use Rattle.totals.specs.Sums.{Sum}
-use Rattle.totals.proofs.SignedTotals.{Growing, growing-start, growing-more, growing-end, Liability}
-use Rattle.totals.proofs.SignedTotals.{liability-read, sum-read, sum-stored, sum-capacity}
-use Rattle.totals.proofs.add_group.Statement.{statement}
-use Rattle.totals.proofs.add_group.Tie as tie
+use Rattle.totals_group.specs.Sums.{Sum}
+use Rattle.totals_group.proofs.Sums.{Growing, growing-start, growing-more, growing-end, Liability}
+use Rattle.totals_group.proofs.Sums.{liability-read, sum-read, sum-stored, sum-capacity}
+use Rattle.totals_group.proofs.add_group.Statement.{statement}
+use Rattle.totals_group.proofs.add_group.Tie as tie
 
 abbrev Inv-loop : tie.InvT-loop
 Inv-loop book curve group numbers totals₀ settings base j₀ totals j =
