@@ -14,6 +14,9 @@ PREFIX ?= /usr/local
 LINKS ?= 1 2 3 4 5
 # The name by which programs ask for the shared library: it changes where an old caller would break.
 SHARED := libxaropinto.so.2
+# The function with the loops over cells and years: a link that starts it elsewhere than at a line of the cache makes
+# Totals up to an eighth slower.
+HOT := .text.group_projection::group_sums
 # Paths reach the shell through the environment and as they were given: quotes and dollar signs stay what they are.
 export BOOK_PATH := $(if $(value BOOK),$(value BOOK),$(SAMPLE))
 export OUT_PATH := $(if $(value OUT),$(value OUT),target/converted.book)
@@ -66,6 +69,8 @@ lib: ## prove the C boundary and put its archive and shared library under target
 	@rm -rf target/lib.new && mkdir -p target/lib target/lib.new
 	@python3 -m tools.prove staticlib c_api target/lib.new/build.log
 	@cp target/staticlib/libc_api.a target/lib.new/libxaropinto.a
+	@objcopy --set-section-alignment '$(HOT)=64' target/lib.new/libxaropinto.a
+	@objdump -h target/lib.new/libxaropinto.a | grep -q '$(HOT) .*2\*\*6$$'
 	@$(CC) -shared -Wl,-soname,$(SHARED) -o target/lib.new/$(SHARED) \
 		-Wl,--whole-archive target/lib.new/libxaropinto.a -Wl,--no-whole-archive
 	@ln -s $(SHARED) target/lib.new/libxaropinto.so

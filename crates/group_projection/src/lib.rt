@@ -33,24 +33,19 @@ fn first_chain(group: usize) -> usize
     if group == 1 { 0 } else { 2 * group + 2 }
 }
 
-// The columns of one projection: one of five constants. Where all are asked for, none is.
+// The columns of one projection. Where all are asked for, none is: then, and for the base, the
+// compiler works these out.
 fn columns_in(which: usize) -> Columns
     requires { ⌜ which ≤ 5 ⌝ }
     ensures { λ r. ⌜ (which < 5 → r ≡ columnsOf which) ⌝ }
 {
-    if which == 1 {
-        return Columns::new(1);
+    if which == ALL {
+        return Columns::new(0);
     }
-    if which == 2 {
-        return Columns::new(2);
+    if which == 0 {
+        return Columns::new(0);
     }
-    if which == 3 {
-        return Columns::new(3);
-    }
-    if which == 4 {
-        return Columns::new(4);
-    }
-    Columns::new(0)
+    Columns::new(which)
 }
 
 // Adds the cells of a chain, whose rows are read from its head on, to the table, and returns how
