@@ -164,8 +164,9 @@ def read(name):
 
 
 def need_one_build():
-    """Stop where the libraries of the other platforms are not of the archive that is packed."""
-    archive = hashlib.sha256(read("target/lib/libxaropinto.a")).hexdigest()
+    """Stop where the libraries of the other platforms are not of the archive that is packed, which
+    `make lib` makes of the proved one."""
+    archive = hashlib.sha256(read("target/staticlib/libc_api.a")).hexdigest()
     if read(STAMP.relative_to(ROOT).as_posix()).decode("ascii") != archive:
         raise MissingError("target/targets is of another archive than target/lib has:"
                            f" {MAKERS['target/targets/']} makes it anew")
