@@ -108,7 +108,7 @@ CALLS = [
     script("wheels, and what their names promise", "tests.packaging.test_wheels", 25),
     script("the header in dialects of C and C++", "tests.packaging.test_header", 44),
     script("targets: which code, exports, stack, tables and layouts",
-           "tests.targets.test_targets", 40),
+           "tests.targets.test_targets", 42),
     script("calls in WebAssembly, through JavaScript", "tests.web.test_calls", 52),
     script("books in the web page's modules, against the package", "tests.web.test_books", 95),
     script("numbers and texts in the web page's modules", "tests.web.test_texts", 8),

@@ -8,6 +8,7 @@ from unittest import mock
 
 from tests import ROOT
 from tests.support.case import Case
+from tests.support.command import run
 from tests.support.report import run_unit_tests
 from tests.targets import wasm_file, windows_file
 from tests.targets.struct_assertions import failing, layouts
@@ -27,6 +28,7 @@ EXTERNAL = re.compile(r"^define (?!internal).*@(\w+)\(", re.M)
 OF_CONVENTION = re.compile(r"hidden |x86_64_sysvcc | byval\(\[\d+ x i8\]\)|proved_| alwaysinline")
 SHARED_NAME = re.compile(r"^SHARED := (\S+)$", re.M)
 LINUX = "x86_64-unknown-linux-gnu"
+MOST_SECONDS = 60
 WASM, DLL, SHARED, STATIC = (FOLDER / name for name in (
     "wasm32/xaropinto.wasm", "windows-x86_64/xaropinto.dll", "linux-arm64/libxaropinto.so.2",
     "linux-arm64/libxaropinto.a"))
@@ -49,6 +51,15 @@ class Targets(Case):
             compiled, due = ((Path(folder) / name).read_bytes() for name in ("module.o", member))
         self.check("it is an object", due.startswith(b"\x7fELF"))
         self.check("to the byte", compiled == due, f"{len(compiled)} bytes, due are {len(due)}")
+
+    def test_archive_of_make_lib_is_the_proved_one_but_for_an_alignment(self):
+        shown = []
+        for path in (ARCHIVE, ROOT / "target" / "lib" / "libxaropinto.a"):
+            code, text = run(["objdump", "-s", "-r", "-t", str(path)], MOST_SECONDS)
+            self.assertEqual(code, 0, text)
+            shown.append(text.replace(str(path), ""))
+        self.check("bytes, symbols and relocations of every section", shown[0] == shown[1])
+        self.check("they are shown", all(name in shown[1] for name in NAMES))
 
     def test_module_is_captured_once_from_an_archive(self):
         with tempfile.TemporaryDirectory() as folder, mock.patch.object(capture, "capture") as made:

@@ -6,10 +6,10 @@
 //! - In one run of the program the rows of a call take turns, in `timing::ROUNDS` rounds; a row's
 //!   time is the median of its rounds. A moment in which the machine is busy, or clocks its
 //!   processor up or down, falls on all rows.
-//! - Where in memory a loop stands moves its time by up to four percent, and every run of one
-//!   program has it in the same place. So the program is linked several times with its functions in
-//!   shuffled order (`build.rs`) and each link is run once. The time of a row is the median over
-//!   the links; so is the ratio of the archive's time to it, which is taken in each link.
+//! - Where in memory a loop stands moves its time, by 14 percent where nothing aligns it, and every
+//!   run of one program has it in the same place. So the program is linked several times with its
+//!   functions in shuffled order (`build.rs`) and each link is run once. The time of a row is the
+//!   median over the links; so is the ratio of the archive's time to it, taken in each link.
 //!
 //! `make bench` makes the links and names them to one of them, which runs them all and writes the
 //! tables. `--instructions` counts the instructions of each row too: the same in every run and on a
