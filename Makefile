@@ -31,7 +31,7 @@ $(foreach word,book setting out start prefix destdir,$(if $(filter command line,
 help: ## list the targets
 	@sed -n 's/^\([a-z-]*\):[^#]*## /\1: /p' Makefile
 
-test: ## prove everything from nothing, try every must-fail edit and run the outside tests
+test: ## prove everything by rt ci, try every must-fail edit and run the outside tests
 	@exec python3 -m tests.gate
 
 quick: ## for daily work: prove what has changed and run the outside tests; no must-fail edits
@@ -65,15 +65,16 @@ samples: lib ## write the sample books anew, with their listings, reports and pa
 	@python3 -m tools.sample_books write
 	@python3 -m tools.sample_pages write
 
+# Both names of the shared library are files: rt refuses a tree with links.
 lib: ## prove the C boundary and put its archive and shared library under target/lib
 	@rm -rf target/lib.new && mkdir -p target/lib target/lib.new
-	@python3 -m tools.prove staticlib c_api target/lib.new/build.log
+	@python3 -m tools.prove lib c_api target/lib.new/build.log
 	@cp target/staticlib/libc_api.a target/lib.new/libxaropinto.a
 	@objcopy --set-section-alignment '$(HOT)=64' target/lib.new/libxaropinto.a
 	@objdump -h target/lib.new/libxaropinto.a | grep -q '$(HOT) .*2\*\*6$$'
 	@$(CC) -shared -Wl,-soname,$(SHARED) -o target/lib.new/$(SHARED) \
 		-Wl,--whole-archive target/lib.new/libxaropinto.a -Wl,--no-whole-archive
-	@ln -s $(SHARED) target/lib.new/libxaropinto.so
+	@cp target/lib.new/$(SHARED) target/lib.new/libxaropinto.so
 	@cp target/lib.new/$(SHARED) target/lib.new/beside && mv -f target/lib.new/beside python/xaropinto/libxaropinto.so
 	@mv -f target/lib.new/* target/lib/
 
@@ -106,11 +107,11 @@ test-platforms: targets web ## what needs LibreOffice, wine or qemu: spreadsheet
 	@python3 -m tests.platforms.test_arm64
 	@python3 -m tests.platforms.test_packages
 
-clean: ## remove all that was built; the next run proves everything again
-	@rm -rf target differing python/build python/xaropinto.egg-info python/xaropinto/libxaropinto.so
+clean: ## remove all that was built and what checks kept here; rt ci keeps its own elsewhere
+	@rm -rf target crates/*/out differing python/build python/xaropinto.egg-info python/xaropinto/libxaropinto.so
 	@find . -name __pycache__ -not -path './.git/*' -prune -exec rm -rf {} +
 
 # A program is proved before it is built; where nothing has changed since, that takes a moment.
 target/bin/test_check target/bin/listing_main target/bin/year_report_main target/bin/age_basis_main: target/bin/%: FORCE
 	@[ -f $@ ] || echo "proving and building $*: the first time takes some minutes" >&2
-	@python3 -m tools.prove check $* target/check-$*.log
+	@python3 -m tools.prove run $* target/run-$*.log

@@ -8,7 +8,8 @@ from reference.layout import CHAINS, CURVE, GROUPS, PRODUCT_GROUPS, SUBGROUPS
 YEARS = range(50)
 MILLIONTH = Fraction(1, 10**6)
 # What stays of a contract in a year is one whole number of billionths times another.
-SHARE = 10**18
+BILLION = 10**9
+SHARE = BILLION**2
 EDITION_1_PERCENTAGES = (87, 86)
 # How far a figure may be from its exact value, in centimes: for each cell with contracts, and for
 # each product group.
@@ -32,22 +33,22 @@ def base_mortality(values, sex):
     return Fraction(percentages[sex], 100)
 
 
-def remaining_share(mortality, lapse):
-    """What stays in force over a year, counted in parts of SHARE."""
-    share = (1 - min(Fraction(1), mortality)) * (1 - min(Fraction(1), lapse)) * SHARE
-    if share.denominator != 1:
-        raise ArithmeticError("a year's remaining share must be whole in parts of SHARE")
-    return share.numerator
+def remaining(rate, moved):
+    """What a rate in millionths, moved by a factor, leaves of one: a whole number of billionths."""
+    taken, rest = divmod(1000 * rate * moved.numerator, moved.denominator)
+    if rest:
+        raise ArithmeticError("what a rate leaves must be whole in billionths")
+    return BILLION - min(BILLION, taken)
 
 
 def chain_shares(values, chain, setting, k):
-    """The remaining shares of a chain's classes in year k."""
+    """What stays of a chain's classes in year k, counted in parts of SHARE."""
     sex = CHAINS[chain].sex
     first_class, cells = values.portfolios[chain]
-    mortality_factor = base_mortality(values, sex) * factor(setting, "mortality", k) * MILLIONTH
-    lapse_factor = factor(setting, "lapse", k) * MILLIONTH
-    return [remaining_share(values.mortality[sex][age_class] * mortality_factor,
-                            cell.lapse * lapse_factor)
+    of_mortality = base_mortality(values, sex) * factor(setting, "mortality", k)
+    of_lapse = factor(setting, "lapse", k)
+    return [remaining(values.mortality[sex][age_class], of_mortality)
+            * remaining(cell.lapse, of_lapse)
             for age_class, cell in enumerate(cells, start=first_class)]
 
 
@@ -79,10 +80,12 @@ def exact_sums(values, setting, product_group):
     return [(Fraction(premium[k], SHARE**k), Fraction(claims[k], SHARE**k)) for k in YEARS]
 
 
-def group_liability(values, setting, product_group):
-    """The exact liability of a product group."""
+def group_liability(values, setting, product_group, sums=None):
+    """The exact liability of a product group; its sums where they are known already."""
     liability = Fraction(0)
-    for k, (premium, claims) in enumerate(exact_sums(values, setting, product_group)):
+    for k, (premium, claims) in enumerate(sums or exact_sums(values, setting, product_group)):
+        if premium == claims == 0:
+            continue
         cost_share = values.cost_rates[product_group - 1] * MILLIONTH
         outgo = (claims * factor(setting, "claims", k)
                  + premium * cost_share * factor(setting, "costs", k))
@@ -101,8 +104,12 @@ def exact_liability(book, setting, product_group):
 def exact_totals(book):
     """The exact totals of an accepted book by setting, each its five groups added."""
     values = read_values(book)
-    return [sum(group_liability(values, setting, each) for each in PRODUCT_GROUPS)
-            for setting in MOVES]
+    # A setting that moves neither mortality nor lapse has the base's sums.
+    base = [exact_sums(values, 0, each) for each in PRODUCT_GROUPS]
+    return [sum(group_liability(values, setting, each,
+                                None if moved in ("mortality", "lapse") else sums)
+                for each, sums in zip(PRODUCT_GROUPS, base))
+            for setting, (moved, _) in MOVES.items()]
 
 
 def has_rate_below_zero(book):

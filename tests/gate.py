@@ -1,8 +1,9 @@
-"""The gate: proves every crate from nothing, then runs the outside tests; last comes the tally.
+"""The gate: proves every crate by `rt ci`, then runs the outside tests; last comes the tally.
 
-`quick` proves only what is not proved as it stands, runs the same tests and tries no must-fail
-edit. `callers` and `fuzz` run some of the tests, one after the other. A test counts as one, or as
-the checks that it makes, which are its subtests; one that is skipped has failed.
+Tests that need nothing of the proofs run beside these, on what they leave idle. `quick` begins with
+what checks have kept here, runs the same tests and tries no must-fail edit. `callers` and `fuzz`
+run some of the tests, one after the other. A test counts as one, or as the checks that it makes,
+which are its subtests; one that is skipped has failed.
 """
 
 import argparse
@@ -15,15 +16,17 @@ from typing import NamedTuple
 from tests import ROOT
 from tests.support.checker import checker_line
 from tests.support.command import run, run_beside
-from tests.support.progress import Line, Work, crates_listed, edits_listed
-from tests.support.prover import prover_environment
+from tests.support.progress import CI_LOG, Line, Work, crates_listed, edits_listed
 from tests.support.report import NUMBER, SEED
+from tools.prove import OF_CI, state_of_all
 
 TALLY = re.compile(r"^(\d+) passed, (\d+) failed$")
-# The last line of `rt check`, which counts no failures and names them instead.
-PROVED = re.compile(r"^rt: ok, (\d+) crates proved$")
+# The last line of `rt all test`.
+PROVED = re.compile(r"^(\d+) of (\d+) crates ok$")
+# Where all else passed, `rt ci` passes with must-fail edits that it could not apply or read.
+BAD_EDITS = re.compile(r"^rt: ok;.*, (\d+) bad\b")
 # What the whole gate may take at the most: a part that takes longer hangs.
-MOST_SECONDS = 90 * 60
+MOST_SECONDS = 4 * 60 * 60
 INTERRUPTED = 130
 # What is shown of a part that passes: the seed, and the largest distance.
 SHOWN = ("seed ", "largest share")
@@ -42,13 +45,12 @@ def script(name, module, least):
     return Part(name, [sys.executable, "-m", module], least)
 
 
-PROOFS = Part("proofs, must-fail edits and programs", ["rt", "ci"], 430)
+PROOFS = Part("proofs, must-fail edits and programs", ["rt", "ci"], 459)
 # The proofs of `quick`: a crate that is as it was when it was proved is not proved again.
-QUICK_PROOFS = Part("proofs and programs", ["rt", "check"], 71)
-# What runs on the proved programs, two parts at once.
-PROGRAMS = [
-    script("must-fail edits fit the proof files", "tests.repository.test_must_fail_reasons", 2),
-    script("behaviour of the gate", "tests.repository.test_gate", 22),
+QUICK_PROOFS = Part("proofs and programs", ["rt", "all", "test"], 94)
+# What needs the repository's files and nothing that is proved or built: it runs beside the proofs,
+# on what these leave idle of the processors.
+SOURCES = [
     script("numbers of the promises, against the order", "tests.repository.test_order_figures", 55),
     script("declarations of the calls in four languages", "tests.repository.test_struct_layouts",
            20),
@@ -61,6 +63,13 @@ PROGRAMS = [
     script("stream of Group, against the fractions", "tests.vectors.test_group", 31),
     script("stream of listings, against the fractions", "tests.vectors.test_listing", 36),
     script("stream of projection lengths", "tests.vectors.test_cell_projection", 11),
+]
+# What the parts below run on: built once, before them.
+BUILDS = script("archive and programs, built as they are shipped", "tests.programs.test_builds", 12)
+# What runs on the proved programs, two parts at once.
+PROGRAMS = [
+    script("must-fail edits fit the proof files", "tests.repository.test_must_fail_reasons", 2),
+    script("behaviour of the gate", "tests.repository.test_gate", 29),
     script("listing program, by the paper's figures", "tests.programs.test_listing_main", 9),
     script("report program", "tests.programs.test_year_report_main", 9),
     script("convert program, by hand-worked books", "tests.programs.test_age_basis_main", 9),
@@ -69,7 +78,7 @@ PROGRAMS = [
     script("random listings against the reference valuation and the fractions",
            "tests.fuzz.test_listing", 25),
 ]
-# What builds the archive and the shared library, and what runs on these once they are built.
+# The callers of the archive and of the shared library.
 CALLERS = script("callers in C and Rust", "tests.bindings.test_callers", 285)
 CALLS = [
     script("calls from Python, on random books", "tests.api.test_base_calls", 14),
@@ -108,7 +117,7 @@ CALLS = [
     script("wheels, and what their names promise", "tests.packaging.test_wheels", 25),
     script("the header in dialects of C and C++", "tests.packaging.test_header", 44),
     script("targets: which code, exports, stack, tables and layouts",
-           "tests.targets.test_targets", 42),
+           "tests.targets.test_targets", 43),
     script("calls in WebAssembly, through JavaScript", "tests.web.test_calls", 52),
     script("books in the web page's modules, against the package", "tests.web.test_books", 95),
     script("numbers and texts in the web page's modules", "tests.web.test_texts", 8),
@@ -120,14 +129,17 @@ CALLS = [
     script("formatters and linters", "tests.repository.test_style", 11),
     script("documents", "tests.repository.test_documents", 60),
 ]
-PARTS = [PROOFS, *PROGRAMS, CALLERS, *CALLS]
+PARTS = [PROOFS, *SOURCES, BUILDS, *PROGRAMS, CALLERS, *CALLS]
 # The module that reads what the prover said of each edit; those whose inputs are drawn; and those
 # that take longest: started first, none of them runs on alone at the end.
 OF_EDITS = "tests.repository.test_must_fail_reasons"
 DRAWN = ("tests.fuzz.", "tests.api.")
-LONG = ("tests.fuzz.test_listing", "tests.bindings.test_callers", "tests.vectors.test_listing",
-        "tests.cli.", "tests.web.", "tests.packaging.", "tests.targets.", "tests.api.test_funds",
-        "tests.api.test_base_calls")
+LONG = ("tests.fuzz.test_listing", "tests.bindings.test_callers", "tests.cli.", "tests.web.",
+        "tests.packaging.", "tests.targets.", "tests.api.test_funds", "tests.api.test_base_calls")
+# A command behind these words has a processor only where nothing else wants it. Linux may share the
+# processors among groups of processes first: then the group's own priority counts.
+WHEN_IDLE = ["sh", "-c",
+             '{ echo 19 > /proc/self/autogroup; } 2> /dev/null; exec nice -n 19 "$@"', "sh"]
 
 
 def module_of(part):
@@ -140,24 +152,48 @@ def drawn(parts):
     return [part for part in parts if module_of(part).startswith(DRAWN)]
 
 
-def try_parts(parts, work, line, added=()):
-    """Run parts, two at once, with this added to their environment; how many tests of each passed
-    and failed."""
-    parts = sorted(parts, key=lambda part: not module_of(part).startswith(LONG))
+def long_first(parts):
+    """These parts in the order in which they are started."""
+    return sorted(parts, key=lambda part: not module_of(part).startswith(LONG))
 
+
+def try_parts(parts, work, line):
+    """Run parts, two at once; how many tests of each passed and failed, by its name."""
     def watch(written):
         work.read(each for lines in written.values() for each in lines)
         line.show(lambda: work.words([parts[number].name for number in written]))
 
-    ended = run_beside([part.command for part in parts], MOST_SECONDS, watch, added)
-    return [show_part(part, work, line, *each) for part, each in zip(parts, ended)]
+    tallies = {}
+    for number, code, text, seconds in run_beside([part.command for part in parts], MOST_SECONDS,
+                                                  watch):
+        part = parts[number]
+        if part == PROOFS:
+            CI_LOG.parent.mkdir(parents=True, exist_ok=True)
+            CI_LOG.write_text(text, encoding="utf-8")
+        tallies[part.name] = show_part(part, work, line, code, text, seconds)
+    return tallies
+
+
+def try_proofs(proofs, work, line):
+    """The same for the proofs and, beside them, for what needs nothing of theirs."""
+    idle = [part._replace(command=[*WHEN_IDLE, *part.command]) for part in SOURCES]
+    state = state_of_all() if proofs == PROOFS else ""
+    tallies = try_parts([proofs, *idle], work, line)
+    # What was changed meanwhile may not be proved.
+    if state and not tallies[proofs.name][1] and state_of_all() == state:
+        OF_CI.parent.mkdir(parents=True, exist_ok=True)
+        OF_CI.write_text(state, encoding="ascii")
+    return tallies
 
 
 def count_tests(part, code, lines):
     """How many tests of a part passed and failed, by its last line and its exit code."""
     last = lines[-1] if lines else ""
-    tally = TALLY.match(last) or PROVED.match(last)
-    passed, failed = map(int, (*tally.groups(), 0)[:2]) if tally else (0, 0)
+    tally, proved = TALLY.match(last), PROVED.match(last)
+    passed, failed = map(int, tally.groups()) if tally else (0, 0)
+    if proved:
+        passed, failed = int(proved[1]), int(proved[2]) - int(proved[1])
+    failed += sum(int(found[1]) for found in map(BAD_EDITS.match, lines) if found)
     # A part that ends badly, or with fewer tests than it has, has failed whatever it counted.
     if failed == 0 and (code != 0 or passed < part.least):
         lines.append(f"ended with {code}; {passed} tests, at least {part.least} are due")
@@ -182,22 +218,23 @@ def show_part(part, work, line, code, text, seconds):
 
 
 def run_gate(proofs, programs, edits):
-    """All parts; the outside tests run on what was proved, so not where the proofs fail."""
-    before, after = [*programs, CALLERS], CALLS
-    names = [part.name for part in (proofs, *before, *after)]
+    """All parts; those that run on what was proved or built are left out where that fails."""
+    later = [[BUILDS], [*programs, CALLERS], CALLS]
+    names = [part.name for part in (proofs, *SOURCES, *sum(later, []))]
     work, line = Work(crates_listed(), edits, names), Line(sys.stdout)
     try:
-        with prover_environment() as added:
-            tallies = try_parts([proofs], work, line, added)
-        if not tallies[0][1]:
-            tallies += [*try_parts(before, work, line), *try_parts(after, work, line)]
+        tallies = try_proofs(proofs, work, line)
+        for needed, parts in zip((proofs, BUILDS, BUILDS), later):
+            if not any(failed for name, (_, failed) in tallies.items()
+                       if name in (proofs.name, needed.name)):
+                tallies |= try_parts(long_first(parts), work, line)
     finally:
         line.clear()
     print("".join(each + "\n" for each in work.slowest()), end="")
     if not edits:
-        print(f"no must-fail edit was tried, and {len(work.unchanged)} crates, unchanged since they"
-              " were proved, were not proved again: make test does both")
-    passed, failed = (sum(counts) for counts in zip(*tallies))
+        print("no must-fail edit was tried, and what checks have kept here was not proved again:"
+              " make test trusts only what it keeps itself, and tries every edit")
+    passed, failed = (sum(counts) for counts in zip(*tallies.values()))
     print(f"{passed} passed, {failed} failed")
     return 1 if failed else 0
 

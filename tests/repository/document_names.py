@@ -14,7 +14,8 @@ from tests.support.checker import IDENTITY, NOT_TRIED, checker_line, tried
 
 # In the tables of these pages a name stands after the path or the crate that has it.
 NAMING = [TRACEABILITY, METHOD, CONTRIBUTING]
-LISTED = re.findall(r"^(\w+):(.*)", (ROOT / "crates.txt").read_text(encoding="utf-8"), re.M)
+LISTED = re.findall(r"^(\w+)\b[^:\n]*:(.*)",
+                    (ROOT / "crates.txt").read_text(encoding="utf-8"), re.M)
 CRATES = [crate for crate, _ in LISTED]
 OUTSIDE = {word for _, needs in LISTED for word in needs.split()} - set(CRATES)
 WRAPPER = "xaropinto"
@@ -31,7 +32,7 @@ FILE = r"(?:crates/)?[a-z]\w*/(?:specs|proofs)/[\w+/]+(?:\.antt)?"
 BRACKETED = re.compile(rf"((?:`[^`]+`(?:, | and )?)+) \(({FILE})\)")
 TOKEN = re.compile(rf"`?(?P<path>{FILE})`?|`(?P<span>[^`]+)`"
                    rf"|\b(?P<crate>{'|'.join(CRATES)})(?= `)|\b(?P<file>[A-Z]\w+)(?= [`(])")
-NAME = re.compile(r"(?:[A-Z]\w*::)?([\w′-]+)")
+NAME = re.compile(r"(?:[A-Z]\w*::)?([\w'′-]+)")
 # How the paragraph of VERIFICATION begins that names crates whose definitions nobody needs to read.
 STEPS = "**Steps of the code**"
 # What only one machine has; in this form the pattern does not find itself.

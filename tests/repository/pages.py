@@ -17,10 +17,12 @@ INSTALL = ROOT / "packaging" / "INSTALL.md"
 (API, DECISIONS, ERROR_BOUND, METHOD, TRACEABILITY, VERIFICATION) = (
     DOCS / f"{name}.md" for name in
     ("API", "DECISIONS", "ERROR_BOUND", "METHOD", "TRACEABILITY", "VERIFICATION"))
-PAGES = [README, CONTRIBUTING, CHANGELOG, *sorted(DOCS.glob("*.md")),
+# A record of what was spelled otherwise: it names what is gone.
+PORT = DOCS / "PORT.md"
+PAGES = [README, CONTRIBUTING, CHANGELOG, *sorted(set(DOCS.glob("*.md")) - {PORT}),
          *sorted(LANDINGS.glob("*.md")), INSTALL]
 # Directories of what is built or kept, and of books; the file that marks an environment of Python.
-NOT_READ = {".git", "target", "differing", "samples", "__pycache__"}
+NOT_READ = {".git", "target", "out", "differing", "samples", "__pycache__"}
 ENVIRONMENT = "pyvenv.cfg"
 # Texts that stand in for those of files while a rule is tried on a broken copy.
 BROKEN = {}

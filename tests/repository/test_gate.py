@@ -17,27 +17,52 @@ from tests import ROOT, gate
 from tests.support.case import Case
 from tests.support.differential import Differential
 from tests.support.progress import Line, Work, crates_listed, crates_needed
-from tests.support.prover import JOBS, TEMPORARY, prover_environment
 from tests.support.report import NUMBER, SEED, run_unit_tests
 
-# What `rt` prints as it goes: a crate proved, one that is not, one unchanged; edits; programs.
-PRINTED = """rt: text proved (12 s)
-rt: field proved (unchanged since it was last proved)
-rt: book NOT PROVED (exit 1, 7 s)
-rt: look NOT PROVED: its dependency book is not proved
-rt: must-fail text/one: refused, as it must be (first at proofs/x/Proof.antt:3:5; 8 s)
-rt: must-fail text/two: NOT REFUSED: the crate is still proved with this edit (9 s)
-rt: must-fail text/three: BAD EDIT: an 'old:' text is not in src/lib.rt
-rt: listing ran as nobody, and wrote what its file 'stdout' has (0 s)
-rt: report proved, and its run FAILED (1 s)
+# What `rt ci` prints as it goes: crates proved, kept and not proved; edits; programs and tests.
+PRINTED = """== text
+rt: text proved
+rt: text: trying its must-fail edits (3)
+rt: field is kept: an earlier run on this machine proved the same files over the same libraries
+== book: its tests
+rt: book: its tests are NOT PROVED
+rt: look NOT PROVED
+rt: glance NOT PROVED: its library look failed
+rt: must-fail text/one.edit: refused, as it must be: ./proofs/x/Answers.antt:3:5: error: `x`
+rt: must-fail text/two.edit: NOT REFUSED: the crate is still proved with this edit
+rt: must-fail text/three.edit: BAD EDIT: an 'old:' text is in src/lib.rt 0 times, and not once
+rt: must-fail field/four.edit: NOT TRIED: it cannot be read
+rt: listing ran, and wrote what its file stdout has
+rt: report: the program ended with status 1, and not 0; it said:
+rt: convert (built by Rattle's own compiler; the LLVM build passed): what the program wrote, out/s
+rt: generator: its tests FAILED
 """
-# A gate in a process of its own, of one part that writes its number to a file and goes on for long.
+# What `rt all test` prints as crates end, and what `rt lib` prints as they begin.
+ALL_PRINTED = """rt: chose 2 at a time
+== text
+== book
+== summary
+text: ok
+book: failed (1)
+look: not run, since book failed
+(1: not proved or not passed, 2: rattle failed, 3: antt could not tell)
+1 of 3 crates ok
+"""
+LIB_PRINTED = """rt: chose --jobs 2 for text
+logic=proved functions=1
+rt: chose --jobs 2 for book
+"""
+# The lines with which `rt ci` ends where all else passed.
+CI_OK = "rt: ok; handles allowed: none; must-fail edits: {}; every proof was done in this run"
+# A gate in a process of its own, of two parts that write their numbers to files and go on for long.
 # A run in the background may have started with the signal ignored.
 LONG_RUN = """
 import signal, sys, tests.gate as gate
 signal.signal(signal.SIGINT, signal.default_int_handler)
-words = ["sh", "-c", 'echo $$ > "$1"; exec sleep 9999', "sh", sys.argv.pop()]
-gate.PROOFS = gate.Part("proofs", words, 1)
+def long_part(path):
+    words = ["sh", "-c", 'echo $$ > "$1"; exec sleep 9999', "sh", path]
+    return gate.Part(path, words, 1)
+gate.PROOFS, gate.SOURCES = long_part(sys.argv.pop()), [long_part(sys.argv.pop())]
 try:
     gate.main()
 except KeyboardInterrupt:
@@ -55,11 +80,12 @@ def part(name, printed, code=0, least=1):
 class Tally(unittest.TestCase):
     """The last line counts the tests; a part that fails is shown whole."""
 
-    def run_gate(self, proofs, *tests):
+    def run_gate(self, proofs, *tests, sources=(), builds=part("builds", "2 passed, 0 failed")):
         """The exit code and the lines of a gate of these parts."""
         written = io.StringIO()
         with contextlib.redirect_stdout(written), patch.object(gate, "CALLS", []), \
-                patch.object(gate, "CALLERS", part("callers", "5 passed, 0 failed")):
+                patch.object(gate, "SOURCES", sources), patch.object(gate, "BUILDS", builds), \
+                patch.object(gate, "CALLERS", part("callers", "3 passed, 0 failed")):
             code = gate.run_gate(proofs, list(tests), {"text/one"})
         return code, written.getvalue().splitlines()
 
@@ -71,8 +97,10 @@ class Tally(unittest.TestCase):
         self.assertNotIn("detail", lines)
 
     def test_quick_proofs(self):
-        code, lines = self.run_gate(part("proofs", "rt: ok, 48 crates proved", least=48))
+        code, lines = self.run_gate(part("proofs", "48 of 48 crates ok", least=48))
         self.assertEqual((code, lines[-1]), (0, "53 passed, 0 failed"))
+        code, lines = self.run_gate(part("proofs", "46 of 48 crates ok", 1, least=48))
+        self.assertEqual((code, lines[-1]), (1, "46 passed, 2 failed"))
 
     def test_part_fails(self):
         for each in (part("one", "detail\n1 passed, 1 failed", 1), part("one", "detail\nno tally"),
@@ -86,62 +114,107 @@ class Tally(unittest.TestCase):
         code, lines = self.run_gate(part("proofs", "2 passed, 1 failed", 1), part("one", "detail"))
         self.assertEqual((code, lines[-1]), (1, "2 passed, 1 failed"))
 
+    def test_builds_fail(self):
+        builds = part("builds", "detail\n1 passed, 1 failed", 1)
+        code, lines = self.run_gate(part("proofs", "3 passed, 0 failed"), part("one", "no tally"),
+                                    builds=builds)
+        self.assertEqual((code, lines[-1]), (1, "4 passed, 1 failed"))
+        self.assertIn("detail", lines)
+
+    def test_sources_run_beside_the_proofs(self):
+        # Each waits for a file that the other writes.
+        words = "import pathlib, sys, time\n" \
+                "pathlib.Path(sys.argv[1]).touch()\n" \
+                "while not pathlib.Path(sys.argv[2]).exists(): time.sleep(0.01)\n" \
+                "print('3 passed, 0 failed')"
+        with tempfile.TemporaryDirectory() as folder, patch.object(gate, "MOST_SECONDS", 9):
+            paths = [str(Path(folder, name)) for name in ("one", "two")]
+            proofs, source = (gate.Part(order[0], [sys.executable, "-c", words, *order], 3)
+                              for order in (paths, paths[::-1]))
+            code, lines = self.run_gate(proofs, sources=[source])
+        self.assertEqual((code, lines[-1]), (0, "11 passed, 0 failed"), lines)
+
+    def test_sources_leave_the_processors_to_the_proofs(self):
+        # Its priority, and its group's where that counts.
+        words = "import os, pathlib\n" \
+                "group = pathlib.Path('/proc/self/autogroup')\n" \
+                "held = group.read_text().split()[-1] if group.exists() else '19'\n" \
+                "print(min(os.nice(0), int(held)), 'passed, 0 failed')"
+        source = gate.Part("source", [sys.executable, "-c", words], 19)
+        code, lines = self.run_gate(part("proofs", "3 passed, 0 failed"), sources=[source])
+        self.assertEqual((code, lines[-1]), (0, "27 passed, 0 failed"), lines)
+
+    def test_source_fails(self):
+        sources = [part("source", "detail\n1 passed, 1 failed", 1)]
+        for proofs, due in ((part("proofs", "3 passed, 0 failed"), "9 passed, 1 failed"),
+                            (part("proofs", "2 passed, 1 failed", 1), "3 passed, 2 failed")):
+            code, lines = self.run_gate(proofs, sources=sources)
+            self.assertEqual((code, lines[-1]), (1, due))
+            self.assertIn("detail", lines)
+
     def test_part_cannot_be_started(self):
         code, lines = self.run_gate(gate.Part("proofs", ["/nowhere/rt", "ci"], 1))
         self.assertEqual((code, lines[-1]), (1, "0 passed, 1 failed"))
 
     def test_interrupted(self):
         with tempfile.TemporaryDirectory() as folder:
-            number = Path(folder, "number")
-            started = subprocess.Popen([sys.executable, "-c", LONG_RUN, str(number)], cwd=ROOT,
-                                       stdout=subprocess.DEVNULL)
+            numbers = [Path(folder, name) for name in ("proofs", "source")]
+            started = subprocess.Popen([sys.executable, "-c", LONG_RUN, *map(str, numbers)],
+                                       cwd=ROOT, stdout=subprocess.DEVNULL)
             self.addCleanup(started.kill)
             until = time.monotonic() + MOST_SECONDS
-            while time.monotonic() < until and not (number.is_file() and number.read_text()):
+            while time.monotonic() < until and not all(
+                    number.is_file() and number.read_text() for number in numbers):
                 time.sleep(0.05)
             time.sleep(1)
             started.send_signal(signal.SIGINT)
             self.assertEqual(started.wait(MOST_SECONDS), gate.INTERRUPTED)
-            with self.assertRaises(ProcessLookupError):
-                os.kill(int(number.read_text()), 0)
+            for number in numbers:
+                with self.assertRaises(ProcessLookupError):
+                    os.kill(int(number.read_text()), 0)
 
 
-class ProverEnvironment(unittest.TestCase):
-    """`rt` has its temporary files in memory and several checks at once; nothing else has."""
+class Proofs(unittest.TestCase):
+    """The proofs are those of `rt ci`, which passes with edits that it could not apply or read."""
 
-    def test_for_the_run_alone(self):
-        with patch.dict(os.environ), tempfile.TemporaryDirectory() as memory:
-            for name in (JOBS, TEMPORARY):
-                os.environ.pop(name, None)
-            before = dict(os.environ)
-            with prover_environment(memory) as added:
-                folder = Path(added[TEMPORARY])
-                self.assertEqual((str(folder.parent), oct(folder.stat().st_mode & 0o777)),
-                                 (memory, "0o711"))
-                self.assertGreater(int(added[JOBS]), os.cpu_count())
-                self.assertEqual(dict(os.environ), before)
-            self.assertEqual(os.listdir(memory), [])
+    def run_ci(self, words, code=0):
+        """The exit code and the last line of a gate whose proofs print this of the edits."""
+        printed = f"{CI_OK.format(words)}\n4 passed, 0 failed"
+        code, lines = Tally.run_gate(self, part("proofs", printed, code, least=4))
+        return code, lines[-1]
 
-    def test_what_is_set_stays(self):
-        with patch.dict(os.environ, {JOBS: "1", TEMPORARY: "/tmp"}), prover_environment() as added:
-            self.assertEqual(added, {})
+    def test_command(self):
+        # All crates, as the checkout stands, in the environment as it is.
+        self.assertEqual(gate.PROOFS.command, ["rt", "ci"])
+        with patch.object(gate, "try_parts") as tried, patch.object(gate, "SOURCES", ()), \
+                patch.object(gate, "state_of_all", return_value=""):
+            gate.try_proofs(gate.PROOFS, None, None)
+        self.assertEqual(tried.call_args.args[0], [gate.PROOFS])
 
-    def test_memory_that_cannot_be_used(self):
-        full = types.SimpleNamespace(f_flag=0, f_bavail=1, f_frsize=1)
-        no_programs = types.SimpleNamespace(f_flag=os.ST_NOEXEC, f_bavail=1 << 40, f_frsize=1)
-        for held in (full, no_programs):
-            with patch("os.statvfs", return_value=held), prover_environment() as added:
-                self.assertNotIn(TEMPORARY, added)
-        with prover_environment("/nowhere") as added:
-            self.assertNotIn(TEMPORARY, added)
+    def test_edits_that_are_refused(self):
+        for words in ("355 refused", "355 refused, 2 of them only by a limit"):
+            self.assertEqual(self.run_ci(words), (0, "9 passed, 0 failed"))
 
-    def test_it_reaches_the_proofs(self):
-        line = f"import os; print(os.environ['{JOBS}'] + ' passed, 0 failed')"
-        words = [sys.executable, "-c", line]
-        with patch.dict(os.environ):
-            os.environ.pop(JOBS, None)
-            code, lines = Tally.run_gate(self, gate.Part("proofs", words, 3))
-        self.assertEqual((code, lines[-1].endswith(", 0 failed")), (0, True), lines)
+    def test_bad_edits_fail(self):
+        for words, bad in (("353 refused, 2 bad", 2), ("0 refused, 1 bad", 1),
+                           ("9 refused, 1 of them only by a limit, 30 bad", 30)):
+            self.assertEqual(self.run_ci(words), (1, f"4 passed, {bad} failed"))
+
+    def test_a_run_of_some_crates_is_not_the_gate(self):
+        printed = "4 passed, 0 failed (text and the crates below alone: not the gate)"
+        code, lines = Tally.run_gate(self, part("proofs", printed))
+        self.assertEqual((code, lines[-1]), (1, "0 passed, 1 failed"))
+
+    def test_what_was_printed_is_kept_and_what_was_proved(self):
+        for failed, kept in (0, True), (1, False):
+            with tempfile.TemporaryDirectory() as folder:
+                log, of_ci = Path(folder, "target", "log"), Path(folder, "state", "ci")
+                proofs = part("proofs", f"one\n1 passed, {failed} failed", failed)
+                with patch.multiple(gate, CI_LOG=log, OF_CI=of_ci, PROOFS=proofs):
+                    code, _ = Tally.run_gate(self, proofs)
+                self.assertEqual((code, of_ci.is_file()), (failed, kept))
+                self.assertEqual(log.read_text(encoding="utf-8"),
+                                 f"one\n1 passed, {failed} failed\n")
 
 
 class Modules(unittest.TestCase):
@@ -222,37 +295,47 @@ class Progress(unittest.TestCase):
 
     def work(self):
         """Work of which some is done."""
-        edits = {"text/one", "text/two", "text/three", "text/four"}
-        work = Work({"text", "field", "book", "look", "report"}, edits, ["proofs", "one", "two"])
+        edits = {"text/one", "text/two", "text/three", "field/four", "look/five"}
+        work = Work({"text", "field", "book", "look", "glance"}, edits, ["proofs", "one", "two"])
         work.read(PRINTED.splitlines())
         return work
 
     def test_read(self):
         work = self.work()
-        self.assertEqual(work.proved, {"text": 12, "field": 0, "book": 7, "look": 0})
-        self.assertEqual(work.tried, {"text/one": 8, "text/two": 9, "text/three": 0})
-        self.assertEqual(work.unchanged, {"field"})
-        self.assertEqual(list(work.bad), ["book", "look", "text/two", "text/three", "report"])
+        self.assertEqual(work.proved, {"text", "field", "look", "glance"})
+        self.assertEqual(work.tried, {"text/one", "text/two", "text/three", "field/four"})
+        self.assertEqual(list(work.bad), ["book", "look", "glance", "text/two", "text/three",
+                                          "field/four", "report", "convert", "generator"])
+
+    def test_read_what_begins(self):
+        work = Work({"text", "book"}, {"text/one", "text/two", "book/three"})
+        work.read(["rt: text: trying its must-fail edits (2)"])
+        self.assertEqual(work.edits_begun(), {"text/one", "text/two"})
+        work.read(LIB_PRINTED.splitlines())
+        self.assertEqual(work.proved, {"text"})
+
+    def test_read_all(self):
+        work = Work({"text", "book", "look"})
+        work.read(ALL_PRINTED.splitlines())
+        self.assertEqual((work.proved, list(work.bad)), ({"text", "book"}, ["book", "look"]))
 
     def test_words(self):
         words = self.work().words(["one", "two"])
-        for each in ("0:00 so far", "crates 4 of 5, edits 3 of 4", "FAILED book, look",
+        for each in ("0:00 so far", "crates 4 of 5, edits 4 of 5", "FAILED book, look",
                      "part 2 and 3 of 3: one; two"):
             self.assertIn(each, words)
 
     def test_seconds_left(self):
-        # Done are 36 seconds of work in 18; left: an edit of 12, a crate and two tests of 9.5.
-        self.assertEqual(self.work().seconds_left(18), (12 + 3 * 9.5) / 2)
+        # Done are 8 of 12: crates, edits and tests.
+        self.assertEqual(self.work().seconds_left(18), 9)
         self.assertEqual(Work({"text"}, (), ["proofs"]).seconds_left(0), 5)
 
     def test_slowest(self):
         work = self.work()
         work.ended = {f"part {seconds}": seconds for seconds in range(20)}
         lines = list(work.slowest())
-        self.assertEqual((lines[:2], lines[10]), (["slowest parts:", "    19 s  part 19"],
-                                                  "    10 s  part 10"))
-        self.assertEqual(lines[-3:], ["slowest must-fail edits:", "     9 s  text/two",
-                                      "     8 s  text/one"])
+        self.assertEqual((lines[:2], lines[10:]), (["slowest parts:", "    19 s  part 19"],
+                                                   ["    10 s  part 10"]))
 
     def test_line_elsewhere(self):
         shown = io.StringIO()

@@ -17,14 +17,16 @@ from tests.support.report import run_unit_tests
 LIST = ROOT / "tests" / "repository" / "order_figures.tsv"
 # Steps of the code, as docs/VERIFICATION.md names them: no caller depends on these.
 STEPS = {
-    "arith/specs/Fractions", "book/specs/Reading", "cell/specs/States", "age_basis/specs/Steps",
-    "cost_rate_shares/specs/Usable", "fund_totals/specs/Valued", "group_projection/specs/Added",
-    "rate_table/specs/Puts", "rate_table/specs/Rows", "cash_flow/specs/CashFlow",
-    "discount/specs/Discount", "discount_curve/specs/Curve",
-    "totals/specs/Sizes", "totals_group/specs/Sums", "claims_estimates/specs/Ranked",
-    "cell_projection/specs/Tables", "cell_projection/specs/Projected",
-    "five_projections/specs/Five", "five_projections/specs/SideBySide", "report_text/specs/Tables",
-    "year_report/specs/Asked", "present_value/specs/Outcome", "present_value_span/specs/Spans",
+    "arith/specs/Fractions", "book/specs/Reading", "cell/specs/States",
+    "age_basis_classes/specs/Steps", "cost_rate_shares/specs/Usable",
+    "fund_definitions/specs/Valued", "group_projection/specs/Added", "rate_table/specs/Puts",
+    "rate_table/specs/Rows", "chain_rows/specs/Chain", "cash_flow/specs/CashFlow",
+    "discount/specs/Discount", "discount_curve/specs/Curve", "totals/specs/Sizes",
+    "totals_group/specs/Sums", "claims_estimates/specs/Ranked", "cell_projection/specs/Tables",
+    "cell_projection/specs/Projected", "five_cells/specs/Five",
+    "five_side_by_side/specs/SideBySide", "five_projections/specs/Projected",
+    "report_text/specs/Tables", "report_years/specs/Asked", "present_value/specs/Outcome",
+    "present_value_span/specs/Spans",
 }
 
 # What is no part of a definition, and levels of types; both are blanked, so that places stay.

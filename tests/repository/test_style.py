@@ -21,7 +21,8 @@ SOURCES = ["python", "reference", "tests", "tools", "packaging/xaropinto"]
 PACKAGES = {"flake8": "flake8", "mypy": "mypy", "shellcheck": "shellcheck",
             "clang-format": "clang-format", "tsc": "node-typescript"}
 # By the end of a file's name: the most characters of a line.
-LONGEST = dict.fromkeys((".py", ".rs", ".c", ".h", ".sh", ".md", ".js", ".mjs", ".css"), 100)
+LONGEST = dict.fromkeys((".rt", ".py", ".rs", ".c", ".h", ".sh", ".md", ".js", ".mjs", ".css"), 100)
+LONGEST[".antt"] = 120
 # Between these words a file has lines that are written from the table of refusals.
 BEGIN, END = "refusals: begin", "refusals: end"
 # So many lines in a row stand in one place alone; crates have their own kind of text.
@@ -47,7 +48,8 @@ def files(*ends):
 
 
 TOOLS = [
-    Tool("rt fmt", ["rt", "fmt", "--check"]),
+    # `rt fmt` is this, and has no --check; `rt ci` refuses what is not in the layout.
+    Tool("rattle fmt", ["rattle", "fmt", "--check", *files(".rt", ".antt")]),
     Tool("cargo fmt", ["cargo", "fmt", "--all", "--check"], RUST),
     Tool("cargo clippy", ["cargo", "clippy", "--quiet", *CLIPPY], RUST),
     Tool("flake8", ["flake8", *SOURCES]),

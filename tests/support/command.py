@@ -46,7 +46,7 @@ def run(command, most_seconds, folder=ROOT):
 class Beside:
     """A command that runs beside others: what it writes goes to a temporary file."""
 
-    def __init__(self, command, most_seconds, added):
+    def __init__(self, command, most_seconds):
         self.began = time.monotonic()
         self.most_seconds = most_seconds
         self.written = tempfile.TemporaryFile()
@@ -54,7 +54,7 @@ class Beside:
         try:
             self.started = subprocess.Popen(
                 command, cwd=ROOT, stdin=subprocess.DEVNULL, stdout=self.written,
-                stderr=subprocess.STDOUT, start_new_session=True, env={**os.environ, **added})
+                stderr=subprocess.STDOUT, start_new_session=True)
         except OSError as trouble:
             self.started = None
             self.written.write(str(trouble).encode())
@@ -98,26 +98,21 @@ class Beside:
             end_group(self.started)
 
 
-def run_beside(commands, most_seconds, watch=lambda lines: None, added=()):
-    """Run commands, two at once: exit code, output and seconds of each, in their order.
+def run_beside(commands, most_seconds, watch=lambda lines: None):
+    """Run commands, two at once: number, exit code, output and seconds of each, as each ends.
 
     `watch` is given, many times a second, the new lines of those that run, by their numbers.
-    Nothing but they has what is `added` to the environment. Nothing that was started goes on where
-    whoever waits is interrupted.
+    Nothing that was started goes on where whoever waits is interrupted.
     """
-    waiting, running, ended = list(enumerate(commands)), {}, {}
-    given = 0
+    waiting, running = list(enumerate(commands)), {}
     try:
-        while given < len(commands):
+        while waiting or running:
             while waiting and len(running) < AT_ONCE:
                 number, command = waiting.pop(0)
-                running[number] = Beside(command, most_seconds, dict(added))
+                running[number] = Beside(command, most_seconds)
             watch({number: each.new_lines() for number, each in running.items()})
             for number in [number for number, each in running.items() if each.ended()]:
-                ended[number] = running.pop(number).result()
-            while given in ended:
-                yield ended.pop(given)
-                given += 1
+                yield number, *running.pop(number).result()
             time.sleep(POLL_SECONDS)
     finally:
         for each in running.values():

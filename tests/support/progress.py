@@ -1,7 +1,7 @@
 """How far a long run is: one line, rewritten on a terminal, printed every minute elsewhere.
 
-`rt` prints a line as each crate or must-fail edit ends: what is done and how long it took is read
-off these lines. Nothing that runs is disturbed.
+`rt` prints a line as each crate ends and as the must-fail edits of a crate begin: what is done is
+read off these lines. Nothing that runs is disturbed.
 """
 
 import os
@@ -11,13 +11,20 @@ import time
 
 from tests import ROOT
 
-CRATE = re.compile(r"rt: (\w+) (?:proved|NOT PROVED)(?: \(|:)")
-EDIT = re.compile(r"rt: must-fail (\w+/\w+):")
-BAD = re.compile(r"rt: (?:must-fail )?([\w/]+):? "
-                 r"(?:NOT PROVED|NOT REFUSED|BAD EDIT|proved, and its run FAILED)")
-UNCHANGED = "(unchanged since it was last proved)"
-SECONDS = re.compile(r"(\d+) s\)$")
-# What a crate, an edit or a test takes by itself, before any has been timed.
+# What `rt ci` printed when the gate last ran it: there it says what each must-fail edit came to.
+CI_LOG = ROOT / "target" / "rt-ci.log"
+# A crate ends: under `rt ci`, and under `rt all`. One begins, and the one before it has ended:
+# under `rt lib` and `rt run`.
+ENDED = re.compile(r"(?:rt: (\w+) (?:proved$|NOT PROVED|is kept:)|== (\w+)$)")
+BUILDING = re.compile(r"rt: chose --jobs \d+ for (\w+)$")
+# The must-fail edits of a crate begin, and one has ended.
+TRYING = re.compile(r"rt: (\w+): trying its must-fail edits")
+EDIT = re.compile(r"rt: must-fail (\w+/[\w.-]+)\.edit:")
+BAD = re.compile(r"(?:rt: (?:must-fail )?([\w/.-]+?)(?:\.edit)?(?:: its tests(?: are)?)?"
+                 r"(?: \([^()]*\))?:? (?:NOT PROVED|NOT REFUSED|BAD EDIT|NOT TRIED|FAILED"
+                 r"|the program (?:ended|had|was)|what the program wrote)"
+                 r"|(\w+): (?:failed \(|not run,))")
+# What a crate, an edit or a test takes by itself, before any has ended.
 LIKELY_SECONDS = 10
 AT_ONCE = 2
 SLOWEST = 10
@@ -30,7 +37,7 @@ LIKELY_WIDTH = 80
 def crates_listed():
     """The crates of crates.txt, each with the crates of it that it needs."""
     text = (ROOT / "crates.txt").read_text(encoding="utf-8")
-    needs = dict(re.findall(r"^(\w+):(.*)", text, re.MULTILINE))
+    needs = dict(re.findall(r"^(\w+)\b[^:\n]*:(.*)", text, re.MULTILINE))
     return {crate: [word for word in words.split() if word in needs]
             for crate, words in needs.items()}
 
@@ -57,39 +64,47 @@ def clock(seconds):
     return f"{int(seconds) // 60}:{int(seconds) % 60:02}"
 
 
+def crates_built():
+    """The crates of which `rt` has built the library, as they stand or as they once stood."""
+    stamps = (ROOT / "crates").glob("*/out/rlib/stamp")
+    return {stamp.parent.parent.parent.name for stamp in stamps}
+
+
 class Work:
-    """What a run has to do, how long what is done took, and what went wrong so far."""
+    """What a run has to do, what of it is done, and what went wrong so far."""
 
     def __init__(self, crates, edits=(), parts=()):
         self.crates, self.edits, self.parts = set(crates), set(edits), list(parts)
-        self.proved, self.tried, self.ended = {}, {}, {}
-        self.unchanged, self.bad = set(), {}
+        self.proved, self.begun, self.tried = set(), set(), set()
+        self.building, self.bad, self.ended = "", {}, {}
         self.began = time.monotonic()
 
     def read(self, lines):
         """Take in what `rt` printed; a line that is read twice counts once."""
         for line in lines:
-            took = SECONDS.search(line)
-            for form, done in ((CRATE, self.proved), (EDIT, self.tried), (BAD, self.bad)):
-                ended = form.match(line)
-                if ended:
-                    done[ended[1]] = max(done.get(ended[1], 0), int(took[1]) if took else 0)
-            if line.endswith(UNCHANGED):
-                self.unchanged.add(CRATE.match(line)[1])
+            if building := BUILDING.match(line):
+                self.proved.add(self.building)
+                self.building = building[1]
+            for form, done in ((ENDED, self.proved), (TRYING, self.begun), (EDIT, self.tried)):
+                if ended := form.match(line):
+                    done.add(next(filter(None, ended.groups())))
+            if bad := BAD.match(line):
+                self.bad[bad[1] or bad[2]] = True
+        self.proved &= self.crates
+
+    def edits_begun(self):
+        """The edits that have ended, and those of the crates whose edits have begun."""
+        return {edit for edit in self.edits
+                if edit in self.tried or edit.partition("/")[0] in self.begun}
 
     def seconds_left(self, elapsed):
-        """An estimate: what is done took so long, an edit takes as long as its crate."""
-        timed = [seconds for seconds in self.proved.values() if seconds]
-        likely = sum(timed) / len(timed) if timed else LIKELY_SECONDS
+        """An estimate: what is left takes as long as what is done."""
         # The first part proves the crates and tries the edits; the others are tests.
         tests = self.parts[1:]
-        done = sum(self.proved.values()) + sum(self.tried.values())
-        done += sum(self.ended.get(test, 0) for test in tests)
-        left = likely * len(self.crates - self.proved.keys())
-        left += likely * sum(test not in self.ended for test in tests)
-        for edit in self.edits - self.tried.keys():
-            left += self.proved.get(edit.partition("/")[0], likely)
-        return left * elapsed / done if done else left / AT_ONCE
+        due = len(self.crates) + len(self.edits) + len(tests)
+        done = len(self.proved) + len(self.edits_begun())
+        done += sum(test in self.ended for test in tests)
+        return elapsed * (due - done) / done if done else due * LIKELY_SECONDS / AT_ONCE
 
     def words(self, running=()):
         """The line: time so far and left, what is done of all, and the parts that run."""
@@ -98,7 +113,7 @@ class Work:
         words = f"{clock(elapsed)} so far, about {left} min left"
         words += f"; crates {len(self.proved)} of {len(self.crates)}"
         if self.edits:
-            words += f", edits {len(self.tried)} of {len(self.edits)}"
+            words += f", edits {len(self.edits_begun())} of {len(self.edits)}"
         if self.bad:
             words += f"; FAILED {', '.join(self.bad)}"
         if running:
@@ -107,14 +122,12 @@ class Work:
         return words
 
     def slowest(self):
-        """The lines that say which parts, crates and edits took longest."""
-        kinds = {"parts": self.ended, "crates": self.proved, "must-fail edits": self.tried}
-        for kind, took in kinds.items():
-            timed = [(name, seconds) for name, seconds in took.items() if seconds >= 1]
-            if timed:
-                yield f"slowest {kind}:"
-            for name, seconds in sorted(timed, key=lambda each: -each[1])[:SLOWEST]:
-                yield f"{seconds:6.0f} s  {name}"
+        """The lines that say which parts took longest."""
+        timed = [(name, seconds) for name, seconds in self.ended.items() if seconds >= 1]
+        if timed:
+            yield "slowest parts:"
+        for name, seconds in sorted(timed, key=lambda each: -each[1])[:SLOWEST]:
+            yield f"{seconds:6.0f} s  {name}"
 
 
 class Line:

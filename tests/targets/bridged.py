@@ -16,8 +16,8 @@ SAMPLES = sorted((ROOT / "samples").glob("*.book"))
 MOST_LISTING_BYTES, MOST_REPORT_BYTES = 512, 9_525
 # Of the three parts of a version.
 VERSION_WEIGHTS = (10_000, 100, 1)
-# In the costs of setting 5.
-CONSTANT, CHANGED = "store i64 1200,", "store i64 1201,"
+# In the costs of setting 5: 1,200 and 1,201, as the table of weights has them.
+CONSTANT, CHANGED = (rf"\{low}\04\00\00\00\00\00\00" for low in ("B0", "B1"))
 NOTICED_BY, NOTICED_WITH = "tests.api.test_base_calls", 20
 
 

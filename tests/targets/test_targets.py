@@ -17,7 +17,7 @@ from tools.targets.build import build
 from tools.targets.capture import ARCHIVE, MODULE, captured, words_captured
 from tools.targets.header import calls
 from tools.targets.kit import run_tool
-from tools.targets.retarget import TARGETS, retarget
+from tools.targets.retarget import ADDRESS, EXTENDED, TARGETS, retarget
 
 NAMES = [call.name for call in calls()]
 # The only lines that may change: what names the target, and where a function begins.
@@ -80,6 +80,10 @@ class Targets(Case):
         before = self.module.splitlines()
         for target in TARGETS:
             after = retarget(self.module, target, NAMES).splitlines()
+            if target.narrow:
+                self.check(f"{target.name}: addresses", ADDRESS not in "\n".join(after))
+                after = [line.replace(EXTENDED, ADDRESS) if ADDRESS in other else line
+                         for line, other in zip(after, before)]
             changed = [line for line, other in zip(before, after) if line != other]
             others = [line for line in changed if not MAY_CHANGE.match(line)]
             self.check(f"{target.name}: {len(changed)} of {len(before)} lines change",

@@ -24,11 +24,12 @@ COMPILED = (*ASSEMBLED, "-nostdinc", "-std=c11", "-Wall", "-Wextra", "-O2", "-ff
             f"-I{HEADER.parent}")
 # How each target is optimised, and what else is asked of code for it. Above -O1 the upper half of a
 # product becomes one of 128 bits, which WebAssembly does not have. On Windows the tables of a
-# function in a section of its own are in one of their own too, and the linker leaves them out.
+# function in a section of its own are in one of their own too, and the linker leaves them out. On
+# arm64 `rattle` itself asks for the same, against a fault of clang.
 OPTIMISED = {
     WASM32: ("-O1",),
     WINDOWS: ("-O3", "-march=x86-64", "-fno-function-sections", "-fasynchronous-unwind-tables"),
-    ARM64: ("-O3", "-fPIC"),
+    ARM64: ("-O3", "-fPIC", "-march=armv8-a", "-mllvm", "-aarch64-load-store-renaming=false"),
 }
 STACK_BYTES = 256 * 1024
 SONAME = "libxaropinto.so.2"

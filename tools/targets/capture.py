@@ -1,8 +1,8 @@
 """Captures the LLVM module that the archive of the C API is compiled from.
 
-`rattle build` passes that module to the clang of its toolchain folder. Here `rt staticlib` builds
-the archive again with a kit of links, whose clang keeps a copy of the module and of its arguments
-and then runs the kit's own. What it builds must be proved, and must be the archive to the byte.
+`rattle build` passes that module to the clang of its toolchain folder. Here it builds the archive
+again with a folder of links, whose clang keeps a copy of the module and of its arguments and then
+runs the kit's own. What it builds must be proved, and must be the archive to the byte.
 """
 
 import hashlib
@@ -13,14 +13,15 @@ from pathlib import Path
 
 from tests import ROOT
 from tests.support.command import run
+from tools.rattle import build_command
 from tools.targets import FOLDER, BuildError
-from tools.targets.kit import clang, home, machine_folder, run_tool
+from tools.targets.kit import clang, run_tool
 
 CRATE = "c_api"
 ARCHIVE = ROOT / "target" / "staticlib" / f"lib{CRATE}.a"
 MODULE = FOLDER / "module.ll"
 BITCODE, WORDS, STAMP = (MODULE.with_suffix(end) for end in (".bc", ".words", ".archive"))
-PROVED = "logic=proved"
+PROVED = "\nlogic=proved "
 MOST_SECONDS = 30 * 60
 # Its environment is empty, so that all paths are written into it.
 STAND_IN = """#!/bin/sh
@@ -48,15 +49,19 @@ def captured():
 
 
 def capture(sum_of_archive):
-    """Build the archive again, and keep its module."""
-    with tempfile.TemporaryDirectory(dir=FOLDER) as name:
+    """Build the archive again, and keep its module.
+
+    The links stand outside the tree, in which `rt` would refuse them.
+    """
+    with tempfile.TemporaryDirectory() as name:
         folder = Path(name)
-        link_kit(folder / "kit", folder)
-        code, text = run(["env", f"RATTLE_HOME={folder / 'kit'}", "rt", "staticlib", CRATE],
-                         MOST_SECONDS)
+        link_toolchain(folder / "toolchain", folder)
+        again = folder / ARCHIVE.name
+        code, text = run(build_command(CRATE, folder / "toolchain", again), MOST_SECONDS,
+                         ROOT / "crates" / CRATE)
         if code or PROVED not in text:
-            raise BuildError(f"rt staticlib {CRATE} ended with {code}: {text[-2_000:]}")
-        if hashlib.sha256(ARCHIVE.read_bytes()).hexdigest() != sum_of_archive:
+            raise BuildError(f"rattle build of {CRATE} ended with {code}: {text[-2_000:]}")
+        if hashlib.sha256(again.read_bytes()).hexdigest() != sum_of_archive:
             raise BuildError(f"{ARCHIVE.name} is another than before: its module is not kept")
         for kept, path in (("module.bc", BITCODE), ("words", WORDS)):
             if not (folder / kept).is_file():
@@ -78,20 +83,15 @@ def words_captured():
     return WORDS.read_text(encoding="utf-8").splitlines()
 
 
-def link_kit(links, kept):
-    """A kit of links to the kit; its clang is the stand-in, which keeps the module in a folder."""
-    own = machine_folder()
-    inner = links / own.relative_to(home())
-    for real, path, replaced in (
-            (home(), links, own.parent), (own.parent, inner.parent, own),
-            (own, inner, own / "toolchain"),
-            (own / "toolchain", inner / "toolchain", own / "toolchain" / "bin"),
-            (own / "toolchain" / "bin", inner / "toolchain" / "bin", clang())):
-        path.mkdir(parents=True, exist_ok=True)
+def link_toolchain(links, kept):
+    """A toolchain of links to the kit's; its clang is the stand-in, which keeps the module."""
+    stand_in = links / "bin" / clang().name
+    for real in (clang().parent.parent, clang().parent):
+        folder = links / real.relative_to(clang().parent.parent)
+        folder.mkdir(parents=True)
         for each in real.iterdir():
-            if each != replaced:
-                (path / each.name).symlink_to(each.resolve())
-    stand_in = inner / "toolchain" / "bin" / "clang"
+            if each not in (clang().parent, clang()):
+                (folder / each.name).symlink_to(each.resolve())
     stand_in.write_text(STAND_IN.format(folder=shlex.quote(str(kept)),
                                         clang=shlex.quote(str(clang()))), encoding="utf-8")
     stand_in.chmod(0o755)

@@ -1,7 +1,5 @@
 """The kit of `rt`, and the LLVM of its toolchain."""
 
-import os
-import platform
 import shutil
 import subprocess
 from pathlib import Path
@@ -12,23 +10,16 @@ MOST_SECONDS = 300
 
 
 def home():
-    """The kit's folder, found as `rt` itself finds it."""
-    if named := os.environ.get("RATTLE_HOME"):
-        return Path(named)
+    """The kit's folder, found as `rt` itself finds it: by where its program stands."""
     program = shutil.which("rt")
     if not program:
         raise BuildError("rt is not on the path: the toolchain is needed")
     return Path(program).resolve().parent.parent
 
 
-def machine_folder():
-    """What the kit has for this machine."""
-    return home() / "on" / platform.machine()
-
-
 def clang():
     """The kit's clang. It is all tools of LLVM: its name at the start says which."""
-    path = machine_folder() / "toolchain" / "bin" / "clang"
+    path = home() / "toolchain" / "bin" / "clang"
     if not path.is_file():
         raise BuildError(f"the kit has no {path.relative_to(home())}")
     return path

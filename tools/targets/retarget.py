@@ -1,4 +1,5 @@
-"""The captured module for another target: no instruction is changed.
+"""The captured module for another target: no instruction is changed, but for one that takes the
+address of a pointer where that has 32 bits.
 
 What changes is the data layout and the triple; what every function says of processor and stack;
 which functions are inlined; and on the calls of the C API what belongs to x86-64's System V
@@ -16,10 +17,13 @@ from tools.targets import BuildError
 from tools.targets.kit import run_tool
 
 # What `rattle` says of every function.
-FUNCTION_ATTRIBUTES = 'nounwind "probe-stack"="inline-asm" "target-cpu"="x86-64"'
+PROBED = 'nounwind "probe-stack"="inline-asm" "stack-probe-size"="3072"'
+FUNCTION_ATTRIBUTES = f'{PROBED} "target-cpu"="x86-64"'
 TARGET_LINE = re.compile(r"^target (?:datalayout|triple) = .*$", re.M)
 CALL_LINE = r"^define (?P<reply>.*) @(?P<name>{names})\((?P<arguments>.*)\) #0 \{{$"
 INNER_LINE = r'^(define internal .* @"(?:{names})"\(.*\) #0) \{{$'
+# The address of a pointer as a number; the second form extends one that has fewer bits.
+ADDRESS, EXTENDED = " = ptrtoaddr ptr ", " = ptrtoint ptr "
 COPIED = re.compile(r" byval\(\[\d+ x i8\]\)")
 TWO_WORDS = "{ i64, i64 }"
 PROVED = "proved_"
@@ -31,7 +35,7 @@ class Target(NamedTuple):
     With adapters, the calls are the adapters', and the module's have other names and are, where
     the target knows that, hidden. A reply of two words is returned in two registers: by which
     convention, where the target's own does not do so. Functions may be named that are inlined
-    wherever they are called.
+    wherever they are called. A narrow target has addresses of 32 bits.
     """
 
     name: str
@@ -41,11 +45,12 @@ class Target(NamedTuple):
     hidden: bool = False
     two_words: str = ""
     inlined: tuple[str, ...] = ()
+    narrow: bool = False
 
 
 # WebAssembly has a stack that traps at its end. At its level of optimisation little is inlined: the
 # year of a cell, and what is constant for all of them, would be called each time.
-WASM32 = Target("wasm32", "wasm32-unknown-unknown", "nounwind", inlined=(
+WASM32 = Target("wasm32", "wasm32-unknown-unknown", "nounwind", narrow=True, inlined=(
     "cell::Cell::next_year", "cell_projection::one_year", "settings::weight",
     "settings_columns::Columns::new", "settings_columns::FiveColumns::new",
     "settings_columns::persistency_column", "settings_columns::same_mortality",
@@ -55,8 +60,7 @@ WASM32 = Target("wasm32", "wasm32-unknown-unknown", "nounwind", inlined=(
 WINDOWS = Target("windows-x86_64", "x86_64-pc-windows-gnu",
                  'noredzone nounwind uwtable "target-cpu"="x86-64"', adapters=True,
                  two_words="x86_64_sysvcc")
-ARM64 = Target("linux-arm64", "aarch64-unknown-linux-gnu", 'nounwind "probe-stack"="inline-asm"',
-               adapters=True, hidden=True)
+ARM64 = Target("linux-arm64", "aarch64-unknown-linux-gnu", PROBED, adapters=True, hidden=True)
 TARGETS = (WASM32, WINDOWS, ARM64)
 
 
@@ -66,6 +70,8 @@ def retarget(module, target, names):
     module = changed(TARGET_LINE, lambda found: next(lines), module, 2)
     module = changed(re.escape(f"#0 = {{ {FUNCTION_ATTRIBUTES} }}"),
                      lambda found: f"#0 = {{ {target.attributes} }}", module, 1)
+    if target.narrow:
+        module = module.replace(ADDRESS, EXTENDED)
     inner = re.compile(INNER_LINE.format(names="|".join(target.inlined)), re.M)
     module = changed(inner, r"\1 alwaysinline {", module, len(target.inlined))
     pattern = re.compile(CALL_LINE.format(names="|".join(names)), re.M)

@@ -1,5 +1,1 @@
-pub mod Places
-pub mod Exact
-pub mod Passes
-pub mod ConvertContract
-pub mod Lowering
+pub mod Written

@@ -1,6 +1,9 @@
 -- The division fact, for all divisors together, bounds of products, and quotients by a product's upper part. Assumes
 -- nothing.
-use Rattle.std.proofs.Common.{◌≡◌, ℕ, zero, suc, ◌+◌, ◌-◌, ◌*◌, ◌/◌, ◌%◌, ◌<◌, ◌≤◌, false, sym, ap, ◌∙◌, lt_of_lt_of_le, le_of_lt, mul-le-mul_right, mod-lt, mul_assoc, mul_comm, add-mul, mul-le-mul, lt_of_mul-lt-mul_right, mul-le-mul_left, mul-lt-mul_of_pos_right, one-mul, div-add-mod', zero-mul, div-mul-le_self, le_of_mul-le-mul_right, arith, ltb-false}
+use Rattle.std.proofs.Common.{◌≡◌, ℕ, zero, suc, ◌+◌, ◌-◌, ◌*◌, ◌/◌, ◌%◌, ◌<◌, ◌≤◌, false, sym, ap, ◌∙◌, lt_of_lt_of_le}
+use Rattle.std.proofs.Common.{le_of_lt, mul-le-mul_right, mod-lt, mul_assoc, mul_comm, add-mul, mul-le-mul}
+use Rattle.std.proofs.Common.{lt_of_mul-lt-mul_right, mul-le-mul_left, mul-lt-mul_of_pos_right, one-mul, div-add-mod'}
+use Rattle.std.proofs.Common.{zero-mul, div-mul-le_self, le_of_mul-le-mul_right, arith, ltb-false}
 use native.Mathlib.Nat.{div-eq_of_lt, mul-add-div_right}
 use Rattle.arith.specs.Fractions.{IsFraction, near_top}
 

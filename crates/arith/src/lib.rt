@@ -1,5 +1,7 @@
 // A product divided and rounded down, within 64 bits. For the crates above, which have shown that
 // the figures fit.
+#![tactic(auto)]
+
 ghost use Rattle.std.specs.Prelude.{◌≡◌, ◌+◌, ◌*◌, ◌/◌, ◌%◌, ◌^◌, ◌<◌, ◌≤◌};
 ghost use Rattle.arith.specs.Fractions.{IsFraction, near_top};
 
@@ -76,14 +78,14 @@ pub fn corrected(x: u64, w: u64, d: u64, q: u64) -> u64
 }
 
 // Two parts of amounts over one divisor.
-#[derive(Drop)]
+#[derive(Clone, Copy)]
 pub struct Two {
     pub first: u64,
     pub second: u64,
 }
 
 // An amount, its weight over a divisor, and the fraction that weight over divisor is.
-#[derive(Drop)]
+#[derive(Clone, Copy)]
 pub struct Weighted {
     pub amount: u64,
     pub weight: u64,

@@ -4,7 +4,7 @@ use mathlib.Core.List.{List}
 use Prim.Native.Nat.{ℕ}
 use Rattle.verdict.specs.declared.Verdict.{Verdict}
 use Rattle.book.specs.Check.{check_book}
-use Rattle.book.specs.Contracts.{CheckContract}
+use Rattle.book.specs.CallContracts.{CheckContract}
 use Rattle.book.proofs.Exact.{accepted_rules, rules_accepted, accepted_held}
 use Rattle.book.proofs.Numbers.{zero_accepted}
 

@@ -78,7 +78,8 @@ module _ (basis : ℕ) (b : List ℕ) (v : ValidBook basis b) (k : ℕ) (few : k
   chain_rules : ChainRules b (last_class basis) k
   chain_rules = record {
     linked = λ j l. links_rules b (last_class basis) k j _ (head_of b k) (chain_some j l) (chain_whole j l) l;
-    rising = λ j l. links_rising b (last_class basis) k j _ (head_of b k) (chain_some j l) (omega arith) (chain_whole j l)
+    rising = λ j l. links_rising b (last_class basis) k j _ (head_of b k) (chain_some j l) (omega arith)
+        (chain_whole j l)
         l;
   }
 

@@ -15,7 +15,8 @@ use Rattle.verdict.specs.declared.Verdict.TheVariants.{Accepted, Refused}
 use Rattle.verdict.proofs.Verdicts.{all_same}
 use Rattle.le_bytes.proofs.Same.{u16_same, field_same, fields_same}
 use Rattle.book.specs.Layout.{last_class, chains, records, head_place, head_of, cost_place, curve_place}
-use Rattle.book.specs.Layout.{mortality_place, most_rate, curve_lift, curve_span, record_at, class_of, next_of, link_from}
+use Rattle.book.specs.Layout.{mortality_place, most_rate, curve_lift, curve_span, record_at, class_of, next_of}
+use Rattle.book.specs.Layout.{link_from}
 use Rattle.book.specs.Layout.{link_at}
 use Rattle.book.specs.Check.{check_tables, check_owner, check_class, check_amounts, ends_right, check_link, check_from}
 use Rattle.book.specs.Check.{check_chain, check_chains, check_book}

@@ -11,7 +11,8 @@ use Rattle.verdict.specs.declared.Verdict.TheVariants.{Accepted}
 use Rattle.verdict.proofs.Verdicts.{need_true, then_left, then_right, plus_right, all_each}
 use Rattle.le_bytes.proofs.Ranges.{within_means, field_bound, fields_bound}
 use Rattle.book.specs.Layout.{last_class, lowest_class, edition, records, spare_bytes, percent_at, most_percent}
-use Rattle.book.specs.Layout.{chains, head_of, class_of, next_of, field_of, most_rate, curve_lift, curve_span, cost_place}
+use Rattle.book.specs.Layout.{chains, head_of, class_of, next_of, field_of, most_rate, curve_lift, curve_span}
+use Rattle.book.specs.Layout.{cost_place}
 use Rattle.book.specs.Layout.{curve_place, mortality_place}
 use Rattle.book.specs.Check.{check_spare, check_percents, check_by_edition, check_header, check_tables, check_owner}
 use Rattle.book.specs.Check.{check_class, check_amounts, ends_right, check_link, check_from, check_chain, check_chains}

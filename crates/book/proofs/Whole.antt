@@ -23,7 +23,8 @@ module _ (basis : ℕ) (b : List ℕ) where
   unfolding check_book need ◌and_then◌
   book_bad h q p e = rw (le-leb _ _ h, e)
 
-  pub book_good : header_size ≤ length b → (m : ℕ) → (check_header basis (length b) b and_then check_tables b) ≡ Accepted m
+  pub book_good : header_size ≤ length b → (m : ℕ) → (check_header basis (length b) b and_then check_tables b) ≡
+      Accepted m
       → check_book basis b ≡ check_chains b (last_class basis)
   unfolding check_book need ◌and_then◌
   book_good h m e = rw (le-leb _ _ h, e)

@@ -2,5 +2,5 @@ pub mod Layout
 pub mod Check
 pub mod Cells
 pub mod Rules
-pub mod Contracts
+pub mod CallContracts
 pub mod Reading

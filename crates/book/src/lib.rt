@@ -1,14 +1,13 @@
 // Where everything stands in a book, and readers of its records. The readers ask that the record
 // lies in the bytes:
 // they are for the crates above, which have shown it.
-ghost use Rattle.std.specs.Prelude.{◌≡◌, ◌+◌, ◌*◌, ◌≤◌, ◌<◌, length};
+#![tactic(auto)]
+
+ghost use Rattle.std.specs.Prelude.{◌≡◌, ◌*◌, ◌≤◌, ◌<◌, length};
 ghost use Rattle.book.specs.Layout.{header_size, last_class, lowest_class, edition, records};
 ghost use Rattle.book.specs.Layout.{percent_at, head_of, record_at, class_of, next_of, field_of};
 ghost use Rattle.book.specs.Cells.{holds};
-ghost use Rattle.book.specs.Check.{check_amounts};
 ghost use Rattle.book.specs.Reading.{Inside};
-
-use verdict::Verdict;
 
 pub const HEADER_SIZE: usize = 1220;
 
@@ -160,18 +159,6 @@ pub fn holds(b: &[u8], i: usize) -> u64
 {
     let count = field_of(b, i, COUNT_OFFSET);
     if count == 0 { 0 } else { 1 }
-}
-
-// Refusal 12 of the record that starts at a place.
-pub fn check_amounts(b: &[u8], at: usize) -> Verdict
-    requires { at + 24 ≤ length b.now }
-    ensures { result ≡ check_amounts b.now at }
-{
-    let count = le_bytes::check_field(b, 12, 0, MOST_COUNT, at + COUNT_OFFSET);
-    let lapse = le_bytes::check_field(b, 12, 0, MOST_RATE, at + LAPSE_OFFSET);
-    let premium = le_bytes::check_field(b, 12, 0, MOST_AMOUNT, at + PREMIUM_OFFSET);
-    let claims = le_bytes::check_field(b, 12, 0, MOST_AMOUNT, at + CLAIMS_OFFSET);
-    count.and_then(lapse).and_then(premium).and_then(claims)
 }
 
 // Zeros, one more than the longest book has bytes: a program that reads a longer input still

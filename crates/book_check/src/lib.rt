@@ -2,6 +2,8 @@
 // place where it is broken.
 // Its definition is book/specs/Check, and the functions here and in `book_check_header` and
 // `book_check_records` read in its order.
+#![tactic(auto)]
+
 ghost use Rattle.std.specs.Prelude.{◌≡◌, ◌-◌, ◌≤◌, ◌<◌};
 ghost use Rattle.book.specs.Layout.{records};
 ghost use Rattle.book.specs.Check.{check_from, check_chain, check_chains, check_book};

@@ -1,6 +1,8 @@
 // What stands before a book's records: refusals 2 to 8 and 23, of the header and of the tables.
 // The functions ask for the bytes that they read: they are for the check, which has shown that they
 // are there.
+#![tactic(auto)]
+
 ghost use Rattle.std.specs.Prelude.{◌≡◌, ◌≤◌, length};
 ghost use Rattle.book.specs.Layout.{header_size};
 ghost use Rattle.book.specs.Check.{check_spare, check_percents, check_by_edition, check_header};

@@ -1,6 +1,8 @@
 // One linked record: refusals 10, 21, 11, 12 and 13, then 9 for its next.
 // The functions ask for the record's bytes: they are for the check, which has shown that they are
 // there.
+#![tactic(auto)]
+
 ghost use Rattle.std.specs.Prelude.{◌≡◌, ◌+◌, ◌≤◌, ◌<◌, length};
 ghost use Rattle.book.specs.Check.{check_owner, check_class, ends_right, check_link};
 ghost use Rattle.book.specs.Reading.{Inside};
@@ -52,7 +54,7 @@ pub fn check_link(b: &[u8], last: usize, k: usize, left: usize, i: usize) -> Ver
     let at = book::record_at(i);
     let owner = check_owner(b, k, at);
     let class = check_class(b, book::lowest_class(last), last - left, at);
-    let amounts = book::check_amounts(b, at);
+    let amounts = book_check_amounts::check_amounts(b, at);
     owner
         .and_then(class)
         .and_then(amounts)

@@ -23,7 +23,7 @@ use Rattle.buffer.proofs.Digits.{le_or_lt}
 use Rattle.book_contents.specs.Contents.{Contents, size_of, records_before}
 use Rattle.book_contents.specs.Written.{number_of, book_of}
 use Rattle.book_contents.specs.Limits.{check_contents, Fit}
-use Rattle.book_contents.specs.Contracts.{not_zero}
+use Rattle.book_contents.specs.CallContracts.{not_zero}
 use Rattle.book_contents.proofs.Stands.{stands_self}
 use Rattle.book_contents.proofs.Numbers.{four_read, curve_small, curve_raised}
 use Rattle.book_contents.proofs.Laid.{Laid, stands_laid, book_length}

@@ -15,9 +15,12 @@ use lib.ListN.{length, get_or, length-append, get_or-append}
 use lib.Seq.{get_or-append-add}
 use Rattle.le_bytes.specs.Bytes.{byte_at, read_u16, read_u32, two_bytes}
 use Rattle.verdict.specs.declared.Verdict.TheVariants.{Accepted}
-use Rattle.book.specs.Layout.{header_size, record_size, edition, chains, records, head_place, head_of, record_at, class_of}
-use Rattle.book.specs.Layout.{next_of, field_of, cost_place, curve_place, mortality_place, most_rate, most_count, most_amount}
-use Rattle.book.specs.Layout.{count_offset, lapse_offset, premium_offset, claims_offset, record_after, link_from, link_at}
+use Rattle.book.specs.Layout.{header_size, record_size, edition, chains, records, head_place, head_of, record_at}
+use Rattle.book.specs.Layout.{class_of}
+use Rattle.book.specs.Layout.{next_of, field_of, cost_place, curve_place, mortality_place, most_rate, most_count}
+use Rattle.book.specs.Layout.{most_amount}
+use Rattle.book.specs.Layout.{count_offset, lapse_offset, premium_offset, claims_offset, record_after, link_from}
+use Rattle.book.specs.Layout.{link_at}
 use Rattle.book.specs.Check.{check_book}
 use Rattle.book.specs.Rules.{RecordRules, Rules}
 use Rattle.book.specs.Reading.{ChainFrom, ValidBook}
@@ -59,7 +62,8 @@ chain_links_lem b last k (suc j) zero i h c = absurd (omega arith)
 chain_links_lem b last k (suc j) (suc left) i h c =
     let some : 0 < i = (chain_here b last k (suc left) i c).first in
     rw (link_next b i j some)
-    (chain_links_lem b last k j left (next_of b i) (omega arith) (chain_next b last k (suc left) left i (omega arith) c))
+    (chain_links_lem b last k j left (next_of b i) (omega arith)
+    (chain_next b last k (suc left) left i (omega arith) c))
 
 -- What the rules say of a chain, by its first class.
 module _ (b : List ℕ) (v : ValidBook 1 b) (r : Rules 1 b) (k : ℕ) (few : k < chains) where
@@ -130,7 +134,8 @@ module _ (b : List ℕ) (bytes : OfBytes b) (v : ValidBook 1 b) (r : Rules 1 b) 
       (λ (s : 0 < size_of (firsts_of b) k). order_at k 0 few s ∙ sym (head_some (firsts_of b) k s))
       (le_or_lt (size_of (firsts_of b) k) 0)
 
-  next_right : (k j : ℕ) → k < chains → j < size_of (firsts_of b) k → next_of b (link_at b k j) ≡ next_for (firsts_of b) k j
+  next_right : (k j : ℕ) → k < chains → j < size_of (firsts_of b) k → next_of b (link_at b k j) ≡ next_for (firsts_of b)
+      k j
   next_right k j few h =
       let here = (r.chain k few).linked j (links_some b v r k few j h) in
       ⊎_elim
@@ -143,7 +148,8 @@ module _ (b : List ℕ) (bytes : OfBytes b) (v : ValidBook 1 b) (r : Rules 1 b) 
       (eq-or-lt_of_le (omega arith))
 
   field_right : (offset k j : ℕ) → k < chains → j < size_of (firsts_of b) k
-      → field_of b (number_of (firsts_of b) k j) offset ≡ get_or (field_list b offset) (records_before (firsts_of b) k + j) 0
+      → field_of b (number_of (firsts_of b) k j) offset ≡ get_or (field_list b offset)
+      (records_before (firsts_of b) k + j) 0
   field_right offset k j few h =
       ap (λ (i : ℕ). field_of b i offset) (sym (order_at k j few h))
       ∙ sym (lists_at b (firsts_of b) (firsts_size b) offset k j few h)
@@ -179,17 +185,20 @@ module _ (b : List ℕ) (bytes : OfBytes b) (v : ValidBook 1 b) (r : Rules 1 b) 
       percents (suc (suc p)) h = absurd (omega arith)
 
   entry_right : (k j : ℕ) → k < chains → j < size_of (firsts_of b) k
-      → Stands b (header_size + record_size * (records_before (firsts_of b) k + j)) (record_bytes_of (contents_of b) k j)
+      → Stands b (header_size + record_size * (records_before (firsts_of b) k + j))
+      (record_bytes_of (contents_of b) k j)
   unfolding record_bytes_of contents_of values_of class_of next_of field_of
   entry_right k j few h =
-      let place : header_size + record_size * (records_before (firsts_of b) k + j) ≡ record_at (number_of (firsts_of b) k j) =
+      let place : header_size + record_size * (records_before (firsts_of b) k + j) ≡ record_at
+      (number_of (firsts_of b) k j) =
       omega arith in
       let e = order_at k j few h in
       let rules : RecordRules b 120 k (number_of (firsts_of b) k j) =
       rw e at ((r.chain k few).linked j (links_some b v r k few j h)) in
       let class : class_of b (number_of (firsts_of b) k j) ≡ get_or (firsts_of b) k 0 + j =
       rw (← e, firsts_at b k few) (link_class b v r k few j h) in
-      let next : next_of b (number_of (firsts_of b) k j) ≡ next_for (firsts_of b) k j = rw (← e) (next_right k j few h) in
+      let next : next_of b (number_of (firsts_of b) k j) ≡ next_for (firsts_of b) k j = rw (← e) (next_right k j few h)
+      in
       rw place
       (of_entry b (record_at (number_of (firsts_of b) k j)) k _ _ _ _ _ _
       (record {
@@ -270,7 +279,8 @@ module _ (b : List ℕ) (v : ValidBook 1 b) (r : Rules 1 b) where
       → curve_rate (get_or (each (λ (i : ℕ). signed_of (read_u32 b (curve_place + 4 * i))) 49) j (pos 0)) ≡ true
   unfolding curve_rate
   curve_most bytes =
-      each_all (λ (z : ℤ). curve_rate z ≡ true) (λ (i : ℕ). signed_of (read_u32 b (curve_place + 4 * i))) (pos 0) 49 refl
+      each_all (λ (z : ℤ). curve_rate z ≡ true) (λ (i : ℕ). signed_of (read_u32 b (curve_place + 4 * i))) (pos 0) 49
+      refl
       (λ j l.
       signed_rate (read_u32 b (curve_place + 4 * j)) (u32_small b (curve_place + 4 * j) 0 bytes) (r.tables.curve j l))
 

@@ -10,7 +10,8 @@ use borrow.Author.Tests.{eq-eqb, ne_eqb}
 use lib.ListN.{get_or}
 use Rattle.lists.proofs.Sums.{sum_most, sum_within}
 use Rattle.le_bytes.specs.Bytes.{byte_at, read_u16, two_bytes}
-use Rattle.book.specs.Layout.{header_size, record_size, chains, records, head_place, head_of, record_at, class_of, next_of}
+use Rattle.book.specs.Layout.{header_size, record_size, chains, records, head_place, head_of, record_at, class_of}
+use Rattle.book.specs.Layout.{next_of}
 use Rattle.book.specs.Layout.{field_of, count_offset, lapse_offset, premium_offset, claims_offset, link_from, link_at}
 use Rattle.book.specs.Rules.{RecordRules}
 use Rattle.book.proofs.Links.{link_none, link_next}

@@ -14,7 +14,7 @@ use Rattle.book_contents.specs.Limits.{check_most, curve_rate, check_curve, chec
 use Rattle.book_contents.specs.Limits.{check_edition}
 use Rattle.book_contents.specs.Limits.{check_given_tables, check_lists, check_contents, Shaped}
 use Rattle.book_contents.specs.Reading.{contents_of, InOrder}
-use Rattle.book_contents.specs.Contracts.{not_zero}
+use Rattle.book_contents.specs.CallContracts.{not_zero}
 use Rattle.book_contents.proofs.Accepted.{written_accepted}
 use Rattle.book_contents.proofs.Back.{read_written}
 use Rattle.book_contents.proofs.Ordered.{written_ordered}
@@ -39,7 +39,8 @@ shaped : Shaped one_record.values
 shaped = record { cost = refl; curve = refl; mortality = refl; first = refl }
 
 pub one_record_taken : check_contents one_record 1244 ≡ Accepted 0
-unfolding check_contents check_lengths check_given_percents check_edition check_given_tables check_lists check_most check_curve
+unfolding check_contents check_lengths check_given_percents check_edition check_given_tables check_lists check_most
+    check_curve
     curve_rate
     join_all need ◌and_then◌ within size_of sum_by
 one_record_taken = refl

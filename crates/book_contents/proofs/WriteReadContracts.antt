@@ -21,15 +21,15 @@ use Rattle.book_contents.specs.Contents.{Contents, given, records_before}
 use Rattle.book_contents.specs.Written.{book_of}
 use Rattle.book_contents.specs.Limits.{check_contents, Shaped}
 use Rattle.book_contents.specs.Reading.{values_of, firsts_of, field_list, contents_of, OfBytes, InOrder}
-use Rattle.book_contents.specs.Contracts.{write_refusal, write_place, write_length, write_reply_for}
-use Rattle.book_contents.specs.Contracts.{write_reply}
-use Rattle.book_contents.specs.Contracts.{WriteContract, read_for, read_verdict, ReadContract}
+use Rattle.book_contents.specs.CallContracts.{write_refusal, write_place, write_length, write_reply_for}
+use Rattle.book_contents.specs.CallContracts.{write_reply}
+use Rattle.book_contents.specs.CallContracts.{WriteContract, read_for, read_verdict, ReadContract}
 use Rattle.book_contents.proofs.Accepted.{written_accepted}
 use Rattle.book_contents.proofs.Back.{read_written}
 use Rattle.book_contents.proofs.Again.{written_again, taken_again}
 use Rattle.book_contents.proofs.Projection.{sound_size, book_refused, read_sound}
 use Rattle.book_contents.proofs.ZeroAccepts.{zero_accepts_contents, zero_accepts_read}
-use Rattle.buffer.specs.Replies.{buffer_for}
+use Rattle.text_reply.specs.Replies.{buffer_for}
 
 -- the first numbers of a list, where another follows
 take_first : (l m : List ℕ) (n : ℕ) → length l ≡ n → take n (l ++ m) ≡ l
@@ -88,14 +88,18 @@ module _ (v : Contents) (entry exit : List ℕ) (r : WriteReply) (s : Shaped v.v
 module _ (b counts lapses premiums claims counts' lapses' premiums' claims' : List ℕ) (r : ReadReply)
     (bytes : OfBytes b)
     (reply : r ≡ read_for (read_verdict b counts lapses premiums claims) (values_of b))
-    (counts_are : counts' ≡ buffer_for (read_verdict b counts lapses premiums claims) (field_list b count_offset) counts)
-    (lapses_are : lapses' ≡ buffer_for (read_verdict b counts lapses premiums claims) (field_list b lapse_offset) lapses)
+    (counts_are : counts' ≡ buffer_for (read_verdict b counts lapses premiums claims) (field_list b count_offset)
+    counts)
+    (lapses_are : lapses' ≡ buffer_for (read_verdict b counts lapses premiums claims) (field_list b lapse_offset)
+    lapses)
     (premiums_are : premiums' ≡ buffer_for (read_verdict b counts lapses premiums claims) (field_list b premium_offset)
     premiums)
-    (claims_are : claims' ≡ buffer_for (read_verdict b counts lapses premiums claims) (field_list b claims_offset) claims) where
+    (claims_are : claims' ≡ buffer_for (read_verdict b counts lapses premiums claims)
+    (field_list b claims_offset) claims) where
   -- a reply with refusal 0 is that of an accepted reading
   read_good : r.refusal ≡ 0
-      → read_verdict b counts lapses premiums claims ≡ Accepted (count_of (read_verdict b counts lapses premiums claims))
+      → read_verdict b counts lapses premiums claims ≡ Accepted
+      (count_of (read_verdict b counts lapses premiums claims))
   unfolding ZeroAccepts
   read_good e = zero_accepts_read b _ _ _ _ (sym (ap (λ (q : ReadReply). q.refusal) reply) ∙ e)
 

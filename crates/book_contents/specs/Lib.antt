@@ -2,4 +2,4 @@ pub mod Contents
 pub mod Written
 pub mod Limits
 pub mod Reading
-pub mod Contracts
+pub mod CallContracts

@@ -3,7 +3,8 @@ use Rattle.std.specs.Prelude.{ℕ, ◌+◌, ◌*◌, ◌≤◌, ◌≡◌, Bool,
 use Rattle.verdict.specs.Verdicts.{need, ◌and_then◌, join_all}
 use Rattle.le_bytes.specs.Fields.{within}
 use Rattle.verdict.specs.declared.Verdict.{Verdict}
-use Rattle.book.specs.Layout.{header_size, record_size, first_year, last_year, most_percent, chains, most_rate, curve_lift}
+use Rattle.book.specs.Layout.{header_size, record_size, first_year, last_year, most_percent, chains, most_rate}
+use Rattle.book.specs.Layout.{curve_lift}
 use Rattle.book.specs.Layout.{curve_span, most_count, most_amount}
 use Rattle.book_contents.specs.declared.Values.{Values}
 use Rattle.book_contents.specs.Contents.{Contents, no_class, records_before}

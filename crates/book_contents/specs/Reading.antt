@@ -4,7 +4,8 @@ use Rattle.le_bytes.specs.Bytes.{byte_at, read_u32}
 use Rattle.verdict.specs.Verdicts.{need, ◌and_then◌, count_of}
 use Rattle.verdict.specs.declared.Verdict.{Verdict}
 use Rattle.verdict.specs.declared.Verdict.TheVariants.{Accepted}
-use Rattle.book.specs.Layout.{edition, percent_at, sst_year, records, chains, head_of, class_of, next_of, field_of, link_at}
+use Rattle.book.specs.Layout.{edition, percent_at, sst_year, records, chains, head_of, class_of, next_of, field_of}
+use Rattle.book.specs.Layout.{link_at}
 use Rattle.book.specs.Layout.{cost_place, curve_place, mortality_place, count_offset, lapse_offset, premium_offset}
 use Rattle.book.specs.Layout.{claims_offset}
 use Rattle.book.specs.Check.{check_book}

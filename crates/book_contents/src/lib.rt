@@ -1,5 +1,8 @@
 // What a user who wants a book has, and what the two calls answer: the types. The definitions and
-// theorems of writing and reading stand in specs and proofs, the calls in `writer` and `reader`.
+// theorems of writing and reading stand in specs and proofs, the calls in `book_write` and
+// `book_read`.
+
+#![tactic(auto)]
 
 // The header's values: the edition and its mortality percentages of men and women, both 0 in
 // edition 1; the SST year;
@@ -7,7 +10,7 @@
 // for each of the 14 chains its first class, 121 where it is empty. All are of 64 bits, so that
 // whatever a spreadsheet holds arrives uncut.
 #[repr(C)]
-#[derive(Drop)]
+#[derive(Clone, Copy)]
 pub struct Values {
     pub edition: u64,
     pub men: u64,
@@ -20,7 +23,7 @@ pub struct Values {
 }
 
 // The call that writes: the book's length, or the refusal.
-#[derive(Drop)]
+#[derive(Clone, Copy)]
 pub enum WriteReply {
     Written(usize),
     Refused(u64, usize),
@@ -29,7 +32,7 @@ pub enum WriteReply {
 // The call that reads. Refusal and place are 0 where the book is read; every other field is 0 where
 // it is refused.
 #[repr(C)]
-#[derive(Drop)]
+#[derive(Clone, Copy)]
 pub struct ReadReply {
     pub refusal: u64,
     pub place: usize,

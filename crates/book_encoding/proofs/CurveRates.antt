@@ -36,7 +36,8 @@ module _ (x : ℤ) (d : ℕ) (h : curve_rate x ≡ true) (lo : 10000 ≤ d) (hi 
   raised_back : to_z w64 (of_z w64 (x +ℤ pos d)) ≡ pos (raised x d)
   raised_back = to_z-of_z w64 (x +ℤ pos d) raised_fits ∙ raised_is x d h lo
 
-  pub raised_casts : T (non_neg (to_z w64 (of_z w64 (x +ℤ pos d)))) × Fits w64 (nat_abs (to_z w64 (of_z w64 (x +ℤ pos d))))
+  pub raised_casts : T (non_neg (to_z w64 (of_z w64 (x +ℤ pos d)))) × Fits w64
+      (nat_abs (to_z w64 (of_z w64 (x +ℤ pos d))))
   raised_casts = rw raised_back (tt, record { fits = omega (arith, raised_most x d h) })
 
   pub raised_value : nat_abs (to_z w64 (of_z w64 (x +ℤ pos d))) ≡ raised x d

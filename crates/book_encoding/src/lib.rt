@@ -1,6 +1,8 @@
 // Numbers as the bytes of a book, for the crates that write one: two bytes or four, least byte
 // first, and runs of fields. Each writer takes a place and gives the next one, as those of `text`
 // do.
+#![tactic(auto)]
+
 ghost use Rattle.std.specs.Prelude.{true, ◌≡◌, ℕ, ◌+◌, ◌*◌, ◌<◌, ◌%◌, ◌^◌, pos, length, get_or};
 ghost use Rattle.le_bytes.specs.Bytes.{two_bytes, four_bytes};
 ghost use Rattle.buffer.specs.Text.{Wrote};

@@ -1,5 +1,7 @@
 // Whether contents are refused: the first rule that they break, with place 0. The definition is
 // book_contents/specs/Limits, and the functions here read in its order.
+#![tactic(auto)]
+
 ghost use Rattle.std.specs.Prelude.{◌≡◌};
 ghost use Rattle.book_contents.specs.Contents.{given};
 ghost use Rattle.book_contents.specs.Limits.{check_given_tables, check_lists, check_contents};

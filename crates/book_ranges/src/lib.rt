@@ -1,5 +1,7 @@
 // Numbers that Write takes, each in its range: lists, the curve, and the edition with its
 // percentages and the year. The definition is book_contents/specs/Limits; places are 0.
+#![tactic(auto)]
+
 ghost use Rattle.std.specs.Prelude.{◌≡◌};
 ghost use Rattle.book_contents.specs.Limits.{check_most, curve_rate, check_curve};
 ghost use Rattle.book_contents.specs.Limits.{check_given_percents, check_edition};

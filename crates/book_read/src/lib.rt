@@ -1,9 +1,11 @@
 // The call that reads a book: from any bytes to the header's values and, in four of the caller's
 // buffers, the lists of its chains.
+#![tactic(auto)]
+
 ghost use Rattle.std.specs.Prelude.{◌≡◌};
 ghost use Rattle.verdict.specs.declared.Verdict.TheVariants.{Refused};
 ghost use Rattle.book_contents.specs.Reading.{no_values};
-ghost use Rattle.book_contents.specs.Contracts.{read_for, ReadContract};
+ghost use Rattle.book_contents.specs.CallContracts.{read_for, ReadContract};
 
 use book::{CLAIMS_OFFSET, COUNT_OFFSET, LAPSE_OFFSET, PREMIUM_OFFSET};
 use book_contents::{ReadReply, Values};

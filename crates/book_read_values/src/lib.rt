@@ -1,5 +1,7 @@
 // The values of a book, read. Where a first class is read, the book must be accepted: these
 // functions are for the call that reads, which has that from the check.
+#![tactic(auto)]
+
 ghost use Rattle.std.specs.Prelude.{◌≡◌, ℕ, ◌+◌, ◌*◌, ◌≤◌, ◌<◌, length, set};
 ghost use Rattle.le_bytes.specs.Bytes.{read_u32};
 ghost use Rattle.book_contents.specs.Reading.{signed_of, first_in, firsts_of, values_of, Sound};
@@ -42,7 +44,8 @@ fn set_rate(curve: &mut [i64; 49], j: usize, rate: i64)
 
 fn curve_of(book: &[u8]) -> [i64; 49]
     requires { 1220 ≤ length book.now }
-    ensures { result ≡ each (λ (j : ℕ). signed_of (read_u32 book.now (56 + 4 * j))) 49 }
+    ensures { result ≡ each (λ (j : ℕ). signed_of (read_u32 book.now (56 + 4 * j)))
+        49 }
 {
     let mut curve = [0i64; 49];
     for j in 0usize..49 {

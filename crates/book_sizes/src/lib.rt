@@ -1,5 +1,7 @@
 // How many numbers the lists of a book's chains have, and refusal 22 for buffers of other lengths.
 // The definitions are book_contents/specs/Contents and book_contents/specs/Limits.
+#![tactic(auto)]
+
 ghost use Rattle.std.specs.Prelude.{◌≡◌, ◌≤◌, ◌<◌};
 ghost use Rattle.book_contents.specs.Contents.{size_of, records_before};
 ghost use Rattle.book_contents.specs.Limits.{check_lengths};

@@ -1,15 +1,17 @@
 // The call that writes a book: from the header's values and the lists of its chains to bytes in a
 // caller's buffer.
+#![tactic(auto)]
+
 ghost use Rattle.buffer.specs.Text.{Wrote};
 ghost use Rattle.book_contents.specs.Contents.{given};
 ghost use Rattle.book_contents.specs.Written.{book_of};
 ghost use Rattle.book_contents.specs.Limits.{Fit};
-ghost use Rattle.book_contents.specs.Contracts.{WriteContract};
+ghost use Rattle.book_contents.specs.CallContracts.{WriteContract};
 
 use book_contents::{Values, WriteReply};
 use book_limits::check_contents;
+use book_write_chains::put_chains;
 use book_write_header::put_header;
-use book_write_records::put_chains;
 use verdict::Verdict;
 
 fn put_book(

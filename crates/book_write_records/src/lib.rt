@@ -1,14 +1,13 @@
-// The records of a book, written chain by chain, each of the contents' entries in its record.
-ghost use Rattle.std.specs.Prelude.{[], ◌∷◌, ◌++◌, ◌≡◌, ◌+◌, ◌*◌, ◌<◌, ◌^◌};
-ghost use Rattle.le_bytes.specs.Bytes.{two_bytes};
-ghost use Rattle.book.specs.Layout.{header_size, record_size, chain_code, chain_sex};
-ghost use Rattle.buffer.specs.Text.{Wrote, joined};
-ghost use Rattle.book_contents.specs.Contents.{given, size_of, records_before};
-ghost use Rattle.book_contents.specs.Written.{next_for, encoded_record, chain_bytes};
-ghost use Rattle.book_contents.specs.Limits.{Fit};
+// A record of a book, written: its chain, class and next record, and four numbers.
+#![tactic(auto)]
 
-use book::{CHAINS, HEADER_SIZE};
-use book_contents::Values;
+ghost use Rattle.std.specs.Prelude.{[], ◌∷◌, ◌++◌, ◌≡◌, ◌+◌, ◌<◌, ◌^◌};
+ghost use Rattle.le_bytes.specs.Bytes.{two_bytes};
+ghost use Rattle.book.specs.Layout.{chain_code, chain_sex};
+ghost use Rattle.buffer.specs.Text.{Wrote};
+ghost use Rattle.book_contents.specs.Contents.{records_before};
+ghost use Rattle.book_contents.specs.Written.{next_for, encoded_record};
+
 use book_encoding::{put_four, put_two};
 use book_sizes::size_of;
 use buffer::put_byte;
@@ -33,18 +32,18 @@ fn put_link(out: &mut [u8], at: usize, k: usize, class: u64, next: u64) -> usize
 
 // What a record holds: its chain, its class, the record that follows in the chain (0 after the
 // last), and four numbers.
-#[derive(Drop)]
-struct Record {
-    chain: usize,
-    class: u64,
-    next: u64,
-    count: u64,
-    lapse: u64,
-    premium: u64,
-    claims: u64,
+#[derive(Clone, Copy)]
+pub struct Record {
+    pub chain: usize,
+    pub class: u64,
+    pub next: u64,
+    pub count: u64,
+    pub lapse: u64,
+    pub premium: u64,
+    pub claims: u64,
 }
 
-fn put_record(out: &mut [u8], at: usize, fields: Record) -> usize
+pub fn put_record(out: &mut [u8], at: usize, fields: Record) -> usize
     requires { (at + 25 < 2 ^ 64)
         × (fields.chain < 14)
         × (fields.class < 256) }
@@ -61,7 +60,7 @@ fn put_record(out: &mut [u8], at: usize, fields: Record) -> usize
 }
 
 // The next of entry j of chain k, with so many records before the chain's.
-fn next_for(first: &[u64; 14], k: usize, j: usize, sum: usize) -> u64
+pub fn next_for(first: &[u64; 14], k: usize, j: usize, sum: usize) -> u64
     requires { (k < 14)
         × (sum ≡ records_before first.now k)
         × (sum < 65536)
@@ -72,86 +71,4 @@ fn next_for(first: &[u64; 14], k: usize, j: usize, sum: usize) -> u64
         return 0;
     }
     (sum + (j + 1) + 1) as u64
-}
-
-// A chain of the book of these values: its number, how many records stand before its own, and the
-// place of its first record.
-#[derive(Drop)]
-struct Chain {
-    values: Values,
-    number: usize,
-    before: usize,
-    at: usize,
-}
-
-fn put_chain(
-    out: &mut [u8],
-    chain: Chain,
-    counts: &[u64],
-    lapses: &[u64],
-    premiums: &[u64],
-    claims: &[u64],
-) -> usize
-    requires { (chain.at < 2 ^ 32)
-        × (chain.number < 14)
-        × (chain.before ≡ records_before chain.values.first chain.number)
-        × Fit (given chain.values counts.now lapses.now premiums.now claims.now) }
-    ensures { Wrote out.old chain.at
-        (chain_bytes
-        (given chain.values counts.now lapses.now premiums.now
-        claims.now) chain.number) out.new result
-        × (result ≡ chain.at + record_size * size_of chain.values.first chain.number) }
-{
-    let first = chain.values.first;
-    let k = chain.number;
-    let before = chain.before;
-    let class = first[k];
-    let size = size_of(&first, k);
-    let mut next = chain.at;
-    for j in 0..size {
-        let link = next_for(&first, k, j, before);
-        let i = before + j;
-        let fields = Record {
-            chain: k,
-            class: class + j as u64,
-            next: link,
-            count: counts[i],
-            lapse: lapses[i],
-            premium: premiums[i],
-            claims: claims[i],
-        };
-        next = put_record(out, next, fields);
-    }
-    next
-}
-
-// All records, chain by chain, after the header.
-pub fn put_chains(
-    out: &mut [u8],
-    values: Values,
-    counts: &[u64],
-    lapses: &[u64],
-    premiums: &[u64],
-    claims: &[u64],
-) -> usize
-    requires { Fit (given values counts.now lapses.now premiums.now claims.now) }
-    ensures { Wrote out.old header_size
-        (joined (chain_bytes
-        (given values counts.now lapses.now premiums.now
-        claims.now)) 14) out.new result }
-{
-    let first = values.first;
-    let mut next = HEADER_SIZE;
-    let mut before = 0;
-    for k in 0..CHAINS {
-        let chain = Chain {
-            values,
-            number: k,
-            before,
-            at: next,
-        };
-        next = put_chain(out, chain, counts, lapses, premiums, claims);
-        before = before + size_of(&first, k);
-    }
-    next
 }

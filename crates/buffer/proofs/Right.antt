@@ -6,10 +6,11 @@ use mathlib.Core.Path.{◌≡◌, refl}
 use Prim.Native.Nat.{ℕ, zero, suc, ◌+◌, ◌-◌, ◌*◌, ◌/◌, ◌%◌, ◌≤◌, ◌<◌}
 use native.Mathlib.Omega.{arith}
 use borrow.Author.Tests.{lt-ltb, le-ltb}
+use lib.Dec.{lit≤}
 use lib.IntN.{negsuc}
 use lib.ListN.{length, length-append, get_or, get_or-append}
 use Rattle.buffer.specs.Text.{spelled, decimal, signed}
-use Rattle.buffer.proofs.Digits.{le_or_lt}
+use Rattle.buffer.proofs.Digits.{le_or_lt, decimal_one, decimal_more, decimal_tens, decimal_thousands}
 
 -- the number that a list of digits spells, read from the left
 unfoldable pub read : ℕ → List ℕ → ℕ
@@ -55,10 +56,18 @@ zero_text : decimal 0 ≡ 48 ∷ []
 unfolding decimal spelled
 zero_text = refl
 
+-- By the laws of digits: to compute `decimal` of a number takes the checker as many steps as the number.
 large_text : decimal 41876 ≡ 52 ∷ 49 ∷ 56 ∷ 55 ∷ 54 ∷ []
-unfolding decimal spelled
-large_text = refl
+large_text =
+    rw (
+      decimal_more 41876 (lit≤ tt),
+      decimal_more 4187 (lit≤ tt),
+      decimal_more 418 (lit≤ tt),
+      decimal_more 41 (lit≤ tt),
+      decimal_one 4 (lit≤ tt),
+    )
 
 least_text : signed (negsuc 99999) ≡ 45 ∷ 49 ∷ 48 ∷ 48 ∷ 48 ∷ 48 ∷ 48 ∷ []
-unfolding signed decimal spelled
-least_text = refl
+unfolding signed
+least_text =
+    rw (decimal_thousands 100 (lit≤ tt), decimal_tens 10 (lit≤ tt), decimal_tens 1 (lit≤ tt), decimal_one 1 (lit≤ tt))

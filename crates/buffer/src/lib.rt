@@ -1,17 +1,10 @@
 // Text into the caller's buffer, for the crates above. Each writer takes a place and gives the next
-// one;
-// a byte past the buffer's end is dropped, and the place goes on all the same, so a run of writers
-// says the length of its text whatever the buffer's.
+// one; a byte past the buffer's end is dropped, and the place goes on all the same, so a run of
+// writers says the length of its text whatever the buffer's.
+#![tactic(auto)]
+
 ghost use Rattle.std.specs.Prelude.{◌≡◌, [], ◌∷◌, ◌+◌, ◌<◌, ◌≤◌, ◌^◌, length};
 ghost use Rattle.buffer.specs.Text.{decimal, signed, ended, signed_ended, refusal_text, Wrote};
-
-// What a call that writes a text into a passed buffer replies: the text's length, or the refusal
-// and its place.
-#[derive(Drop)]
-pub enum TextReply {
-    Bytes(usize),
-    Refused(u64, usize),
-}
 
 pub fn put_byte(out: &mut [u8], at: usize, b: u8) -> usize
     requires { at + 1 < 2 ^ 64 }

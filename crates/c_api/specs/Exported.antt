@@ -2,14 +2,14 @@
 -- what each buffer then holds, everything is true that the call's own contract says.
 use Rattle.std.specs.Prelude.{◌≡◌, List, ℕ, ℤ, length, Float}
 use Rattle.book.specs.Check.{check_book}
-use Rattle.book.specs.Contracts.{CheckContract}
-use Rattle.age_basis.specs.Conversion.{convert_check, ConvertContract}
+use Rattle.book.specs.CallContracts.{CheckContract}
+use Rattle.age_basis_definitions.specs.Conversion.{convert_check, ConvertContract}
 use Rattle.valuation.specs.Replies.{group_reply, GroupContract}
 use Rattle.listing.specs.Listing.{listing_reply, ListingContract}
 use Rattle.report_text.specs.Report.{report_reply, report_length_reply, ReportContract, ReportLengthContract}
 use Rattle.book_contents.specs.Contents.{Contents}
-use Rattle.book_contents.specs.Contracts.{write_reply, WriteContract}
-use Rattle.funds.specs.Funds.{funds_reply, FundsContract}
+use Rattle.book_contents.specs.CallContracts.{write_reply, WriteContract}
+use Rattle.fund_definitions.specs.Funds.{funds_reply, FundsContract}
 use Rattle.in_force.specs.InForceRun.{in_force_check, InForceContract}
 use Rattle.claims_variation.specs.Replies.{spread_reply, SpreadContract}
 use Rattle.claims_estimates.specs.declared.Summary.{Summary}

@@ -2,13 +2,15 @@
 // crate below and puts the reply into fields. A slice is a pointer and a length in C. No call
 // relies on an earlier one, and a refusal changes no buffer that was passed; of two funds, nothing
 // of the refused one's half.
+#![tactic(auto)]
+
 ghost use Rattle.std.specs.Prelude.{◌≡◌};
 ghost use Rattle.record_view.specs.RecordView.{located_in};
 ghost use Rattle.valuation.specs.Totals.{TotalsContract};
 ghost use Rattle.cost_rates.specs.Replies.{RatesContract};
 ghost use Rattle.standard_deviation.specs.Deviation.{DeviationContract};
 ghost use Rattle.book_contents.specs.Contents.{given};
-ghost use Rattle.book_contents.specs.Contracts.{ReadContract};
+ghost use Rattle.book_contents.specs.CallContracts.{ReadContract};
 ghost use Rattle.c_api.specs.Exported.{CheckExported, GroupExported, ConvertExported};
 ghost use Rattle.c_api.specs.Exported.{FundsExported};
 ghost use Rattle.c_api.specs.Exported.{ListingExported, ReportExported, ReportLengthExported};

@@ -4,11 +4,11 @@ use Rattle.verdict.specs.Verdicts.{refusal_of, place_of, count_of}
 use Rattle.verdict.specs.declared.Verdict.{Verdict}
 use Rattle.valuation.specs.Replies.{refusal_in, place_in, liability_in, count_in}
 use Rattle.valuation.specs.declared.GroupReply.{GroupReply}
-use Rattle.buffer.specs.Replies.{text_refusal, text_place, text_length}
-use Rattle.buffer.specs.declared.TextReply.{TextReply}
-use Rattle.book_contents.specs.Contracts.{write_refusal, write_place, write_length}
+use Rattle.text_reply.specs.Replies.{text_refusal, text_place, text_length}
+use Rattle.text_reply.specs.declared.TextReply.{TextReply}
+use Rattle.book_contents.specs.CallContracts.{write_refusal, write_place, write_length}
 use Rattle.book_contents.specs.declared.WriteReply.{WriteReply}
-use Rattle.funds.specs.declared.FundsReply.{FundsReply}
+use Rattle.fund_definitions.specs.declared.FundsReply.{FundsReply}
 use Rattle.claims_variation.specs.Replies.{spread_refusal, spread_place, spread_level, spread_mean, spread_coefficient}
 use Rattle.claims_variation.specs.declared.SpreadReply.{SpreadReply}
 use Rattle.c_api_fields.specs.declared.VerdictFields.{VerdictFields}

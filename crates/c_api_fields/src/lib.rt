@@ -2,21 +2,23 @@
 // fields.
 // A refusal is a number above 0 and a place; where there is none both are 0. What a reply does not
 // have is 0.
+#![tactic(auto)]
+
 ghost use Rattle.std.specs.Prelude.{◌≡◌};
 ghost use Rattle.c_api_fields.specs.Fields.{verdict_fields, in_force_fields, group_fields};
 ghost use Rattle.c_api_fields.specs.Fields.{text_fields, write_fields, spread_fields};
 ghost use Rattle.c_api_fields.specs.Fields.{funds_fields};
 
 use book_contents::WriteReply;
-use buffer::TextReply;
 use claims_variation::SpreadReply;
-use funds::FundsReply;
+use fund_definitions::FundsReply;
+use text_reply::TextReply;
 use valuation::GroupReply;
 use verdict::Verdict;
 
 // Of Check and Convert.
 #[repr(C)]
-#[derive(Drop)]
+#[derive(Clone, Copy)]
 pub struct VerdictFields {
     pub refusal: u64,
     pub place: usize,
@@ -42,7 +44,7 @@ pub fn verdict_fields(v: Verdict) -> VerdictFields
 
 // Of In force, whose figures are in the caller's buffer.
 #[repr(C)]
-#[derive(Drop)]
+#[derive(Clone, Copy)]
 pub struct InForceFields {
     pub refusal: u64,
     pub place: usize,
@@ -62,7 +64,7 @@ pub fn in_force_fields(v: Verdict) -> InForceFields
 
 // Of both funds.
 #[repr(C)]
-#[derive(Drop)]
+#[derive(Clone, Copy)]
 pub struct FundsFields {
     pub first: VerdictFields,
     pub second: VerdictFields,
@@ -80,7 +82,7 @@ pub fn funds_fields(reply: FundsReply) -> FundsFields
 }
 
 #[repr(C)]
-#[derive(Drop)]
+#[derive(Clone, Copy)]
 pub struct GroupFields {
     pub refusal: u64,
     pub place: usize,
@@ -109,7 +111,7 @@ pub fn group_fields(reply: GroupReply) -> GroupFields
 
 // Of the calls that write a text, and of the one that gives its length.
 #[repr(C)]
-#[derive(Drop)]
+#[derive(Clone, Copy)]
 pub struct ReportFields {
     pub refusal: u64,
     pub place: usize,
@@ -135,7 +137,7 @@ pub fn text_fields(reply: TextReply) -> ReportFields
 
 // Of the calls that write a book.
 #[repr(C)]
-#[derive(Drop)]
+#[derive(Clone, Copy)]
 pub struct WriteFields {
     pub refusal: u64,
     pub place: usize,
@@ -161,7 +163,7 @@ pub fn write_fields(reply: WriteReply) -> WriteFields
 
 // Level is 1 where the claims are level, else 0.
 #[repr(C)]
-#[derive(Drop)]
+#[derive(Clone, Copy)]
 pub struct SpreadFields {
     pub refusal: u64,
     pub place: usize,

@@ -31,7 +31,11 @@ module _ (b : List ℕ) (s g : ℕ) where
 
 -- no year at first, then one more
 pub in_none : (f : ℕ → ℕ) (m from : ℕ) → InYears f m from from (replicate 50 0)
-in_none f m from = record { are = λ k h l. absurd (omega arith); most = most_higher (most_replicate 50 0) (omega arith) }
+in_none f m from = record {
+  are = λ k h l. absurd (omega arith);
+  most = most_higher (most_replicate 50 0)
+      (omega arith);
+}
 
 pub in_more : (f : ℕ → ℕ) (m from k x : ℕ) (table : List ℕ) → k < length table → InYears f m from k table → x ≡ f k
     → x ≤ m

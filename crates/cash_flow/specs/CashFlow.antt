@@ -10,7 +10,8 @@ use Rattle.valuation.specs.Portfolio.{terms_of, group_cells}
 
 -- step 3 of sums of premium and claims
 unfoldable pub outgo_of : Outgoings → ℕ → ℕ → ℕ → ℕ → ℕ
-outgo_of w k rate premium claims = claims * claims_weight_in w k / 1000 + premium * (rate * costs_in w k) / 1_000_000_000
+outgo_of w k rate premium claims =
+    claims * claims_weight_in w k / 1000 + premium * (rate * costs_in w k) / 1_000_000_000
 
 -- the amounts of the years from `from` to before `to` are f's, and no year's before `to` is above m
 pub record InYears (f : ℕ → ℕ) (m from to : ℕ) (amounts : List ℕ) : Type 0 where

@@ -2,6 +2,8 @@
 // years of a span from the group's year sums.
 // Internal: the functions ask for an accepted book's ranges, which the calls above have from the
 // check.
+#![tactic(auto)]
+
 ghost use Rattle.std.specs.Prelude.{◌≡◌, ◌≤◌};
 ghost use Rattle.book.specs.Reading.{ValidBook};
 ghost use Rattle.settings_outgo.specs.Outgoings.{OutgoWeighed, SettingOf};
@@ -52,14 +54,14 @@ pub fn counted(k: usize, premium: u64, outgo: u64) -> u64
 }
 
 // Premium after the cap and outgo, year by year.
-#[derive(Drop)]
+#[derive(Clone, Copy)]
 pub struct Years {
     pub premium: [u64; 50],
     pub outgo: [u64; 50],
 }
 
 // The years from k = `from` to before k = `to`.
-#[derive(Drop)]
+#[derive(Clone, Copy)]
 pub struct Span {
     pub from: usize,
     pub to: usize,

@@ -47,7 +47,8 @@ module _ (b : List ℕ) (sex i k : ℕ) where
 
   Stays : ℕ → Type 0
   Stays setting =
-      rate_of b sex i (persistency_column setting k) ≡ one_less (field_of b i lapse_offset) (lapse_in (decrements_of b setting) k)
+      rate_of b sex i (persistency_column setting k) ≡ one_less (field_of b i lapse_offset) (lapse_in
+      (decrements_of b setting) k)
 
   column_persistency : (setting : ℕ) → setting < 8 → Stays setting
   unfolding Stays rate_of persistency_column decrements_of weight_of

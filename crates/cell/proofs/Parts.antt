@@ -24,7 +24,8 @@ module _ (t : List ℕ) (at : ℕ) (share : ShareAt t at) (x q : ℕ) (few : x �
       (le_trans (part_below x _ 1000000000 _ q (omega arith) share.fraction_is upper)
       (mul-le-mul_left x share.most)) (omega arith)
 
-  pub short : (1000000000 < 9223372036854775808) × (q < 18446744073709551615) × (q * 1000000000 ≤ x * get_or t (at + 8) 0)
+  pub short : (1000000000 < 9223372036854775808) × (q < 18446744073709551615)
+      × (q * 1000000000 ≤ x * get_or t (at + 8) 0)
       × (x * get_or t (at + 8) 0 < q * 1000000000 + 2 * 1000000000)
   short =
       part_short x _ 1000000000 _ q 100000000000000 (omega arith) share.fraction_is upper few (omega arith)

@@ -1,6 +1,8 @@
 // A cell of a chain whose rows are read: its state by value, from year to year of a setting, and
 // what it adds to a year.
-// Internal: the functions ask for rows as `rows` reads them from an accepted book.
+// Internal: the functions ask for rows as `chain_rows` reads them from an accepted book.
+#![tactic(auto)]
+
 ghost use Rattle.std.specs.Prelude.{◌≡◌, ◌+◌, ◌*◌, ◌<◌, ◌≤◌};
 ghost use Rattle.settings_columns.specs.Columns.{survives_in, persists_in};
 ghost use Rattle.rate_table.specs.Rows.{row_count, a_row};
@@ -29,7 +31,7 @@ fn part(x: u64, rows: &RateTable, at: usize) -> u64
 
 // A cell in one year: the row of its chain that holds for it, and what is in force, in billionths
 // of a contract.
-#[derive(Drop)]
+#[derive(Clone, Copy)]
 pub struct Cell {
     pub row: usize,
     pub inforce: u64,
@@ -67,7 +69,8 @@ impl Cell {
         requires { Ready rows.now self
             × (survives_in columns k ≤ 5)
             × (persists_in columns k ≤ 5) }
-        ensures { result ≡ next_by rows.now (survives_in columns k) (persists_in columns k) self }
+        ensures { result ≡ next_by rows.now (survives_in columns k)
+            (persists_in columns k) self }
     {
         self.next_by(rows, columns.survives(k), columns.persists(k))
     }

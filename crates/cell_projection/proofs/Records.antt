@@ -19,7 +19,8 @@ use Rattle.cell_projection.proofs.Years.{added_same, amount_each, amount_premium
 use Rattle.cell_projection.proofs.Single.{chosen_same, chosen_le, chosen_at}
 
 -- a search of two functions that agree
-first_same : (f g : ℕ → ℕ) (left k : ℕ) → ((j : ℕ) → j < k + left → f j ≡ g j) → first_zero f k left ≡ first_zero g k left
+first_same : (f g : ℕ → ℕ) (left k : ℕ) → ((j : ℕ) → j < k + left → f j ≡ g j)
+    → first_zero f k left ≡ first_zero g k left
 unfolding first_zero
 first_same f g zero k h = refl
 first_same f g (suc left) k h = rw (h k (omega arith), first_same f g left (k + 1) (λ j l. h j (omega arith)))
@@ -33,13 +34,13 @@ module _ (b : List ℕ) (chain i : ℕ) (s : Standing b 120 chain i) (t : List �
   unfolding amount_by amount_at premium_at claims_at
   amount_same m h = by (eqb (m % 2) 0)
     where
-      premiums : premium_by (cell_in t own n (m % 10 / 2)) (m / 10) ≡ premium_by (cell_of b (decrements_of b (m % 10 / 2)) j)
-          (m / 10)
+      premiums : premium_by (cell_in t own n (m % 10 / 2)) (m / 10)
+          ≡ premium_by (cell_of b (decrements_of b (m % 10 / 2)) j) (m / 10)
       premiums = rw (count-is, record_is)
           (premium_same b chain i s t rows own fits (m % 10 / 2) (omega arith) (m / 10) (omega arith))
 
-      claims : claims_by (cell_in t own n (m % 10 / 2)) (m / 10) ≡ claims_by (cell_of b (decrements_of b (m % 10 / 2)) j)
-          (m / 10)
+      claims : claims_by (cell_in t own n (m % 10 / 2)) (m / 10)
+          ≡ claims_by (cell_of b (decrements_of b (m % 10 / 2)) j) (m / 10)
       claims = rw (count-is, record_is)
           (claims_same b chain i s t rows own fits (m % 10 / 2) (omega arith) (m / 10) (omega arith))
 
@@ -81,10 +82,12 @@ amount_in_le b which chain i s j = chosen_le which (amount_at b i) j _ (amount_a
 module _ (b : List ℕ) (which k s i : ℕ) (among : Among which s) (h : s < 5) (year : k < 50) where
   pub premium_column_at : amount_in b which i (10 * k + 2 * s) ≡ premium_at b (decrements_of b s) i k
   unfolding amount_in amount_at premium_at
-  premium_column_at = chosen_at which (amount_at b i) s (10 * k + 2 * s) among h (omega arith) (omega arith) ∙ amount_premium
-      (λ x. cell_of b (decrements_of b x) i) k s h
+  premium_column_at =
+      chosen_at which (amount_at b i) s (10 * k + 2 * s) among h (omega arith) (omega arith)
+      ∙ amount_premium (λ x. cell_of b (decrements_of b x) i) k s h
 
   pub claims_column_at : amount_in b which i (10 * k + 2 * s + 1) ≡ claims_at b (decrements_of b s) i k
   unfolding amount_in amount_at claims_at
-  claims_column_at = chosen_at which (amount_at b i) s (10 * k + 2 * s + 1) among h (omega arith) (omega arith) ∙ amount_claims
-      (λ x. cell_of b (decrements_of b x) i) k s h
+  claims_column_at =
+      chosen_at which (amount_at b i) s (10 * k + 2 * s + 1) among h (omega arith) (omega arith)
+      ∙ amount_claims (λ x. cell_of b (decrements_of b x) i) k s h

@@ -200,9 +200,11 @@ module _ (t : List ℕ) (r n s m to k : ℕ) (c : Cell) (u v : List ℕ) (run : 
         omega (arith, before),
         record {
           state = ec ∙ rw run.2.state (state_next t r n s k);
-          going = going_on (cell_in t r n s) k h (λ z. omega (arith, some, in_force_lem t r n s k c run.2, z)) run.2.going;
+          going = going_on (cell_in t r n s) k h (λ z. omega (arith, some, in_force_lem t r n s k c run.2, z))
+              run.2.going;
         },
-        added_join (only_years (amount_by (cell_in t r n)) s m k) (only_years (amount_by (cell_in t r n)) s k (k + 1)) _ 500 u v
+        added_join (only_years (amount_by (cell_in t r n)) s m k) (only_years (amount_by (cell_in t r n)) s k
+            (k + 1)) _ 500 u v
             v' run.3
             (ev ∙ rw run.2.state
             (year_added (amount_by (cell_in t r n)) s k l h v _ _
@@ -226,7 +228,8 @@ module _ (t : List ℕ) (r n s m to k : ℕ) (c : Cell) (u v : List ℕ) (stop :
   -- before the end nothing is in force: it has no later years
   pub stopped_early : k < to → to ≤ 50 → ProjectedIn t r n s m k u v
   stopped_early early all =
-      let z : in_force rounded (cell_in t r n s) k ≡ 0 = sym (in_force_lem t r n s k c stop.reached) ∙ stop.ended early in
+      let z : in_force rounded (cell_in t r n s) k ≡ 0 =
+      sym (in_force_lem t r n s k c stop.reached) ∙ stop.ended early in
       record {
         sums = stop.sums ∙ added_same _ _ 500 u (λ j l. within_ended (cell_in t r n) s k z m j l);
         years_are = going_ends (cell_in t r n s) k (omega (arith, early, all)) z stop.reached.going;
@@ -243,7 +246,8 @@ module _ (t : List ℕ) (r n s m to k : ℕ) (c : Cell) (u v : List ℕ) (stop :
       → ProjectedIn t r n s m years u w
   stopped_then h all years w rest = record {
     sums = added_join
-        (only_years (amount_by (cell_in t r n)) s m k) (only_years (amount_by (cell_in t r n)) s k 50) _ 500 u v w stop.sums
+        (only_years (amount_by (cell_in t r n)) s m k) (only_years (amount_by (cell_in t r n)) s k 50) _ 500 u v w
+        stop.sums
         (rw (at_end h) rest.sums) (λ j a. within_join _ s m k j 50 stop.since (omega (arith, at_end h, all)));
     years_are = rest.years_are;
   }

@@ -44,8 +44,8 @@ added_at f (suc n) t j h l =
     (eq-or-lt_of_le (le_of_suc-le-suc h))
 
 -- one number more
-pub added_more : (f : ℕ → ℕ) (n : ℕ) (t u v : List ℕ) (x : ℕ) → u ≡ added f n t → v ≡ set u n (get_or u n 0 + x) → x ≡ f n
-    → v ≡ added f (n + 1) t
+pub added_more : (f : ℕ → ℕ) (n : ℕ) (t u v : List ℕ) (x : ℕ) → u ≡ added f n t → v ≡ set u n (get_or u n 0 + x)
+    → x ≡ f n → v ≡ added f (n + 1) t
 unfolding added
 added_more f n t u v x e w h = w ∙ rw (add-one n) (cc)
 
@@ -65,7 +65,8 @@ unfolding added
 added_rest f n zero t h = ap (λ (x : ℕ). added f x t) (zero-add n)
 added_rest f n (suc m) t h =
     let u = added f (m + n) t in
-    let same : get_or u (m + n) 0 + f (m + n) ≡ get_or u (m + n) 0 = omega (arith, h (m + n) (omega arith) (omega arith)) in
+    let same : get_or u (m + n) 0 + f (m + n) ≡ get_or u (m + n) 0 =
+    omega (arith, h (m + n) (omega arith) (omega arith)) in
     let before = added_rest f n m t (λ j g l. h j g (omega arith)) in
     rw (suc-add m n) (ap (set u (m + n)) same ∙ set-get_or u (m + n) 0 ∙ before)
 

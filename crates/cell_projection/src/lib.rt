@@ -1,6 +1,8 @@
 // A cell in one projection through the fifty years, which ends at its own first year with nothing
 // in force and returns how many years it computed (W-203).
-// Internal: the functions ask for rows as `rate_table` reads them from an accepted book.
+// Internal: the functions ask for rows as `chain_rows` reads them from an accepted book.
+#![tactic(auto)]
+
 ghost use Rattle.std.specs.Prelude.{◌≡◌, ◌+◌, ◌*◌, ◌<◌, ◌≤◌, ◌^◌, get_or, set};
 ghost use Rattle.lists.specs.AtMost.{AtMost};
 ghost use Rattle.settings_columns.specs.Columns.{columns_of};
@@ -24,21 +26,21 @@ pub type YearSums = [u64; YEARS * A_YEAR];
 
 // What a projection starts from: a model point, in document 01 a cell. The row of its chain that
 // holds in year 0, and the number of its contracts.
-#[derive(Drop)]
+#[derive(Clone, Copy)]
 pub struct ModelPoint {
     pub row: usize,
     pub count: u64,
 }
 
 // A year of a projection, and the state in it.
-#[derive(Drop)]
+#[derive(Clone, Copy)]
 pub struct CellInYear {
     pub k: usize,
     pub cell: Cell,
 }
 
 // Years of a projection: from one to before another, and the state in the first.
-#[derive(Drop)]
+#[derive(Clone, Copy)]
 struct Stretch {
     from: usize,
     to: usize,

@@ -1,5 +1,7 @@
 // Mean, deviation and coefficient of yearly claims (FINMA 5.2.4.2), out of a five-number summary
 // and two sample factors. It works in doubles: each operation rounds once, in the paper's order.
+#![tactic(auto)]
+
 ghost use Rattle.std.specs.Prelude.{◌≡◌, ◌≤◌};
 ghost use Rattle.claims_estimates.specs.Estimates.{double, mean_of, deviation_of, estimates_of};
 ghost use Rattle.claims_estimates.specs.Ranked.{Ranked};
@@ -7,7 +9,7 @@ ghost use Rattle.claims_estimates.specs.Ranked.{Ranked};
 // Yearly claims per contract in whole centimes: the lowest, the three quartiles, the second of
 // which is the median, and the highest.
 #[repr(C)]
-#[derive(Drop)]
+#[derive(Clone, Copy)]
 pub struct Summary {
     pub lowest: u64,
     pub quartile1: u64,
@@ -17,14 +19,14 @@ pub struct Summary {
 }
 
 // What the range and the quartiles' distance are divided by, by the size of the sample.
-#[derive(Drop)]
+#[derive(Clone, Copy)]
 pub struct SampleFactors {
     pub xi: f64,
     pub eta: f64,
 }
 
 // What is estimated of the claims. The coefficient is the deviation over the mean.
-#[derive(Drop)]
+#[derive(Clone, Copy)]
 pub struct Estimates {
     pub mean: f64,
     pub deviation: f64,

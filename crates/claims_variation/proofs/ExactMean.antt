@@ -6,7 +6,7 @@ use native.Mathlib.Nat.{mul-pos, mul_assoc, mul_comm, mul_left_comm, mul_right_c
 use native.Mathlib.Nat.{lt_of_lt_of_le, mul-lt-mul_of_pos_right}
 use native.Mathlib.Omega.{arith}
 use lib.Dec.{lit<, lit≤}
-use lib.Ieee.{Float, fin, binary64, up, down, div, of_int, round}
+use lib.Ieee.{Float, nan, inf, fin, binary64, up, down, div, of_int, round}
 use lib.Ieee.Back.{round_whole}
 use lib.Ieee.Exact.{HasValue, round_exact}
 use lib.Ieee.Fits.{down_pos}
@@ -16,6 +16,8 @@ use Rattle.claims_estimates.specs.declared.Summary.{Summary}
 
 -- the same double as a fraction in lower terms
 lower : (x : Float) (k d n c : ℕ) → 0 < d → k ≡ n * d → HasValue x false k (c * d) → HasValue x false n c
+lower nan k d n c p is h = elim h [ ]
+lower (inf _) k d n c p is h = elim h [ ]
 lower (fin t m e) k d n c p is h = (
   h.0,
   eq_of_mul-eq-mul_right d p (m * up e * c) (n * down e)
@@ -31,6 +33,8 @@ capacity n small = lt_of_lt_of_le (mul-lt-mul_of_pos_right small (lit< tt)) (lit
 -- an eighth of a whole number below 2 ^ 53 is a double, so nothing is rounded
 eighth : (x : Float) (n : ℕ) → n < 2 ^ 53 → HasValue x false n 1 → HasValue (div binary64 x eight) false n 8
 unfolding div
+eighth nan n small h = elim h [ ]
+eighth (inf _) n small h = elim h [ ]
 eighth (fin true m e) n small h = absurd (true≢false h.0)
 eighth (fin false m e) n small h =
     let w : m * up e * 1 ≡ n * down e = h.1 in

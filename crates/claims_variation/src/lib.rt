@@ -1,5 +1,7 @@
 // The spread of yearly claims (FINMA 5.2.4.2): mean and coefficient out of a five-number summary
 // and two sample factors, or what is refused of them.
+#![tactic(auto)]
+
 ghost use Rattle.std.specs.Prelude.{◌≡◌};
 ghost use Rattle.claims_variation.specs.Refusals.{rising, within_limit, bad_factor};
 ghost use Rattle.claims_variation.specs.Refusals.{check_spread};
@@ -9,7 +11,7 @@ use claims_estimates::{SampleFactors, Summary};
 use verdict::Verdict;
 
 // Mean and coefficient; the mean alone where all claims are alike; a refusal's number and place.
-#[derive(Drop)]
+#[derive(Clone, Copy)]
 pub enum SpreadReply {
     Coefficient(f64, f64),
     Level(f64),

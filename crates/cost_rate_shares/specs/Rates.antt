@@ -36,7 +36,8 @@ is_empty a group = none_in a.stock group && none_in a.claims group && none_in a.
 
 -- step 5: the group's rate, the three years' rates averaged; 0 for an empty group
 unfoldable pub accounts_rate : Accounts → ℕ → ℕ
-accounts_rate a group = cond (is_empty a group) 0 ((year_rate a 0 group + year_rate a 1 group + year_rate a 2 group) / 3)
+accounts_rate a group =
+    cond (is_empty a group) 0 ((year_rate a 0 group + year_rate a 1 group + year_rate a 2 group) / 3)
 
 -- the five rates, PG1 first
 unfoldable pub rates_of : Accounts → List ℕ

@@ -1,5 +1,7 @@
 // Three years of expenses over the five product groups (FINMA 4.4.8): each year's are split once by
 // stock and once by claims, and divided by the premium.
+#![tactic(auto)]
+
 ghost use Rattle.std.specs.Prelude.{◌≡◌, ◌≤◌, ◌<◌};
 ghost use Rattle.lists.specs.AtMost.{AtMost};
 ghost use Rattle.cost_rate_shares.specs.Rates.{figure, year_sum, lowered, share, year_rate};
@@ -9,7 +11,7 @@ ghost use Rattle.cost_rate_shares.specs.Usable.{Bounded, Usable};
 // Three years, in the order in which they are given. The figure of year y, 0 to 2, and group g, 0
 // for PG1 to 4 for PG5, stands at 5 y + g. Stock is in contracts, all else in francs.
 #[repr(C)]
-#[derive(Drop)]
+#[derive(Clone, Copy)]
 pub struct Accounts {
     pub expenses: [u64; 3],
     pub stock: [u64; 15],
@@ -65,7 +67,10 @@ fn share(expenses: [u64; 3], split: [u64; 15], year: usize, group: usize) -> u64
 // Both shares over twice the premium: one division, so that nothing is rounded between the average
 // and the rate.
 fn year_rate(accounts: Accounts, year: usize, group: usize) -> u64
-    requires { (year < 3) × (group < 5) × Usable accounts × (0 < figure accounts.premium year group) }
+    requires { (year < 3)
+        × (group < 5)
+        × Usable accounts
+        × (0 < figure accounts.premium year group) }
     ensures { (result ≡ year_rate accounts year group)
         × (result ≤ 1900000000000000) }
 {

@@ -1,4 +1,3 @@
-pub mod Usable
 pub mod Shares
 pub mod Replied
 pub mod RatesContract

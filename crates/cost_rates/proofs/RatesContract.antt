@@ -10,9 +10,12 @@ use Rattle.cost_rate_shares.specs.declared.Accounts.{Accounts}
 use Rattle.cost_rate_shares.specs.Rates.{rates_of}
 use Rattle.cost_rate_shares.specs.Usable.{Usable}
 use Rattle.cost_rates.specs.declared.CostRates.{CostRates}
-use Rattle.cost_rates.specs.Refusals.{highest_rate, all_at_most, within_limits, can_compute}
+use Rattle.cost_rate_limits.specs.Limits.{all_at_most, within_limits}
+use Rattle.cost_rate_divisors.specs.Divisors.{can_compute}
+use Rattle.cost_rates.specs.Refusals.{highest_rate}
 use Rattle.cost_rates.specs.Replies.{cost_rates, RatesContract}
-use Rattle.cost_rates.proofs.Usable.{each_at_most, bounded, usable}
+use Rattle.cost_rate_limits.proofs.Bounded.{each_at_most, bounded}
+use Rattle.cost_rate_divisors.proofs.Usable.{usable}
 use Rattle.cost_rates.proofs.Shares.{split_whole}
 use Rattle.cost_rates.proofs.Replied.{replied_17, replied_18, replied_19, replied_rates}
 

@@ -6,7 +6,9 @@ use Rattle.verdict.specs.Verdicts.{need, ◌and_then◌}
 use Rattle.verdict.specs.declared.Verdict.TheVariants.{Accepted, Refused}
 use Rattle.cost_rate_shares.specs.declared.Accounts.{Accounts}
 use Rattle.cost_rate_shares.specs.Rates.{rates_of}
-use Rattle.cost_rates.specs.Refusals.{highest_rate, all_at_most, within_limits, can_compute, check_accounts}
+use Rattle.cost_rate_limits.specs.Limits.{all_at_most, within_limits}
+use Rattle.cost_rate_divisors.specs.Divisors.{can_compute}
+use Rattle.cost_rates.specs.Refusals.{highest_rate, check_accounts}
 use Rattle.cost_rates.specs.Replies.{rates_reply_for, cost_rates}
 
 module _ (a : Accounts) where

@@ -12,7 +12,8 @@ use Rattle.cost_rates.specs.Refusals.{highest_rate, check_accounts}
 -- the five rates, or the refusal and 0 in every other field
 abbrev pub rates_reply_for : Verdict → List ℕ → CostRates
 rates_reply_for (Accepted n) rates = record { refusal = 0; place = 0; rates = rates }
-rates_reply_for (Refused number place) rates = record { refusal = number; place = place; rates = 0 ∷ 0 ∷ 0 ∷ 0 ∷ 0 ∷ [] }
+rates_reply_for (Refused number place) rates =
+    record { refusal = number; place = place; rates = 0 ∷ 0 ∷ 0 ∷ 0 ∷ 0 ∷ [] }
 
 -- the reply to accounts
 unfoldable pub cost_rates : Accounts → CostRates

@@ -99,7 +99,8 @@ module _ (divisors : List ℕ) (to : ℕ) (before : List ℕ) where
       → DiscountedIn divisors (j - 1) to before u → Stepped divisors j to u v → DiscountedIn divisors j to before v
   in_more j u v some lj lt low p s = record { each = λ k h. ⊎_elim (reached k h) (passed k h) (eq-zero-or-pos (j - k)) }
     where
-      reached : (k : ℕ) → k < to → j - k ≡ 0 → Discounted (get_or divisors k 0) (min j k) (get_or before k 0) (get_or v k 0)
+      reached : (k : ℕ) → k < to → j - k ≡ 0
+          → Discounted (get_or divisors k 0) (min j k) (get_or before k 0) (get_or v k 0)
       reached k h l =
           let d = get_or divisors k 0 in
           let e : min j k ≡ j = omega arith in
@@ -112,7 +113,8 @@ module _ (divisors : List ℕ) (to : ℕ) (before : List ℕ) where
             most = rw t (back_most d j (get_or u k 0) (low k h) some (omega arith) y.most);
           })
 
-      passed : (k : ℕ) → k < to → 0 < j - k → Discounted (get_or divisors k 0) (min j k) (get_or before k 0) (get_or v k 0)
+      passed : (k : ℕ) → k < to → 0 < j - k
+          → Discounted (get_or divisors k 0) (min j k) (get_or before k 0) (get_or v k 0)
       passed k h l =
           let e : min (j - 1) k ≡ min j k = omega arith in
           rw (s.earlier k (omega arith), ← e) (p.each k h)

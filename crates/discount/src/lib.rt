@@ -2,6 +2,8 @@
 // steps of all years.
 // Internal: the functions ask for an accepted book's ranges, which the calls above have from the
 // check.
+#![tactic(auto)]
+
 ghost use Rattle.std.specs.Prelude.{◌≡◌, ◌*◌, ◌/◌, ◌<◌, ◌≤◌, get_or, set};
 ghost use Rattle.lists.specs.AtMost.{AtMost};
 ghost use Rattle.discount.specs.Discount.{Divisor, Divisors, Stepped, DiscountedIn};

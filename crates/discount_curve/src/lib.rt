@@ -1,5 +1,7 @@
 // The curve of a book: the divisor of each year and its fraction, from the rates in the header.
 // Internal: it asks for an accepted book, which the calls above have from the check.
+#![tactic(auto)]
+
 ghost use Rattle.std.specs.Prelude.{◌≡◌, ◌*◌, ◌<◌, ◌≤◌};
 ghost use Rattle.arith.specs.Fractions.{IsFraction};
 ghost use Rattle.book.specs.Reading.{ValidBook};
@@ -34,7 +36,7 @@ pub fn fraction_of(d: u64) -> u64
 
 // The divisor of each year, and the fraction by which an amount goes a year back: the divisions,
 // made once for all groups and settings.
-#[derive(Drop)]
+#[derive(Clone, Copy)]
 pub struct Curve {
     pub divisors: [u64; 50],
     pub fractions: [u64; 50],

@@ -1,2 +1,1 @@
-pub mod Fives
-pub mod Least
+pub mod AllYears

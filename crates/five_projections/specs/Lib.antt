@@ -1,2 +1,1 @@
-pub mod Five
-pub mod SideBySide
+pub mod Projected

@@ -1,22 +1,19 @@
 // One fund on the tables of a table file: its reply, and its eight totals in the caller's buffer.
 // A fund is computed as the book that its file and the table file make together.
+#![tactic(auto)]
+
 ghost use Rattle.std.specs.Prelude.{◌≡◌, ◌++◌, ◌+◌, ◌≤◌, length, take, drop};
 ghost use Rattle.book.specs.Layout.{most_size};
 ghost use Rattle.valuation.specs.Totals.{TotalsContract};
 ghost use Rattle.buffer.specs.Text.{Wrote};
-ghost use Rattle.fund_totals.specs.Fund.{front_size, table_size, joined_book};
-ghost use Rattle.fund_totals.specs.Valued.{FundValued};
+ghost use Rattle.fund_definitions.specs.Fund.{front_size, table_size, joined_book};
+ghost use Rattle.fund_definitions.specs.Valued.{FundValued};
 
-use book::{CURVE_PLACE, HEADER_SIZE, MOST_SIZE};
+use book::MOST_SIZE;
 use buffer::put_bytes;
+use fund_definitions::{FRONT_SIZE, TABLE_SIZE};
 use valuation::TotalsReply;
 use verdict::Verdict;
-
-// What a fund file has before its records.
-pub const FRONT_SIZE: usize = CURVE_PLACE;
-
-// The table file.
-pub const TABLE_SIZE: usize = HEADER_SIZE - CURVE_PLACE;
 
 // Writes a fund's joined book from the start of the caller's buffer, and answers its length.
 fn join(book: &mut [u8], table: &[u8], fund: &[u8]) -> usize

@@ -1,25 +1,13 @@
 // The call for two funds on the same tables: both replies, and both funds' eight totals in the
 // caller's buffer. Neither fund's refusal holds back the other.
-ghost use Rattle.std.specs.Prelude.{◌≡◌};
-ghost use Rattle.fund_totals.specs.Fund.{check_lent};
-ghost use Rattle.funds.specs.Funds.{FundsContract};
+#![tactic(auto)]
 
-use fund_totals::{TABLE_SIZE, value_fund};
+ghost use Rattle.fund_definitions.specs.Funds.{FundsContract};
+
+use fund_arguments::check_arguments;
+use fund_definitions::FundsReply;
+use fund_totals::value_fund;
 use verdict::Verdict;
-
-// Each accepted with n, or refused.
-#[derive(Drop)]
-pub struct FundsReply {
-    pub first: Verdict,
-    pub second: Verdict,
-}
-
-// What is tested for both funds.
-fn check_arguments(count: usize, table: &[u8]) -> Verdict
-    ensures { result ≡ check_lent count table.now }
-{
-    verdict::need(16 <= count, 16, 0).require(table.len() == TABLE_SIZE, 24, 0)
-}
 
 // The first fund's totals come in numbers 0 to 7, the second's in 8 to 15; a refused fund's stay as
 // they were.

@@ -1,9 +1,11 @@
 // Draws out of two 64-bit words. The definitions are in specs/Draws.
+#![tactic(auto)]
+
 ghost use Rattle.std.specs.Prelude.{◌≡◌};
 ghost use Rattle.generator.specs.Draws.{xorshift, step, draw_of};
 
 // The word that begins as the start number, and the counter.
-#[derive(Drop)]
+#[derive(Clone, Copy)]
 pub struct GeneratorState {
     pub word: u64,
     pub counter: u64,

@@ -1,4 +1,6 @@
 // The call Group: a product group's liability in a setting, its n, and its year table.
+#![tactic(auto)]
+
 ghost use Rattle.std.specs.Prelude.{◌≡◌};
 ghost use Rattle.valuation.specs.Replies.{group_check, GroupContract};
 

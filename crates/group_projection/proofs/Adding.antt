@@ -185,6 +185,10 @@ module _ (f : ℕ → ℕ → ℕ) (b : List ℕ) (small : Small f b) (k : ℕ) 
           (most_higher (counted_most (120 - class_of b (head_of b k)) (head_of b k) (omega arith)
           (head_chain b v k few (head_of b k) _ refl some refl) a) (omega arith))
 
+-- the table before the first chain
+unfoldable pub zeros : List ℕ
+zeros = replicate 500 0
+
 -- What a run over the chains of a group keeps, before chain k of those up to `to`.
 abbrev pub Gather : (ℕ → ℕ → ℕ) → List ℕ → ℕ → ℕ → List ℕ → ℕ → List ℕ → Type 0
 Gather f b from to t₀ k t =

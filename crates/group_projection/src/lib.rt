@@ -2,6 +2,8 @@
 // five projections that serve all settings.
 // Internal: the functions ask for an accepted book's rules, which the calls above have from the
 // check.
+#![tactic(auto)]
+
 ghost use Rattle.std.specs.Prelude.{◌≡◌, ◌+◌, ◌*◌, ◌<◌, ◌≤◌, replicate};
 ghost use Rattle.lists.specs.AtMost.{AtMost};
 ghost use Rattle.book.specs.Cells.{first_chain, chains_of};
@@ -103,7 +105,7 @@ fn add_chain(
     if head == 0 {
         return 0;
     }
-    rate_table::read_rows(book, w, k, head, rows);
+    chain_rows::read_rows(book, w, k, head, rows);
     add_cells(book, k, head, which, rows, sums)
 }
 

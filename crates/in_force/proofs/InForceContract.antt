@@ -1,44 +1,26 @@
 -- What the refusals say, and that the promise follows from the reply and the caller's numbers. Assumes nothing.
 use mathlib.Core.Path.{◌≡◌, sym, ap, ◌∙◌}
 use mathlib.Core.List.{List, ◌++◌}
-use Prim.Native.Nat.{ℕ, ◌<◌, ◌≤◌}
+use Prim.Native.Nat.{ℕ, ◌<◌}
 use native.Mathlib.Nat.{pos_of_ne-zero}
-use borrow.Author.Tests.{ltb-true, leb-true, eqb-false, eq-eqb, ne_eqb, not-true}
+use borrow.Author.Tests.{eqb-false, eq-eqb, ne_eqb, not-true}
 use lib.ListN.{length, drop}
 use Rattle.lists.proofs.Each.{each_length}
 use Rattle.verdict.specs.Verdicts.{need, ◌and_then◌, count_of}
 use Rattle.verdict.specs.declared.Verdict.{Verdict}
 use Rattle.verdict.specs.declared.Verdict.TheVariants.{Accepted, Refused}
 use Rattle.verdict.proofs.Verdicts.{need_true, then_left, then_right, ZeroAccepts, zero_accepts_need, zero_accepts_then}
-use Rattle.le_bytes.proofs.Ranges.{within_means}
-use Rattle.buffer.specs.Replies.{buffer_for}
+use Rattle.text_reply.specs.Replies.{buffer_for}
 use Rattle.book.specs.Check.{check_book}
 use Rattle.book.specs.Rules.{Rules}
 use Rattle.book.specs.Reading.{ValidBook}
 use Rattle.book.proofs.Valid.{valid}
 use Rattle.book.proofs.Numbers.{zero_accepted}
 use Rattle.book.proofs.Exact.{accepted_rules}
-use Rattle.in_force.specs.InForceRun.{record_at_class, asked_check, in_force_check, in_force_run, in_force_numbers}
-use Rattle.in_force.specs.InForceRun.{OnlyOne, InForceContract}
-use Rattle.in_force.proofs.Records.{only_one}
-
--- what the caller's own tests leave
-module _ (setting code sex numbers n : ℕ) (e : asked_check setting code sex numbers ≡ Accepted n) where
-  pub asked_setting : setting < 8
-  unfolding asked_check
-  asked_setting = ltb-true _ _ (need_true _ _ _ _ (then_left _ _ _ (then_left _ _ _ (then_left _ _ _ e))))
-
-  pub asked_code : (1 ≤ code) × (code ≤ 7)
-  unfolding asked_check
-  asked_code = within_means _ _ _ (need_true _ _ _ _ (then_right _ _ _ (then_left _ _ _ (then_left _ _ _ e))))
-
-  pub asked_sex : sex ≤ 1
-  unfolding asked_check
-  asked_sex = leb-true _ _ (need_true _ _ _ _ (then_right _ _ _ (then_left _ _ _ e)))
-
-  pub asked_numbers : 50 ≤ numbers
-  unfolding asked_check
-  asked_numbers = leb-true _ _ (need_true _ _ _ _ (then_right _ _ _ e))
+use Rattle.in_force_request.specs.Request.{record_at_class, asked_check, OnlyOne}
+use Rattle.in_force_request.proofs.Records.{only_one}
+use Rattle.in_force_request.proofs.Asked.{asked_code, asked_sex}
+use Rattle.in_force.specs.InForceRun.{in_force_check, in_force_run, in_force_numbers, InForceContract}
 
 module _ (b : List ℕ) (setting code sex class numbers : ℕ) where
   -- the refusals in their order, and acceptance
@@ -48,7 +30,8 @@ module _ (b : List ℕ) (setting code sex class numbers : ℕ) where
   by_asked q p e = rw e
 
   module _ (m : ℕ) (e : asked_check setting code sex numbers ≡ Accepted m) where
-    pub by_book : (q p : ℕ) → check_book 1 b ≡ Refused q p → in_force_check b setting code sex class numbers ≡ Refused q p
+    pub by_book : (q p : ℕ) → check_book 1 b ≡ Refused q p
+        → in_force_check b setting code sex class numbers ≡ Refused q p
     unfolding in_force_check ◌and_then◌
     by_book q p f = rw (e, f)
 
@@ -64,7 +47,8 @@ module _ (b : List ℕ) (setting code sex class numbers : ℕ) where
 
   -- what acceptance says: the caller's tests, the book, and that there is a record
   module _ (n : ℕ) (e : in_force_check b setting code sex class numbers ≡ Accepted n) where
-    pub accepted_asked : asked_check setting code sex numbers ≡ Accepted (count_of (asked_check setting code sex numbers))
+    pub accepted_asked : asked_check setting code sex numbers
+        ≡ Accepted (count_of (asked_check setting code sex numbers))
     unfolding in_force_check
     accepted_asked = then_left _ _ _ (then_left _ _ _ e)
 

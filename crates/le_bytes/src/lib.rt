@@ -2,6 +2,8 @@
 // range.
 // The readers ask that the field lies in the bytes: they are for the crates above, which have shown
 // it.
+#![tactic(auto)]
+
 ghost use Rattle.std.specs.Prelude.{◌≡◌, ◌+◌, ◌*◌, ◌≤◌, ◌<◌, length};
 ghost use Rattle.le_bytes.specs.Bytes.{byte_at, read_u16, read_u32};
 ghost use Rattle.le_bytes.specs.Fields.{within, check_field, check_fields};

@@ -5,7 +5,7 @@ use mathlib.Core.Path.{◌≡◌}
 use Prim.Native.Nat.{ℕ, ◌≤◌}
 use native.Mathlib.Omega.{arith}
 use lib.ListN.{length}
-use Rattle.verdict.specs.declared.Verdict.TheVariants.{Refused}
+use Rattle.verdict.specs.declared.Verdict.TheVariants.{Accepted, Refused}
 use Rattle.book.specs.Check.{check_book}
 use Rattle.book.specs.Rules.{SameButUnlinked}
 use Rattle.book.proofs.Unlinked.{unlinked_same}
@@ -13,11 +13,13 @@ use Rattle.valuation.specs.Totals.{totals_reply}
 use Rattle.valuation.specs.declared.TotalsReply.{TotalsReply}
 use Rattle.valuation.proofs.Unlinked.{totals_same}
 use Rattle.buffer.specs.Text.{spelled, decimal, signed, ended, signed_ended, joined, Wrote}
-use Rattle.buffer.specs.Replies.{TextContract}
-use Rattle.buffer.specs.declared.TextReply.{TextReply}
-use Rattle.buffer.proofs.Digits.{trial}
-use Rattle.listing.specs.Listing.{listing_line, line_of, listing_text, listing_of, listing_reply, listing_buffer}
-use Rattle.listing.specs.Listing.{ListingContract}
+use Rattle.buffer.proofs.Digits.{trial, from_start}
+use Rattle.text_reply.specs.Replies.{TextContract}
+use Rattle.text_reply.specs.declared.TextReply.{TextReply}
+use Rattle.text_reply.specs.declared.TextReply.TheVariants.{Bytes}
+use Rattle.text_reply.proofs.Replies.{text_written}
+use Rattle.listing_text.specs.Lines.{listing_line, line_of, listing_text}
+use Rattle.listing.specs.Listing.{listing_of, listing_reply, listing_buffer, ListingContract}
 
 pub listing_promised : (b before after : List ℕ) (reply : TextReply)
     → TextContract (check_book 1 b) (listing_of b) before after reply → length (listing_of b) ≤ 512
@@ -36,6 +38,15 @@ pub listing_written : (b : List ℕ) (reply : TotalsReply) {entry exit : List �
     → Wrote entry 0 (listing_of b) exit r × (length (listing_of b) ≤ 512)
 unfolding listing_of
 listing_written b reply is w = let told = rw is at w.0 in (told, omega (arith, trial told, w.1))
+
+-- the listing written where it fits
+pub listing_fits : (b before : List ℕ) {after : List ℕ} {n r : ℕ} → check_book 1 b ≡ Accepted n
+    → length (listing_of b) ≤ length before
+    → Wrote before 0 (listing_of b) after r × (length (listing_of b) ≤ 512)
+    → ListingContract b before after (Bytes r)
+listing_fits b before e fits w =
+    listing_promised b before _ _
+    (text_written _ _ before _ e fits (trial w.0) (from_start w.0 fits)) w.1
 
 module _ (b b' : List ℕ) (s : SameButUnlinked b b') where
   pub reply_same : (capacity : ℕ) → listing_reply b capacity ≡ listing_reply b' capacity

@@ -8,10 +8,11 @@ use lib.ListN.{replicate}
 use Rattle.verdict.specs.Verdicts.{◌and_then◌}
 use Rattle.book.proofs.TestVectors.{t11}
 use Rattle.buffer.specs.Text.{spelled, decimal, signed, ended, signed_ended, refusal_text, joined}
-use Rattle.buffer.specs.Replies.{with_capacity, text_reply, text_buffer}
-use Rattle.buffer.specs.declared.TextReply.TheVariants.{Refused as TextRefused}
 use Rattle.buffer.proofs.Digits.{decimal_one, decimal_thousands}
-use Rattle.listing.specs.Listing.{listing_line, line_of, listing_text, listing_reply, listing_buffer}
+use Rattle.text_reply.specs.Replies.{with_capacity, text_reply, text_buffer}
+use Rattle.text_reply.specs.declared.TextReply.TheVariants.{Refused as TextRefused}
+use Rattle.listing_text.specs.Lines.{listing_line, line_of, listing_text}
+use Rattle.listing.specs.Listing.{listing_reply, listing_buffer}
 
 -- the totals of the paper's book, whose contracts stay at class 120: -5000000 five times, -4900000, -5100000, -4800000
 abbrev pub paper_totals : List ℤ

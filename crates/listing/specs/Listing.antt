@@ -1,22 +1,10 @@
--- The listing of a book: its text in bytes, eight lines, one a setting; what the call that writes it promises.
-use Rattle.std.specs.Prelude.{List, ◌++◌, ◌≡◌, ℕ, ◌≤◌, ℤ, pos, length, get_or}
+-- The listing of a book, and what the call that writes it replies and promises.
+use Rattle.std.specs.Prelude.{List, ◌≡◌, ℕ, ◌≤◌, length}
 use Rattle.book.specs.Check.{check_book}
 use Rattle.valuation.specs.Totals.{totals_reply}
-use Rattle.buffer.specs.Text.{ended, signed_ended, joined}
-use Rattle.buffer.specs.Replies.{text_length, text_reply, text_buffer}
-use Rattle.buffer.specs.declared.TextReply.{TextReply}
-
--- a setting's line: the setting, its total, n; a blank (32) after the first two, the line's end (10) after n
-unfoldable pub listing_line : ℕ → ℤ → ℕ → List ℕ
-listing_line setting total n = ended setting 32 ++ signed_ended total 32 ++ ended n 10
-
--- the line of a setting, its total taken from the eight
-unfoldable pub line_of : List ℤ → ℕ → ℕ → List ℕ
-line_of totals n setting = listing_line setting (get_or totals setting (pos 0)) n
-
--- the lines of settings 0 to 7, in this order
-unfoldable pub listing_text : List ℤ → ℕ → List ℕ
-listing_text totals n = joined (line_of totals n) 8
+use Rattle.text_reply.specs.Replies.{text_length, text_reply, text_buffer}
+use Rattle.text_reply.specs.declared.TextReply.{TextReply}
+use Rattle.listing_text.specs.Lines.{listing_text}
 
 -- the listing of a book: the totals and the n are those that Totals replies
 unfoldable pub listing_of : List ℕ → List ℕ

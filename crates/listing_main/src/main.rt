@@ -1,20 +1,20 @@
 // The listing of the book on standard input: eight lines, or one line for a refusal.
-use buffer::TextReply;
-use libc::{STDIN_FILENO, STDOUT_FILENO};
+#![tactic(auto)]
 
-fn main() {
+use std::io;
+use text_reply::TextReply;
+
+fn main(rt: HostRuntime) -> io::Result<()> {
     let mut space = book::input_buffer();
-    let got = io::read_full(STDIN_FILENO, &mut space);
+    let got = streams::read_full(&mut rt.stdin(), &mut space)?;
     // No listing is longer: so `short` of the call's contract says.
     let mut text = [0u8; 512];
     let reply = listing::write_listing(&space[..got], &mut text);
     match reply {
-        TextReply::Bytes(end) => {
-            io::write_all(STDOUT_FILENO, &text[..end]);
-        }
+        TextReply::Bytes(end) => rt.write_all(&text[..end]),
         TextReply::Refused(number, place) => {
             let end = buffer::put_refusal(&mut text, number, place as u64);
-            io::write_all(STDOUT_FILENO, &text[..end]);
+            rt.write_all(&text[..end])
         }
     }
 }

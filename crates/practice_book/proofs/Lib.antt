@@ -1,3 +1,1 @@
-pub mod DrawnLists
-pub mod Drawn
 pub mod PracticeContract

@@ -1,6 +1,6 @@
 -- What the call promises follows from its reply and from the bytes that were written; and equal start numbers give
 -- equal bytes. Assumes nothing.
-use mathlib.Core.Path.{◌≡◌, refl, sym, ap, ◌∙◌}
+use mathlib.Core.Path.{◌≡◌, refl, sym, ap, subst, ◌∙◌}
 use mathlib.Core.List.{List}
 use Prim.Native.Nat.{ℕ, ◌≤◌}
 use native.Mathlib.Omega.{arith}
@@ -12,15 +12,15 @@ use Rattle.verdict.specs.declared.Verdict.{Verdict}
 use Rattle.verdict.specs.declared.Verdict.TheVariants.{Accepted, Refused}
 use Rattle.verdict.proofs.Verdicts.{need_true, then_left, ZeroAccepts, zero_accepts_need, zero_accepts_then}
 use Rattle.book_contents.specs.declared.WriteReply.{WriteReply}
+use Rattle.book_contents.specs.Contents.{Contents}
 use Rattle.book_contents.specs.Written.{book_size}
-use Rattle.book_contents.specs.Contracts.{write_refusal, write_length, write_reply_for, write_reply, WriteContract}
+use Rattle.book_contents.specs.CallContracts.{write_refusal, write_length, write_reply_for, write_reply, WriteContract}
 use Rattle.book_contents.proofs.Fit.{fit_good}
 use Rattle.generator.specs.Draws.{seeded}
-use Rattle.practice_book.specs.Practice.{practice_contents, practice_book, practice_size, check_practice}
-use Rattle.practice_book.specs.Practice.{practice_reply}
-use Rattle.practice_book.specs.Practice.{PracticeContract}
-use Rattle.practice_book.proofs.Drawn.{drawn_fit, drawn_size, practice_accepted, practice_length}
-use Rattle.buffer.specs.Replies.{buffer_for}
+use Rattle.practice_contents.specs.Drawn.{practice_contents, practice_book, practice_size}
+use Rattle.practice_contents.proofs.Drawn.{drawn_fit, drawn_size, practice_accepted, practice_length}
+use Rattle.practice_book.specs.Practice.{check_practice, practice_reply, PracticeContract}
+use Rattle.text_reply.specs.Replies.{buffer_for}
 
 -- refusal 0 is acceptance, of this call too
 practice_told : (start capacity : ℕ) → ZeroAccepts (check_practice start capacity)
@@ -57,6 +57,11 @@ module _ (start : ℕ) (entry exit : List ℕ) (r : WriteReply) (reply_is : r �
     bytes_are = bytes_are;
     accepted = λ none. rw ((written none).0, (written none).1, practice_accepted start) (refl, refl);
   }
+
+-- what Write promises of equal contents
+pub of_same : {u v : Contents} {entry exit : List ℕ} {r : WriteReply} → u ≡ v → WriteContract u entry exit r
+    → WriteContract v entry exit r
+of_same {u} {v} {entry} {exit} {r} e w = subst (λ (x : Contents). WriteContract x entry exit r) e w
 
 -- what Write promises of the drawn contents is, with space and a start number above 0, what the call promises
 pub write_promised : (start n : ℕ) {entry exit : List ℕ} {r : WriteReply}

@@ -26,7 +26,8 @@ module _ (t : Terms) (cs : List Cell) where
   -- one year more in the caller's table
   pub years_more : (n : ℕ) (y : Year) (before u v : List ℕ) → y ≡ year_of t cs n → 4 * n + 4 ≤ length before
       → u ≡ year_table t cs n ++ drop (4 * n) before
-      → v ≡ take (4 * n) u ++ (four_of y ++ drop (4 * n + 4) u) → v ≡ year_table t cs (n + 1) ++ drop (4 * (n + 1)) before
+      → v ≡ take (4 * n) u ++ (four_of y ++ drop (4 * n + 4) u)
+      → v ≡ year_table t cs (n + 1) ++ drop (4 * (n + 1)) before
   unfolding year_table year_of
   years_more n y before u v ey h eu ev =
       let e : 4 * (n + 1) ≡ 4 * n + 4 = omega arith in

@@ -31,6 +31,7 @@ year_premium b setting g = discounted_premium rounded (terms_of b setting g) (gr
 -- what valuing a product group gives: its liability, and the caller's table with the fifty years first
 pub record GroupValued (b : List ℕ) (setting g : ℕ) (before after : List ℕ) (r : ℤ) : Type 0 where
   pub liability_is : r ≡ group_liability b setting g
-  pub table_is : after ≡ year_table (terms_of b setting g) (group_cells b (decrements_of b setting) g) 50 ++ drop 200 before
+  pub table_is : after
+      ≡ year_table (terms_of b setting g) (group_cells b (decrements_of b setting) g) 50 ++ drop 200 before
   -- so that five of them can be added
   pub size : mag r ≤ 450_000_000_000_000_000

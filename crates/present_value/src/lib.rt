@@ -1,5 +1,7 @@
 // The fifty years of a product group valued: its liability and its year table from its year sums.
 // Internal: it asks for an accepted book, which the calls above have from the check.
+#![tactic(auto)]
+
 ghost use Rattle.std.specs.Prelude.{◌≡◌, ◌++◌, ◌+◌, ◌*◌, ◌≤◌, length, take, drop};
 ghost use Rattle.book.specs.Reading.{ValidBook};
 ghost use Rattle.settings_columns.specs.Columns.{projection_of};
@@ -12,7 +14,7 @@ use cell_projection::YearSums;
 use settings_outgo::Setting;
 
 // The numbers of one year: premium after cap, outgo, and both discounted.
-#[derive(Drop)]
+#[derive(Clone, Copy)]
 pub struct Year {
     pub premium: u64,
     pub outgo: u64,

@@ -1,5 +1,7 @@
 // What some years of a product group give, discounted.
 // Internal: it asks for an accepted book, which the calls above have from the check.
+#![tactic(auto)]
+
 ghost use Rattle.std.specs.Prelude.{◌≤◌};
 ghost use Rattle.book.specs.Reading.{ValidBook};
 ghost use Rattle.settings_columns.specs.Columns.{projection_of};
@@ -14,7 +16,7 @@ use discount_curve::Curve;
 use settings_outgo::Setting;
 
 // Discounted premium and outgo of some years, added.
-#[derive(Drop)]
+#[derive(Clone, Copy)]
 pub struct Amounts {
     pub premium: u64,
     pub outgo: u64,

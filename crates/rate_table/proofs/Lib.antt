@@ -1,4 +1,2 @@
 pub mod Puts
-pub mod Onward
-pub mod Repeats
 pub mod Order

@@ -101,14 +101,7 @@ module _ (b : List ℕ) (sex i : ℕ) where
       }
 
   -- a row among those kept
-  pub row_kept : (t u : List ℕ) (r n : ℕ) → r < n → ((j : ℕ) → j < 16 * n → get_or u j 0 ≡ get_or t j 0) → RowOf b sex i t r
-      → RowOf b sex i u r
+  pub row_kept : (t u : List ℕ) (r n : ℕ) → r < n → ((j : ℕ) → j < 16 * n → get_or u j 0 ≡ get_or t j 0)
+      → RowOf b sex i t r → RowOf b sex i u r
   row_kept t u r n h k o =
       row_same t u r r (λ c l. k (16 * r + c + 8) (omega arith)) (λ c l. k (16 * r + c) (omega arith)) o
-
--- a row more: f says the record of each row
-pub rows_more : (b : List ℕ) (sex : ℕ) (f : ℕ → ℕ) (t u : List ℕ) (r row : ℕ) → row ≡ f r
-    → ((j : ℕ) → j < r → RowOf b sex (f j) t j) → RowPut b sex row t u r → (j : ℕ) → j < r + 1 → RowOf b sex (f j) u j
-rows_more b sex f t u r row e h p =
-    below_more (λ j. RowOf b sex (f j) u j) r (λ j l. row_kept b sex (f j) t u j r l p.kept (h j l))
-    (rw (← e) p.row)

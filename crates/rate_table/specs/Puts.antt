@@ -1,9 +1,7 @@
--- What is stored in a table of rows: a rate with its fraction, a row, the rows of a chain's records, the last of them
--- again. All other numbers that count stay as they were.
-use Rattle.std.specs.Prelude.{List, ◌≡◌, ℕ, ◌+◌, ◌-◌, ◌*◌, ◌≤◌, ◌<◌, get_or}
+-- What is stored in a table of rows: a rate with its fraction, a row. All other numbers that count stay as they were.
+use Rattle.std.specs.Prelude.{List, ◌≡◌, ℕ, ◌+◌, ◌*◌, ◌≤◌, ◌<◌, get_or}
 use Rattle.arith.specs.Fractions.{IsFraction}
-use Rattle.book.specs.Layout.{chain_sex}
-use Rattle.valuation.specs.Portfolio.{one_less, row_at}
+use Rattle.valuation.specs.Portfolio.{one_less}
 use Rattle.rate_table.specs.declared.Weights.{Weights}
 use Rattle.rate_table.specs.Rows.{rate, fraction, RowOf}
 
@@ -35,12 +33,3 @@ ThreeMore t u r n v w =
 pub record RowPut (b : List ℕ) (sex i : ℕ) (before after : List ℕ) (r : ℕ) : Type 0 where
   pub row : RowOf b sex i after r
   pub kept : (j : ℕ) → j < 16 * r → get_or after j 0 ≡ get_or before j 0
-
--- the rows before row n, from record i of a chain on
-abbrev pub RowsBelow : List ℕ → ℕ → ℕ → List ℕ → ℕ → Type 0
-RowsBelow b chain i t n = (r : ℕ) → r < n → RowOf b (chain_sex chain) (row_at b i r) t r
-
--- the numbers at the places from `from` to before `to` are those a row before
-pub record Repeated (before after : List ℕ) (from to : ℕ) : Type 0 where
-  pub kept : (j : ℕ) → j < from → get_or after j 0 ≡ get_or before j 0
-  pub copied : (j : ℕ) → from ≤ j → j < to → get_or after j 0 ≡ get_or after (j - 16) 0

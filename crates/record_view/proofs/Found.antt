@@ -15,7 +15,8 @@ use Rattle.le_bytes.proofs.Ranges.{within_means}
 use Rattle.book.specs.Layout.{record_size, records, record_at}
 use Rattle.book.specs.Reading.{ValidBook}
 use Rattle.book.proofs.Valid.{valid}
-use Rattle.record_view.specs.RecordView.{check_record, located_at, located_in, bytes_of, record_bytes, lies_in, PartOf, Shows}
+use Rattle.record_view.specs.RecordView.{check_record, located_at, located_in, bytes_of, record_bytes, lies_in}
+use Rattle.record_view.specs.RecordView.{PartOf, Shows}
 use Rattle.record_view.specs.declared.Located.{Located}
 
 module _ (b : List ℕ) (number m : ℕ) (e : check_record b number ≡ Accepted m) where

@@ -36,7 +36,7 @@ lies_in b start len = cond (leb start (length b)) (leb len (length b - start)) f
 
 -- a part begins in the memory of the caller's book, so many bytes behind the book's own beginning
 abbrev pub StandsAt : Bor (List ℕ) → ℕ → Bor (List ℕ) → Type 0
-StandsAt book offset part = (part.ptr.0 ≡ book.ptr.0) × (part.ptr.1 ≡ book.ptr.1 + offset)
+StandsAt book offset part = (part.ref_ptr.0 ≡ book.ref_ptr.0) × (part.ref_ptr.1 ≡ book.ref_ptr.1 + offset)
 
 -- a part of the caller's book: len bytes from start, where they stand in the book; none, at its beginning, where they
 -- run past its end

@@ -1,6 +1,8 @@
 // The record view: the 24 bytes of a record as a part of the caller's book.
 // `view_record` returns the part in a struct. `locate` says where it stands, for callers that take
 // no struct with a reference.
+#![tactic(auto)]
+
 ghost use Rattle.std.specs.Prelude.{◌≡◌};
 ghost use Rattle.record_view.specs.RecordView.{check_record, located_in, PartOf, Shows};
 
@@ -9,7 +11,7 @@ use verdict::Verdict;
 // The refusal and its place, 0 and 0 where there is none, and where the record's bytes stand, 0 and
 // 0 where refused.
 #[repr(C)]
-#[derive(Drop)]
+#[derive(Clone, Copy)]
 pub struct Located {
     pub refusal: u64,
     pub place: usize,
@@ -18,7 +20,7 @@ pub struct Located {
 }
 
 // The same with the bytes themselves, none where refused.
-#[derive(Drop)]
+#[derive(Clone, Copy)]
 pub struct Shown<'a> {
     pub refusal: u64,
     pub place: usize,

@@ -1,5 +1,7 @@
 // The lines of the year report as text in the caller's buffer, from a product group's year table.
 // And how long they are.
+#![tactic(auto)]
+
 ghost use Rattle.std.specs.Prelude.{◌≡◌, ◌+◌, ◌<◌, ◌≤◌, ◌^◌, length};
 ghost use Rattle.buffer.specs.Text.{decimal, Wrote};
 ghost use Rattle.report_lines.specs.Sheet.{sheet_line, table_lines};
@@ -8,7 +10,9 @@ use buffer::put_ended;
 
 fn put_line(out: &mut [u8], at: usize, group: u64, year: u64, premium: u64, outgo: u64) -> usize
     requires { at + 85 < 2 ^ 64 }
-    ensures { Wrote out.old at (sheet_line group year premium outgo) out.new result × (result ≤ at + 84) }
+    ensures { Wrote out.old at (sheet_line group year premium outgo)
+        out.new result
+        × (result ≤ at + 84) }
 {
     let year_at = put_ended(out, at, group, b',');
     let premium_at = put_ended(out, year_at, year, b',');

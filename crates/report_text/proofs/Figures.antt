@@ -42,7 +42,8 @@ module _ (b : List ℕ) (setting : ℕ) where
   unfolding report_from report_text lines_at
   report_same tables all =
       ap (λ (l : List ℕ). heading ++ l)
-      (joined_same (lines_at tables) (group_lines b setting) 5 (λ j few. lines_same j (numbers_at tables j) (all j few)))
+      (joined_same (lines_at tables) (group_lines b setting) 5
+      (λ j few. lines_same j (numbers_at tables j) (all j few)))
 
 -- a table with no year yet, and with one year more
 pub placed_none : (premium outgo table : List ℕ) → Placed premium outgo 0 table
@@ -66,5 +67,6 @@ placed_more premium outgo table k size few p =
           ⊎_elim {C = get_or (set t (4 * k + 1) y) (4 * i + 1) 0 ≡ get_or outgo i 0}
           (λ q. let here : i ≡ k = omega arith in rw here (get_or-set_same t (4 * k + 1) y 0 (omega (arith, long))))
           (λ q. get_or-set_other t (4 * k + 1) (4 * i + 1) y 0 (λ e. absurd (omega arith))
-          ∙ get_or-set_other table (4 * k) (4 * i + 1) x 0 (λ e. absurd (omega arith)) ∙ p.outgo_column_at i q) (le_or_lt k i);
+          ∙ get_or-set_other table (4 * k) (4 * i + 1) x 0 (λ e. absurd (omega arith)) ∙ p.outgo_column_at i q)
+          (le_or_lt k i);
     }

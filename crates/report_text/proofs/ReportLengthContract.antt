@@ -9,8 +9,8 @@ use Rattle.verdict.specs.declared.Verdict.{Verdict}
 use Rattle.verdict.specs.declared.Verdict.TheVariants.{Accepted, Refused}
 use Rattle.verdict.proofs.Verdicts.{ZeroAccepts, zero_accepts_need, zero_accepts_then}
 use Rattle.book.proofs.Numbers.{zero_accepted}
-use Rattle.buffer.specs.Replies.{text_refusal, text_length, length_for}
-use Rattle.buffer.specs.declared.TextReply.{TextReply}
+use Rattle.text_reply.specs.Replies.{text_refusal, text_length, length_for}
+use Rattle.text_reply.specs.declared.TextReply.{TextReply}
 use Rattle.report_text.specs.Report.{report_check, report_length, report_length_reply, ReportLengthContract}
 use Rattle.report_text.proofs.Lengths.{report_most}
 use Rattle.report_text.proofs.Refusals.{report_valid}

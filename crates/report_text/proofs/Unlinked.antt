@@ -22,7 +22,7 @@ use Rattle.valuation.specs.Portfolio.{group_cells, terms_of}
 use Rattle.valuation.specs.Replies.{group_check, group_table, year_table}
 use Rattle.valuation.proofs.GroupContract.{premium_column_at, outgo_column_at, length_years}
 use Rattle.valuation.proofs.Unlinked.{table_same}
-use Rattle.buffer.specs.Replies.{length_for, buffer_for, with_capacity, text_reply, text_buffer}
+use Rattle.text_reply.specs.Replies.{length_for, buffer_for, with_capacity, text_reply, text_buffer}
 use Rattle.buffer.proofs.Digits.{joined_same}
 use Rattle.report_text.specs.Report.{heading, year_line, group_lines, report_text, report_check, report_length}
 use Rattle.report_text.specs.Report.{report_reply, report_buffer, report_length_reply}

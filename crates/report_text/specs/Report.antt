@@ -8,8 +8,8 @@ use Rattle.valuation.specs.Arithmetic.{rounded}
 use Rattle.valuation.specs.Steps.{outgo, counted_premium}
 use Rattle.valuation.specs.Portfolio.{group_cells, terms_of}
 use Rattle.buffer.specs.Text.{joined}
-use Rattle.buffer.specs.Replies.{text_refusal, text_length, length_for, text_reply, text_buffer, TextContract}
-use Rattle.buffer.specs.declared.TextReply.{TextReply}
+use Rattle.text_reply.specs.Replies.{text_refusal, text_length, length_for, text_reply, text_buffer, TextContract}
+use Rattle.text_reply.specs.declared.TextReply.{TextReply}
 use Rattle.report_lines.specs.Sheet.{sheet_line}
 
 -- `group,year,premium,outgo` and the line's end

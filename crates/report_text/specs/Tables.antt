@@ -13,7 +13,8 @@ use Rattle.report_text.specs.declared.Measured.{Measured}
 -- the table has the premium after cap and the outgo of each year of product group g
 pub record Years (b : List ℕ) (setting g : ℕ) (table : List ℕ) : Type 0 where
   pub premium_is : (k : ℕ) → k < 50
-      → get_or table (4 * k) 0 ≡ counted_premium rounded (terms_of b setting g) (group_cells b (decrements_of b setting) g) k
+      → get_or table (4 * k) 0
+      ≡ counted_premium rounded (terms_of b setting g) (group_cells b (decrements_of b setting) g) k
   pub outgo_is : (k : ℕ) → k < 50
       → get_or table (4 * k + 1) 0 ≡ outgo rounded (terms_of b setting g) (group_cells b (decrements_of b setting) g) k
 

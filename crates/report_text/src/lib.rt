@@ -1,10 +1,12 @@
 // The text of the year report, from the year tables of the five product groups.
+#![tactic(auto)]
+
 ghost use Rattle.buffer.specs.Text.{Wrote};
 ghost use Rattle.report_text.specs.Tables.{Placed, report_from};
 
 // Premium after cap and outgo of each of a product group's fifty years, at the places that they
 // have in a year table.
-#[derive(Drop)]
+#[derive(Clone, Copy)]
 pub struct YearTable {
     pub numbers: [u64; 200],
 }
@@ -22,7 +24,7 @@ pub fn placed(premium: &[u64; 50], outgo: &[u64; 50]) -> YearTable
 
 // The five product groups' tables, and how many bytes their report has: 25 of heading, and the
 // lines.
-#[derive(Drop)]
+#[derive(Clone, Copy)]
 pub struct Measured {
     pub tables: [YearTable; 5],
     pub bytes: usize,

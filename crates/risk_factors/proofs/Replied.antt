@@ -14,11 +14,11 @@ use Rattle.risk_model.proofs.Rules.{model_correlation, correlation_most}
 use Rattle.risk_form.specs.Root.{IntegerSquareRoot}
 use Rattle.risk_form.proofs.Bounds.{form_most, root_most}
 use Rattle.risk_form.proofs.Squares.{root_whole}
-use Rattle.risk_factors.specs.Factors.{factors_of}
+use Rattle.risk_scaling.specs.Factors.{factors_of, factors_small}
+use Rattle.risk_scaling.proofs.Sizes.{factors_most}
 use Rattle.risk_factors.specs.Form.{form_for, form_over_thousand}
-use Rattle.risk_factors.specs.Refusals.{factors_small, check_factors}
+use Rattle.risk_factors.specs.Refusals.{check_factors}
 use Rattle.risk_factors.specs.Replies.{deviation_for, deviation_reply_for, factors_reply}
-use Rattle.risk_factors.proofs.Sizes.{factors_most}
 
 -- no test refuses
 pub record Passed (differences : List ℤ) (m : RiskModel) : Type 0 where

@@ -2,7 +2,7 @@
 use Rattle.std.specs.Prelude.{ℕ, ◌/◌, List, ℤ, nat_abs}
 use Rattle.risk_model.specs.declared.RiskModel.{RiskModel}
 use Rattle.risk_form.specs.Form.{form_of}
-use Rattle.risk_factors.specs.Factors.{factors_of}
+use Rattle.risk_scaling.specs.Factors.{factors_of}
 
 -- the form, with the model's correlation
 unfoldable pub form_for : List ℤ → RiskModel → ℤ

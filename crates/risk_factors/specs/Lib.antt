@@ -1,4 +1,3 @@
-pub mod Factors
 pub mod Form
 pub mod Refusals
 pub mod Replies

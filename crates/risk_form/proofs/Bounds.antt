@@ -39,7 +39,11 @@ module _ (r f : List ℤ) (known : SizesTo 1000 16 r) (small : SizesTo 1_000_000
   row_most i n hi hn = sum_most _ _ nat_abs refl abs_plus (term_of r f i) _ n (λ j h. term_most i j hi (omega arith))
 
   pub rows_most : (n : ℕ) → n ≤ 4 → nat_abs (signed_sum_below (row_of r f) n) ≤ 4_000_000_000_000_000 * n
-  rows_most n hn = sum_most _ _ nat_abs refl abs_plus (row_of r f) _ n (λ i h. omega (arith, row_most i 4 (omega arith) (omega arith)))
+  rows_most n hn = sum_most _ _ nat_abs refl abs_plus (row_of r f) _ n (λ i h. omega (
+    arith,
+    row_most i 4
+        (omega arith) (omega arith),
+  ))
 
   pub form_most : nat_abs (form_of r f) ≤ 16_000_000_000_000_000
   unfolding form_of

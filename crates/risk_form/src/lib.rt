@@ -1,4 +1,6 @@
 // The quadratic form of four factors with their correlation, and the whole root (FINMA 5.2.1).
+#![tactic(auto)]
+
 ghost use Rattle.std.specs.Prelude.{◌≡◌, ◌<◌};
 ghost use Rattle.lists.specs.Sums.{signed_sum_below};
 ghost use Rattle.signed.specs.Signs.{SizesTo};

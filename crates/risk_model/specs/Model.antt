@@ -1,6 +1,7 @@
 -- A risk model's rules (W-212, by FINMA 5.2.1): its coefficients and its correlation.
 -- `every test n`: the test holds for each number below n.
-use Rattle.std.specs.Prelude.{ℕ, ◌+◌, ◌*◌, ◌/◌, ◌%◌, ◌≤◌, ◌<◌, ◌≡◌, Bool, not, ◌&&◌, ◌||◌, List, leb, eqb, ℤ, pos, nat_abs, get_or}
+use Rattle.std.specs.Prelude.{ℕ, ◌+◌, ◌*◌, ◌/◌, ◌%◌, ◌≤◌, ◌<◌, ◌≡◌, Bool, not, ◌&&◌, ◌||◌, List, leb, eqb, ℤ, pos}
+use Rattle.std.specs.Prelude.{nat_abs, get_or}
 use Rattle.conditions.specs.Every.{every}
 use Rattle.signed.specs.Signs.{number_at, same}
 use Rattle.risk_model.specs.declared.RiskModel.{RiskModel}

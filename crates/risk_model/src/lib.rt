@@ -1,5 +1,7 @@
 // The risk model of FINMA 5.2.1: four coefficients of variation and their correlation, and the
 // rules that they keep.
+#![tactic(auto)]
+
 ghost use Rattle.std.specs.Prelude.{◌≡◌, ◌<◌};
 ghost use Rattle.risk_model.specs.Model.{coefficients_right, right_at, correlation_right};
 ghost use Rattle.risk_model.specs.Model.{model_valid};
@@ -9,7 +11,7 @@ use signed::{Signed, of_sixteen};
 // The coefficients of variation of mortality, lapse, costs and claims in millionths, and their
 // correlation in thousandths, row by row: that of factors i and j, 0 to 3, stands at 4 i + j.
 #[repr(C)]
-#[derive(Drop)]
+#[derive(Clone, Copy)]
 pub struct RiskModel {
     pub coefficients: [u64; 4],
     pub correlation: [i64; 16],

@@ -46,7 +46,8 @@ abbrev pub Always : (ℕ → ℕ → YearWeights) → ℕ → YearWeights → Ty
 Always weights setting w = (k : ℕ) → weights setting k ≡ w
 
 -- these for k = 0 to 4, and from k = 5 on those of the base
-pub record FiveYears (weights : ℕ → ℕ → YearWeights) (m : MortalityWeights) (setting : ℕ) (w : YearWeights) : Type 0 where
+pub record FiveYears (weights : ℕ → ℕ → YearWeights) (m : MortalityWeights) (setting : ℕ)
+    (w : YearWeights) : Type 0 where
   pub first : (k : ℕ) → k < 5 → weights setting k ≡ w
   pub later : (k : ℕ) → 5 ≤ k → weights setting k ≡ unshifted m 1000 1000 1000
 

@@ -1,4 +1,6 @@
 // The weights of the eight settings, in thousandths: one table.
+#![tactic(auto)]
+
 ghost use Rattle.std.specs.Prelude.{◌≡◌, ◌<◌, ◌≤◌};
 ghost use Rattle.settings.specs.Settings.{weight_of};
 

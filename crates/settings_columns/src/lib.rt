@@ -1,5 +1,7 @@
 // Which columns of a chain's rows a setting takes, and which projection serves it: the table of
 // weights decides.
+#![tactic(auto)]
+
 ghost use Rattle.std.specs.Prelude.{◌≡◌, ◌<◌};
 ghost use Rattle.settings_columns.specs.Columns.{same_mortality, survival_column};
 ghost use Rattle.settings_columns.specs.Columns.{persistency_column, columns_of, survives_in};
@@ -47,7 +49,7 @@ fn persistency_column(setting: usize, k: usize) -> usize
 
 // The columns of a setting, of what lives on and of what stays: in the years k = 0 to 4, and in the
 // later ones.
-#[derive(Drop)]
+#[derive(Clone, Copy)]
 pub struct Columns {
     pub firstlives: usize,
     pub firststays: usize,
@@ -102,7 +104,7 @@ impl Columns {
 }
 
 // Those of the five settings whose projections serve all.
-#[derive(Drop)]
+#[derive(Clone, Copy)]
 pub struct FiveColumns {
     pub base: Columns,
     pub mortality_up: Columns,

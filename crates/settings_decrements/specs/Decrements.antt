@@ -19,7 +19,11 @@ mortality_weight b setting sex k = percent_of b sex * weight_of setting sex k
 -- the weights of mortality and lapse in the year k
 abbrev pub decrements_at : List ℕ → ℕ → ℕ → DecrementWeights
 decrements_at b setting k =
-    record { men = mortality_weight b setting 0 k; women = mortality_weight b setting 1 k; lapse = weight_of setting 2 k }
+    record {
+      men = mortality_weight b setting 0 k;
+      women = mortality_weight b setting 1 k;
+      lapse = weight_of setting 2 k;
+    }
 
 -- the same for the first five years, which are as year 0, and for the later ones, which are as year 5
 unfoldable pub decrements_of : List ℕ → ℕ → Decrements

@@ -1,6 +1,8 @@
 // The weights of mortality and lapse of a book: structs by value, read outside the loops.
 // Internal: what reads the book's mortality percentages asks for an accepted book's rules, which
 // the calls above have from the check.
+#![tactic(auto)]
+
 ghost use Rattle.std.specs.Prelude.{◌≡◌, ◌<◌, ◌≤◌};
 ghost use Rattle.book.specs.Reading.{ValidBook};
 ghost use Rattle.settings_decrements.specs.Decrements.{percent_of, mortality_weight};
@@ -33,7 +35,7 @@ fn mortality_weight(book: &[u8], setting: usize, sex: usize, k: usize) -> u64
 }
 
 // The weights of mortality and lapse in one year.
-#[derive(Drop)]
+#[derive(Clone, Copy)]
 pub struct DecrementWeights {
     pub men: u64,
     pub women: u64,
@@ -66,7 +68,7 @@ impl DecrementWeights {
 
 // The weights of mortality and lapse of a setting: in the years k = 0 to 4, and in the later ones.
 // The definitions speak of them.
-#[derive(Drop)]
+#[derive(Clone, Copy)]
 pub struct Decrements {
     pub first: DecrementWeights,
     pub later: DecrementWeights,
@@ -74,7 +76,7 @@ pub struct Decrements {
 
 // The weights of mortality and lapse in year 0, of the base and of the four settings that shift
 // them: no other weights hold in any year of any setting.
-#[derive(Drop)]
+#[derive(Clone, Copy)]
 pub struct Shifts {
     pub base: DecrementWeights,
     pub mortality_up: DecrementWeights,

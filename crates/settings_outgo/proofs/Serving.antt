@@ -8,15 +8,18 @@ use lib.Dec.{eqb}
 use borrow.Author.Tests.{eqb-true}
 use Rattle.settings.specs.Settings.{weight_of}
 use Rattle.settings_decrements.specs.Decrements.{mortality_weight, decrements_of}
-use Rattle.settings_columns.specs.Columns.{same_mortality, survival_column, persistency_column, columns_of, same_columns}
+use Rattle.settings_columns.specs.Columns.{same_mortality, survival_column, persistency_column, columns_of}
+use Rattle.settings_columns.specs.Columns.{same_columns}
 use Rattle.settings_columns.specs.Columns.{projection_of}
 use Rattle.settings_outgo.specs.Outgoings.{outgoings_of, SettingOf, later_as}
 use Rattle.settings_outgo.specs.declared.Setting.{Setting}
 use Rattle.settings.proofs.Weights.{each_setting}
 
 -- a setting has the weights of mortality and lapse of the projection that serves it
-pub served : (b : List ℕ) (setting : ℕ) → setting < 8 → decrements_of b (projection_of setting) ≡ decrements_of b setting
-unfolding projection_of same_columns columns_of survival_column same_mortality persistency_column decrements_of mortality_weight
+pub served : (b : List ℕ) (setting : ℕ) → setting < 8 → decrements_of b (projection_of setting) ≡ decrements_of b
+    setting
+unfolding projection_of same_columns columns_of survival_column same_mortality persistency_column decrements_of
+    mortality_weight
     weight_of
 served b = each_setting (λ s. decrements_of b (projection_of s) ≡ decrements_of b s) refl refl refl refl refl refl refl
     refl

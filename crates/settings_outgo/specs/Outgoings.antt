@@ -1,5 +1,5 @@
--- The weights of costs and claims, in thousandths (paper, section Settings), and a setting as a group's years are valued
--- in it. Assumes nothing.
+-- The weights of costs and claims, in thousandths (paper, section Settings), and a setting as a group's years are
+-- valued in it. Assumes nothing.
 use Rattle.std.specs.Prelude.{Bool, ◌&&◌, cond, ◌≡◌, ℕ, ◌<◌, ◌≤◌, ltb, eqb}
 use Rattle.settings.specs.Settings.{weight_of}
 use Rattle.settings_columns.specs.Columns.{projection_of}

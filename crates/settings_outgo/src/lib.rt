@@ -1,5 +1,7 @@
 // The weights of costs and claims of a setting, and a setting as the years of a group are valued in
 // it: structs by value, read outside the loops.
+#![tactic(auto)]
+
 ghost use Rattle.std.specs.Prelude.{◌≡◌, ◌<◌, ◌≤◌};
 ghost use Rattle.settings_outgo.specs.Outgoings.{outgo_at, outgoings_of, costs_in};
 ghost use Rattle.settings_outgo.specs.Outgoings.{claims_weight_in, OutgoWeighed, SettingOf};
@@ -8,7 +10,7 @@ ghost use Rattle.settings_outgo.specs.Outgoings.{later_as};
 use settings::{CLAIMS, COSTS};
 
 // The weights of costs and claims in one year.
-#[derive(Drop)]
+#[derive(Clone, Copy)]
 pub struct OutgoWeights {
     pub costs: u64,
     pub claims: u64,
@@ -29,7 +31,7 @@ impl OutgoWeights {
 }
 
 // The weights of costs and claims of a setting: in the years k = 0 to 4, and in the later ones.
-#[derive(Drop)]
+#[derive(Clone, Copy)]
 pub struct Outgoings {
     pub first: OutgoWeights,
     pub later: OutgoWeights,
@@ -75,7 +77,7 @@ impl Outgoings {
 
 // A setting as the years of a group are valued in it: its number, the projection that serves it,
 // its weights of costs and claims.
-#[derive(Drop)]
+#[derive(Clone, Copy)]
 pub struct Setting {
     pub number: usize,
     pub projection: usize,

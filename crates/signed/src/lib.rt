@@ -1,4 +1,6 @@
 // Numbers with a sign: sums, differences, products, size and sign, and one of an array.
+#![tactic(auto)]
+
 ghost use Rattle.std.specs.Prelude.{◌≡◌, ◌+◌, ◌*◌, ◌≤◌, ◌<◌, pos, nat_abs, ◌+ℤ◌, ◌-ℤ◌, ◌*ℤ◌, ◌<ℤ◌};
 ghost use Rattle.std.specs.Int.Signed.{mag};
 ghost use Rattle.signed.specs.Signs.{number_at, is_negative, same, with_sign};
@@ -38,7 +40,7 @@ pub fn size_below(v: i64) -> u64
 
 // A number with a sign in a struct of its own: what a call returns is passed on whole, and a
 // caller's facts are about the number itself.
-#[derive(Drop)]
+#[derive(Clone, Copy)]
 pub struct Signed {
     pub number: i64,
 }

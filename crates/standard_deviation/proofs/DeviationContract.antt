@@ -32,7 +32,8 @@ module _ (b : List ℕ) (t : TotalsReply) (e : t ≡ totals_reply b) where
   pub book_accepted : t.refusal ≡ 0 → check_book 1 b ≡ Accepted (count_of (check_book 1 b))
   unfolding totals_reply
   book_accepted none =
-      zero_accepted 1 b (sym (by (check_book 1 b) (held_in_all b (last_class 1)) (totals_of b) (differences_of b) e) ∙ none)
+      zero_accepted 1 b
+      (sym (by (check_book 1 b) (held_in_all b (last_class 1)) (totals_of b) (differences_of b) e) ∙ none)
     where
       by : (v : Verdict) (n : ℕ) (ts ds : List ℤ) → t ≡ totals_for v n ts ds → t.refusal ≡ refusal_of v
       by (Accepted m) n ts ds f = ap (λ (x : TotalsReply). x.refusal) f
@@ -89,5 +90,6 @@ module _ (b : List ℕ) (m : RiskModel) where
         root = λ z. rw (e, reckoned (rw e at z)) (root_known (differences_of b) m);
         most =
             rw e
-            (at_most (check_book 1 b) (check_factors (differences_of b) m) _ _ (λ z. deviation_most _ m (passed _ m z)));
+            (at_most (check_book 1 b) (check_factors (differences_of b) m) _ _
+            (λ z. deviation_most _ m (passed _ m z)));
       }

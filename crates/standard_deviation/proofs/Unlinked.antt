@@ -22,7 +22,8 @@ reply_differences : (b : List ℕ) (n : ℕ) → check_book 1 b ≡ Accepted n �
 unfolding totals_reply
 reply_differences b n e = rw e
 
-pub deviation_same : (b b' : List ℕ) → SameButUnlinked b b' → (m : RiskModel) → deviation_reply b m ≡ deviation_reply b' m
+pub deviation_same : (b b' : List ℕ) → SameButUnlinked b b' → (m : RiskModel)
+    → deviation_reply b m ≡ deviation_reply b' m
 unfolding deviation_reply check_deviation factors_reply ◌and_then◌
 deviation_same b b' s m = rw (← (unlinked_same b b' s 1)) (by (check_book 1 b) refl)
   where

@@ -1,4 +1,6 @@
 // The call Deviation: one standard deviation of the four risk factors of a book (FINMA 5.2.1).
+#![tactic(auto)]
+
 ghost use Rattle.standard_deviation.specs.Deviation.{DeviationContract};
 
 use risk_factors::DeviationReply;

@@ -2,16 +2,19 @@
 // length in four, and the book.
 // A line has how many years the projection of the chain's first cell computes, or the word none
 // where there is no such cell.
+#![tactic(auto)]
+
 ghost use Rattle.std.specs.Prelude.{◌<◌};
 
 use cell_projection::{A_YEAR, ModelPoint, YEARS};
 use five_projections::Counts;
-use libc::{STDIN_FILENO, STDOUT_FILENO};
 use rate_table::{COLUMNS, ROWS};
 use settings_decrements::Shifts;
+use std::io;
+use std::io::Read;
 use verdict::Verdict;
 
-#[derive(Drop)]
+#[derive(Clone, Copy)]
 pub enum Years {
     Computed(usize),
     NoCell,
@@ -55,48 +58,48 @@ fn first_projection(book: &[u8], setting: usize, chain: usize) -> Years {
     }
     let mut rows = [0u64; ROWS * COLUMNS];
     let mut sums = [0u64; YEARS * A_YEAR];
-    rate_table::read_rows(book, Shifts::new(book), chain, head, &mut rows);
+    chain_rows::read_rows(book, Shifts::new(book), chain, head, &mut rows);
     let count = book::field_of(book, head, book::COUNT_OFFSET);
     let point = ModelPoint { row: 0, count };
     let counts = five_projections::project(&rows, point, &mut sums);
     Years::Computed(years_of(counts, setting))
 }
 
-fn write_years(years: Years) {
+fn write_years(rt: &impl Print, years: Years) -> io::Result<()> {
     match years {
-        Years::Computed(n) => {
-            io::print_decimal(STDOUT_FILENO, n as u64);
-        }
-        Years::NoCell => {
-            io::write_all(STDOUT_FILENO, b"none");
-        }
+        Years::Computed(n) => println!(rt; "{n}"),
+        Years::NoCell => println!(rt; "none"),
     }
-    io::write_all(STDOUT_FILENO, b"\n");
 }
 
 // One entry; false where the stream has ended.
-fn next_cell() -> bool {
+fn next_cell<R: Read>(rt: &impl Print, entries: &mut R) -> io::Result<bool> {
     let mut head = [0u8; 20];
-    if io::read_full(STDIN_FILENO, &mut head) < 20 {
-        return false;
+    if streams::read_full(entries, &mut head)? < 20 {
+        return Ok(false);
     }
     let setting = test_stream::read_u64(&head, 0);
     let chain = test_stream::read_u64(&head, 8);
     let size = le_bytes::read_u32(&head, 16);
-    let mut space = io::large_buffer();
-    let got = test_stream::next_bytes(&mut space, size);
+    let mut space = test_stream::book_buffer();
+    let got = test_stream::next_bytes(entries, &mut space, size)?;
     if (got as u64) < size {
-        return false;
+        return Ok(false);
     }
-    write_years(first_projection(&space[..got], setting as usize, chain as usize));
-    true
+    write_years(
+        rt,
+        first_projection(&space[..got], setting as usize, chain as usize),
+    )?;
+    Ok(true)
 }
 
-fn main() {
+fn main(rt: HostRuntime) -> io::Result<()> {
+    let mut entries = rt.stdin();
     // No stream has more entries than this, and every loop ends.
     for _ in 0usize..1_000_000 {
-        if !next_cell() {
-            return;
+        if !next_cell(&rt, &mut entries)? {
+            break;
         }
     }
+    Ok(())
 }

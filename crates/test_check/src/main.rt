@@ -1,44 +1,40 @@
 // The check on a stream of books: each book follows its length in four bytes, and each verdict is a
 // line.
-use libc::STDOUT_FILENO;
+#![tactic(auto)]
+
+use std::io;
+use std::io::Read;
 use test_stream::Next;
 use verdict::Verdict;
 
-fn write_verdict(v: Verdict) {
+fn write_verdict(rt: &impl Print, v: Verdict) -> io::Result<()> {
     match v {
-        Verdict::Accepted(n) => {
-            io::write_all(STDOUT_FILENO, b"accepted ");
-            io::print_decimal(STDOUT_FILENO, n);
-        }
-        Verdict::Refused(number, place) => {
-            io::write_all(STDOUT_FILENO, b"refused ");
-            io::print_decimal(STDOUT_FILENO, number);
-            io::write_all(STDOUT_FILENO, b" ");
-            io::print_decimal(STDOUT_FILENO, place as u64);
-        }
+        Verdict::Accepted(n) => println!(rt; "accepted {n}"),
+        Verdict::Refused(number, place) => println!(rt; "refused {number} {place}"),
     }
-    io::write_all(STDOUT_FILENO, b"\n");
 }
 
 // One book; false where the stream has ended.
-fn next_verdict() -> bool {
-    let Next::Number(size) = test_stream::next_u32() else {
-        return false;
+fn next_verdict<R: Read>(rt: &impl Print, books: &mut R) -> io::Result<bool> {
+    let Next::Number(size) = test_stream::next_u32(books)? else {
+        return Ok(false);
     };
-    let mut space = io::large_buffer();
-    let got = test_stream::next_bytes(&mut space, size);
+    let mut space = test_stream::book_buffer();
+    let got = test_stream::next_bytes(books, &mut space, size)?;
     if (got as u64) < size {
-        return false;
+        return Ok(false);
     }
-    write_verdict(book_check::check(&space[..got]));
-    true
+    write_verdict(rt, book_check::check(&space[..got]))?;
+    Ok(true)
 }
 
-fn main() {
+fn main(rt: HostRuntime) -> io::Result<()> {
+    let mut books = rt.stdin();
     // No stream has more books than this, and every loop ends.
     for _ in 0usize..1_000_000 {
-        if !next_verdict() {
-            return;
+        if !next_verdict(&rt, &mut books)? {
+            break;
         }
     }
+    Ok(())
 }

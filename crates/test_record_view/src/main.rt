@@ -1,62 +1,63 @@
 // The record view on a stream: each entry is a record number in eight bytes, the book's length in
 // four, and the book. A line has the refusal, its place, the number of bytes shown and, where there
 // are any, those bytes in hexadecimal.
-use libc::STDOUT_FILENO;
+#![tactic(auto)]
+
+use std::io;
+use std::io::Read;
 use test_stream::Next;
 
-fn write_number(n: u64) {
-    io::print_decimal(STDOUT_FILENO, n);
-    io::write_all(STDOUT_FILENO, b" ");
+fn write_number(rt: &impl Print, n: u64) -> io::Result<()> {
+    print!(rt; "{n} ")
 }
 
-fn write_bytes(part: &[u8]) {
-    let mut k = 0;
-    while k < part.len() {
-        io::print_hex(STDOUT_FILENO, le_bytes::read_u8(part, k) as u64, 2);
-        k += 1;
+fn write_bytes(rt: &impl Print, part: &[u8]) -> io::Result<()> {
+    for byte in part {
+        print!(rt; "{byte:02x}")?;
     }
+    Ok(())
 }
 
-fn write_shown(refusal: u64, place: usize, part: &[u8]) {
-    write_number(refusal);
-    write_number(place as u64);
-    io::print_decimal(STDOUT_FILENO, part.len() as u64);
+fn write_shown(rt: &impl Print, refusal: u64, place: usize, part: &[u8]) -> io::Result<()> {
+    write_number(rt, refusal)?;
+    write_number(rt, place as u64)?;
+    print!(rt; "{}", part.len())?;
     if part.len() > 0 {
-        io::write_all(STDOUT_FILENO, b" ");
+        print!(rt; " ")?;
     }
-    write_bytes(part);
-    io::write_all(STDOUT_FILENO, b"\n");
+    write_bytes(rt, part)?;
+    println!(rt)
 }
 
-// A struct that holds a reference is a proof by hand in every function with such a local: this one
-// takes it apart, and the rest is covered.
-fn write_record(book: &[u8], number: usize) {
+fn write_record(rt: &impl Print, book: &[u8], number: usize) -> io::Result<()> {
     let shown = record_view::view_record(book, number);
-    write_shown(shown.refusal, shown.place, shown.part);
+    write_shown(rt, shown.refusal, shown.place, shown.part)
 }
 
 // One entry; false where the stream has ended.
-fn next_record() -> bool {
-    let Next::Number(number) = test_stream::next_u64() else {
-        return false;
+fn next_record<R: Read>(rt: &impl Print, entries: &mut R) -> io::Result<bool> {
+    let Next::Number(number) = test_stream::next_u64(entries)? else {
+        return Ok(false);
     };
-    let Next::Number(size) = test_stream::next_u32() else {
-        return false;
+    let Next::Number(size) = test_stream::next_u32(entries)? else {
+        return Ok(false);
     };
-    let mut space = io::large_buffer();
-    let got = test_stream::next_bytes(&mut space, size);
+    let mut space = test_stream::book_buffer();
+    let got = test_stream::next_bytes(entries, &mut space, size)?;
     if (got as u64) < size {
-        return false;
+        return Ok(false);
     }
-    write_record(&space[..got], number as usize);
-    true
+    write_record(rt, &space[..got], number as usize)?;
+    Ok(true)
 }
 
-fn main() {
+fn main(rt: HostRuntime) -> io::Result<()> {
+    let mut entries = rt.stdin();
     // No stream has more entries than this, and every loop ends.
     for _ in 0usize..1_000_000 {
-        if !next_record() {
-            return;
+        if !next_record(&rt, &mut entries)? {
+            break;
         }
     }
+    Ok(())
 }

@@ -1,23 +1,35 @@
-// What the test programs read from standard input: numbers, least byte first, and bytes.
-ghost use Rattle.std.specs.Prelude.{◌≡◌, ◌+◌, ◌≤◌, length};
+// What the test programs read from a stream: numbers, least byte first, and bytes.
+#![tactic(auto)]
+
+ghost use Rattle.std.specs.Prelude.{◌≡◌, ◌+◌, ◌≤◌, ℕ, OnErr, length, take};
+ghost use Rattle.std.specs.Io.{ReadsAtMost};
+ghost use Rattle.std.specs.Io.KnownBytes.{Consumes};
 ghost use Rattle.le_bytes.specs.Bytes.{read_u64};
-ghost use Rattle.io.specs.Counts.{IsPrefixLen};
 
-use libc::STDIN_FILENO;
+use std::io;
+use std::io::Read;
 
-// The next number, or none where the input has ended.
-#[derive(Drop)]
+// The next number, or none where the input has ended. The functions that read it, of four bytes and
+// of eight, answer the error of a read that fails, and no other.
+#[derive(Clone, Copy)]
 pub enum Next {
     Number(u64),
     Ended,
 }
 
-pub fn next_u32() -> Next {
+// Zeros, more than the longest book of a stream has bytes.
+pub fn book_buffer() -> [u8; 65_536]
+    ensures { 65_536 ≡ length result }
+{
+    [0; 65_536]
+}
+
+pub fn next_u32<R: Read>(reader: &mut R) -> io::Result<Next> {
     let mut bytes = [0u8; 4];
-    if io::read_full(STDIN_FILENO, &mut bytes) < 4 {
-        return Next::Ended;
+    if streams::read_full(reader, &mut bytes)? < 4 {
+        return Ok(Next::Ended);
     }
-    Next::Number(le_bytes::read_u32(&bytes, 0))
+    Ok(Next::Number(le_bytes::read_u32(&bytes, 0)))
 }
 
 // The number of eight bytes at a place.
@@ -28,22 +40,25 @@ pub fn read_u64(b: &[u8], at: usize) -> u64
     le_bytes::read_u32(b, at) + 4_294_967_296 * le_bytes::read_u32(b, at + 4)
 }
 
-pub fn next_u64() -> Next {
+pub fn next_u64<R: Read>(reader: &mut R) -> io::Result<Next> {
     let mut bytes = [0u8; 8];
-    if io::read_full(STDIN_FILENO, &mut bytes) < 8 {
-        return Next::Ended;
+    if streams::read_full(reader, &mut bytes)? < 8 {
+        return Ok(Next::Ended);
     }
-    Next::Number(read_u64(&bytes, 0))
+    Ok(Next::Number(read_u64(&bytes, 0)))
 }
 
 // Reads so many bytes to the start of a buffer, and answers how many came: none where the buffer is
-// too short.
-pub fn next_bytes(buffer: &mut [u8], size: u64) -> usize
-    ensures { IsPrefixLen result buffer.new }
+// too short. A read that fails ends it, with that read's error and no other: what was read before
+// it stands at the buffer's start.
+pub fn next_bytes<R: Read>(reader: &mut R, buffer: &mut [u8], size: u64) -> io::Result<usize>
+    ensures bound { ReadsAtMost result buffer.new }
+    ensures error { OnErr result ((n : ℕ) × (n ≤ length buffer.new)
+        × Consumes (R.remaining reader.old) (R.remaining reader.new) (take n buffer.new)) }
 {
     if (buffer.len() as u64) < size {
-        return 0;
+        return Ok(0);
     }
     let end = size as usize;
-    io::read_full(STDIN_FILENO, &mut buffer[..end])
+    streams::read_full(reader, &mut buffer[..end])
 }

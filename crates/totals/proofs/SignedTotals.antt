@@ -56,5 +56,6 @@ module _ (b : List ℕ) (t : List ℤ) (h : (t ≡ totals_of b) × Sizes t) (j :
   total_at = signed_roundtrip (get_or t j (pos 0)) (omega (arith, h.1 j)) ∙ ap (λ (l : List ℤ). get_or l j (pos 0)) h.0
 
 -- a difference of two of them
-pub difference_is : (a b x y r : ℤ) → mag r < 2 ^ hbits w64 → r ≡ x -ℤ y → x ≡ a → y ≡ b → to_z w64 (of_z w64 r) ≡ a -ℤ b
+pub difference_is : (a b x y r : ℤ) → mag r < 2 ^ hbits w64 → r ≡ x -ℤ y → x ≡ a → y ≡ b
+    → to_z w64 (of_z w64 r) ≡ a -ℤ b
 difference_is a b x y r ok e ex ey = signed_roundtrip r ok ∙ e ∙ rw (ex, ey)

@@ -1,4 +1,6 @@
 // The call Totals: the eight totals of a book, n over all groups, and four differences.
+#![tactic(auto)]
+
 ghost use Rattle.std.specs.Prelude.{◌≡◌, []};
 ghost use Rattle.verdict.specs.declared.Verdict.TheVariants.{Accepted, Refused};
 ghost use Rattle.book.specs.Reading.{ValidBook};

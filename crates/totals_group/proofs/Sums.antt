@@ -81,7 +81,8 @@ pub liability_read : (b : List ℕ) (setting g : ℕ) (r : ℤ) → mag r < 2 ^ 
 liability_read b setting g r ok h = rw (signed_roundtrip r ok) (record { is = h.0; most = h.1 })
 
 -- a sum, as it is read from the totals
-pub sum_read : (b : List ℕ) (setting n : ℕ) (z : ℤ) → n ≤ 5 → Sum b setting n z → Sum b setting n (to_z w64 (of_z w64 z))
+pub sum_read : (b : List ℕ) (setting n : ℕ) (z : ℤ) → n ≤ 5 → Sum b setting n z
+    → Sum b setting n (to_z w64 (of_z w64 z))
 sum_read b setting n z h p = rw (signed_roundtrip z (omega (arith, p.most))) p
 
 -- a sum with one group more, as it is stored

@@ -1,5 +1,7 @@
 // A product group's liabilities in the eight settings, added to the totals.
 // Internal: the functions ask for an accepted book, which the call above has from the check.
+#![tactic(auto)]
+
 ghost use Rattle.std.specs.Prelude.{◌≡◌, ◌-◌, ◌≤◌};
 ghost use Rattle.std.specs.Int.Signed.{mag};
 ghost use Rattle.settings_outgo.specs.Outgoings.{SettingOf};
@@ -15,7 +17,7 @@ use present_value_span::Amounts;
 use settings_outgo::Setting;
 
 // The base, and what its years from k = 5 on give to a product group.
-#[derive(Drop)]
+#[derive(Clone, Copy)]
 struct Base {
     setting: Setting,
     later: Amounts,

@@ -153,7 +153,8 @@ module _ (b : List ℕ) (w : Decrements) where
     chains_good zero k few = tt
     chains_good (suc left) k few =
         rw (cells_append b w (chain_links b k) (links_of b (k + 1) left))
-        (good_append (cells_of b w (chain_links b k)) (cells_of b w (links_of b (k + 1) left)) (chain_good k (omega arith))
+        (good_append (cells_of b w (chain_links b k)) (cells_of b w (links_of b (k + 1) left))
+        (chain_good k (omega arith))
         (chains_good left (k + 1) (omega arith)))
 
   pub good_cells : (g : ℕ) → ValidBook 1 b → 1 ≤ g → g ≤ 5 → GoodCells (group_cells b w g)

@@ -26,7 +26,8 @@ near_more {r} {x} {e} {f} h n = record {
 pub near_whole : (n : ℕ) → Near n (whole_fraction n) 0
 near_whole n = record { positive = omega arith; low = omega arith; high = omega arith }
 
-pub near_plus : {r s : ℕ} {x y : Fraction} {e f : ℕ} → Near r x e → Near s y f → Near (r + s) (plus_fraction x y) (e + f)
+pub near_plus : {r s : ℕ} {x y : Fraction} {e f : ℕ} → Near r x e → Near s y f → Near (r + s) (plus_fraction x y)
+    (e + f)
 near_plus {r} {s} {x} {y} {e} {f} n m = record {
   positive = mul-pos n.positive m.positive;
   low = omega (arith, mul-le-mul_right y.under n.low, mul-le-mul_right x.under m.low);

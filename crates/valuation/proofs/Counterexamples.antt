@@ -23,9 +23,12 @@ unfolding group_liability links_of end_to_end
 together b setting = record { years = λ g. refl; liability_is = λ g. refl; pg1 = refl }
 
 pub traps : Traps
-unfolding liability total_outgo total_premium sum_by discounted_premium discounted_outgo discounted counted_premium capped
-    capped_if outgo claims_sum premium_sum sum_cells cell_claims cell_premium in_force cell_of row_at one_less mortality_of next_of
-    class_of field_of decrements_of mortality_weight percent_of weight_of men_book men_at four_bytes two_bytes end_to_end read_u16
+unfolding liability total_outgo total_premium sum_by discounted_premium discounted_outgo discounted counted_premium
+    capped
+    capped_if outgo claims_sum premium_sum sum_cells cell_claims cell_premium in_force cell_of row_at one_less
+    mortality_of next_of
+    class_of field_of decrements_of mortality_weight percent_of weight_of men_book men_at four_bytes two_bytes
+    end_to_end read_u16
     read_u32
 traps = record {
   subgroups_capped_one_by_one = record { figure_is = refl; other_is = refl; differ = λ e. absurd (omega arith) };

@@ -13,7 +13,7 @@ use Rattle.valuation.specs.Steps.{Cell, Terms, held, one_unless, in_force, cell_
 use Rattle.valuation.specs.Steps.{premium_sum, claims_sum, outgo, capped_if, capped, counted_premium, discounted}
 use Rattle.valuation.specs.Steps.{discounted_outgo, discounted_premium, total_outgo, total_premium}
 use Rattle.valuation.specs.Steps.{liability, exact_liability, less}
-use Rattle.valuation.specs.Contracts.{GroupDistance, GroupHalfDistance}
+use Rattle.valuation.specs.CallContracts.{GroupDistance, GroupHalfDistance}
 use Rattle.valuation.specs.Bounds.{GoodCell, GoodCells, GoodTerms, Within}
 use Rattle.valuation.proofs.Approximation.{Near, near_whole, near_part, near_plus, near_more}
 use Rattle.valuation.proofs.Differences.{diff_less, diff_minus, diff_times, diff_abs}
@@ -39,7 +39,8 @@ abbrev amount_err : ℕ → ℕ
 amount_err k = 20_000 * k + 1_000_000
 
 near_amount : (c : Cell) → GoodCell c → (k : ℕ) → k < 50 → (w : ℕ) → w ≤ 10_000_000
-    → Near (in_force rounded c k * w / 1_000_000_000) (part_fraction (in_force exact c k) w 1_000_000_000) (amount_err k)
+    → Near (in_force rounded c k * w / 1_000_000_000) (part_fraction (in_force exact c k) w 1_000_000_000)
+    (amount_err k)
 near_amount c g k h w hw =
     near_part w 1_000_000_000 (20_000 * k) (omega arith) (omega (arith, mul-le-mul_left (2_000_000 * k) hw))
     (near_in_force c g k h)
@@ -122,7 +123,8 @@ near_sums : (n : ℕ) (r : ℕ → ℕ) (x : ℕ → Fraction) (E : ℕ → Err)
 unfolding sum_by
 near_sums n r x E zero f = near_more (omega arith) (near_whole 0)
 near_sums n r x E (suc j) f =
-    near_plus_err n (sum_by no_err plus_err E j) (E j) (near_sums n r x E j (λ k h. f k (omega arith))) (f j (omega arith))
+    near_plus_err n (sum_by no_err plus_err E j) (E j) (near_sums n r x E j (λ k h. f k (omega arith)))
+    (f j (omega arith))
 
 near_back : (n D d : ℕ) → 0 < D → {r : ℕ} {x : Fraction} (E : Err) (j : ℕ) → (0 < j → D ≤ d) → Near r x (at E n)
     → Near (discounted rounded d j r) (discounted exact d j x) (at (back_err D j E) n)
@@ -158,7 +160,8 @@ module _ (D : ℕ) (D-positive : 0 < D) (t : Terms) (good-t : GoodTerms D t) (cs
       (mul-le-mul good-t.cost_rate_most (good-t.cost_weight-most k year)) (omega arith) (omega arith)
       near_premium_sum)
 
-  near_counted_premium : Near (counted_premium rounded t cs k) (counted_premium exact t cs k) (at (premium_err k) (held cs))
+  near_counted_premium : Near (counted_premium rounded t cs k) (counted_premium exact t cs k)
+      (at (premium_err k) (held cs))
   unfolding counted_premium capped capped_if
   near_counted_premium = go (leb 5 k)
     where

@@ -22,8 +22,8 @@ use Rattle.valuation.specs.Arithmetic.{rounded}
 use Rattle.valuation.specs.Steps.{Cell, Terms, outgo, capped_if, capped, counted_premium}
 use Rattle.valuation.specs.Portfolio.{divisor_of, NoRateBelowZero, group_cells, terms_of}
 use Rattle.valuation.specs.Bounds.{Within}
-use Rattle.valuation.specs.Contracts.{GroupPromise, each_cell, each_group, distance_of, half_cell, half_group}
-use Rattle.valuation.specs.Contracts.{half_distance_of}
+use Rattle.valuation.specs.CallContracts.{GroupPromise, each_cell, each_group, distance_of, half_cell, half_group}
+use Rattle.valuation.specs.CallContracts.{half_distance_of}
 use Rattle.valuation.specs.Replies.{group_check, group_liability, exact_group_liability, refusal_in, reply_of}
 use Rattle.valuation.specs.Replies.{group_reply, year_numbers, year_table, group_table, GroupContract}
 use Rattle.valuation.specs.declared.GroupReply.{GroupReply}
@@ -111,7 +111,8 @@ module _ (b : List ℕ) (setting g : ℕ) (v : ValidBook 1 b) (range : (1 ≤ g)
   pub group_half_distance : NoRateBelowZero b
       → Within (half_distance_of (held_of_group b (last_class 1) g)) (group_liability b setting g)
       (exact_group_liability b setting g)
-  group_half_distance ordinary = group_within 1_000_000 half_cell half_group half_distance (divisor_ordinary b v ordinary)
+  group_half_distance ordinary = group_within 1_000_000 half_cell half_group half_distance
+      (divisor_ordinary b v ordinary)
 
 -- where Group accepts
 module _ (b : List ℕ) (setting g : ℕ) (before : List ℕ) (n : ℕ)
@@ -130,7 +131,8 @@ module _ (b : List ℕ) (setting g : ℕ) (before : List ℕ) (n : ℕ)
       (group_range b setting g (length before) n e)
 
   group_cap : (k : ℕ) → 5 ≤ k → k < 50
-      → 9 * get_or (group_table b setting g before) (4 * k) 0 ≤ 10 * get_or (group_table b setting g before) (4 * k + 1) 0
+      → 9 * get_or (group_table b setting g before) (4 * k) 0 ≤ 10 * get_or (group_table b setting g before) (4 * k + 1)
+      0
   unfolding group_table
   group_cap k late year =
       let t = terms_of b setting g in

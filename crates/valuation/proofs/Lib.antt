@@ -11,5 +11,4 @@ pub mod GroupContract
 pub mod Total
 pub mod PaperDifferences
 pub mod TestVectors
-pub mod TestVectorBook
 pub mod Unlinked

@@ -8,7 +8,8 @@ use native.Mathlib.Nat.{add-zero, add-suc}
 use native.Mathlib.Omega.{arith}
 use borrow.Author.Tests.{ltb-true, ltb-false, le-ltb}
 use lib.Dec.{ltb}
-use Rattle.book.specs.Layout.{last_class, sex_of, class_of, next_of, field_of, lapse_offset, premium_offset, claims_offset}
+use Rattle.book.specs.Layout.{last_class, sex_of, class_of, next_of, field_of, lapse_offset, premium_offset}
+use Rattle.book.specs.Layout.{claims_offset}
 use Rattle.book.specs.Reading.{Standing}
 use Rattle.settings_decrements.specs.Decrements.{mortality_in, lapse_in}
 use Rattle.settings_decrements.specs.declared.Decrements.{Decrements}

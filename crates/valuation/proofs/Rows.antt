@@ -31,7 +31,8 @@ module _ (b : List ℕ) (k : ℕ) where
   pub onward_standing : (r : ℕ) → Standing b (last_class 1) k r → Standing b (last_class 1) k (onward b r)
   onward_standing r s = by_class (ltb (class_of b r) (last_class 1)) refl
     where
-      by_class : (t : Bool) → ltb (class_of b r) (last_class 1) ≡ t → Standing b (last_class 1) k (cond t (next_of b r) r)
+      by_class : (t : Bool) → ltb (class_of b r) (last_class 1) ≡ t → Standing b (last_class 1) k
+          (cond t (next_of b r) r)
       by_class true e = next_standing r s (ltb-true _ _ e)
       by_class false e = s
 

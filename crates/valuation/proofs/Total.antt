@@ -22,8 +22,8 @@ use Rattle.book.proofs.Valid.{valid}
 use Rattle.valuation.specs.Steps.{SignedFraction}
 use Rattle.valuation.specs.Portfolio.{NoRateBelowZero}
 use Rattle.valuation.specs.Bounds.{Within}
-use Rattle.valuation.specs.Contracts.{each_cell, each_group, all_groups, total_distance_of, half_cell, half_group}
-use Rattle.valuation.specs.Contracts.{half_all_groups, half_total_distance_of}
+use Rattle.valuation.specs.CallContracts.{each_cell, each_group, all_groups, total_distance_of, half_cell, half_group}
+use Rattle.valuation.specs.CallContracts.{half_all_groups, half_total_distance_of}
 use Rattle.valuation.specs.Replies.{group_liability, exact_group_liability}
 use Rattle.valuation.specs.Totals.{total_of, plus_signed, exact_sum_below, exact_total_of, totals_of}
 use Rattle.valuation.specs.Totals.{totals_for, totals_reply, TotalsContract}
@@ -90,7 +90,8 @@ module _ (b : List ℕ) where
   pub total_distance : (setting : ℕ) → ValidBook 1 b
       → Within (total_distance_of (held_in_all b (last_class 1))) (total_of b setting) (exact_total_of b setting)
   total_distance setting v =
-      total_within each_cell each_group all_groups setting (omega arith) (λ g lo hi. group_distance b setting g v (lo, hi))
+      total_within each_cell each_group all_groups setting (omega arith)
+      (λ g lo hi. group_distance b setting g v (lo, hi))
 
   pub total_half_distance : (setting : ℕ) → ValidBook 1 b → NoRateBelowZero b
       → Within (half_total_distance_of (held_in_all b (last_class 1))) (total_of b setting) (exact_total_of b setting)

@@ -14,8 +14,9 @@ use Rattle.lists.proofs.Sums.{sum_same}
 use Rattle.verdict.specs.declared.Verdict.{Verdict}
 use Rattle.verdict.specs.declared.Verdict.TheVariants.{Accepted, Refused}
 use Rattle.le_bytes.proofs.Same.{u32_same}
-use Rattle.buffer.specs.Replies.{buffer_for}
-use Rattle.book.specs.Layout.{record_size, last_class, chains, head_of, sex_of, class_of, next_of, field_of, count_offset}
+use Rattle.text_reply.specs.Replies.{buffer_for}
+use Rattle.book.specs.Layout.{record_size, last_class, chains, head_of, sex_of, class_of, next_of, field_of}
+use Rattle.book.specs.Layout.{count_offset}
 use Rattle.book.specs.Layout.{lapse_offset, premium_offset, claims_offset, curve_place, link_from}
 use Rattle.book.specs.Cells.{first_chain, chains_of, held_of_group, held_in_all}
 use Rattle.book.specs.Check.{check_book}
@@ -140,7 +141,8 @@ module _ (b b' : List ℕ) (k i : ℕ) (h : Kept b b' k i) where
 
 -- Terms and cells.
 module _ (b b' : List ℕ) (s : SameButUnlinked b b') where
-  mortality_same : (sex class : ℕ) → sex ≤ 1 → class ≤ last_class 1 → mortality_of b sex class ≡ mortality_of b' sex class
+  mortality_same : (sex class : ℕ) → sex ≤ 1 → class ≤ last_class 1 → mortality_of b sex class ≡ mortality_of b' sex
+      class
   unfolding mortality_of
   mortality_same sex class two old = u32_same b b' _ _ (front_same b b' s) _ (omega arith) (omega arith)
 
@@ -188,7 +190,8 @@ module _ (b b' : List ℕ) (s : SameButUnlinked b b') where
             )
 
     -- from record i on, which may be none
-    from_same : (k m i : ℕ) → (0 < i → Kept b b' k i) → cells_of b w (links_from b i m) ≡ cells_of b' w (links_from b' i m)
+    from_same : (k m i : ℕ) → (0 < i → Kept b b' k i) → cells_of b w (links_from b i m) ≡ cells_of b' w
+        (links_from b' i m)
     unfolding cells_of links_from
     from_same k zero i h = refl
     from_same k (suc m) i h = by_end (eqb i 0) refl (λ some. from_same k m (next_of b i) (kept_more b b' k i (h some)))
@@ -209,7 +212,8 @@ module _ (b b' : List ℕ) (s : SameButUnlinked b b') where
         λ j l. record_same b b' s k j few l,
       )
 
-      chains_same : (left k : ℕ) → k + left ≤ chains → cells_of b w (links_of b k left) ≡ cells_of b' w (links_of b' k left)
+      chains_same : (left k : ℕ) → k + left ≤ chains → cells_of b w (links_of b k left) ≡ cells_of b' w
+          (links_of b' k left)
       unfolding cells_of links_of
       chains_same zero k few = refl
       chains_same (suc left) k few =
@@ -240,11 +244,13 @@ module _ (b b' : List ℕ) (s : SameButUnlinked b b') (setting g : ℕ) (v : Val
   group_years_same : year_table (terms_of b setting g) (group_cells b (decrements_of b setting) g) 50 ≡ year_table
       (terms_of b' setting g) (group_cells b' (decrements_of b' setting) g) 50
   group_years_same =
-      rw group_cells_same (years_same _ _ (group_cells b' (decrements_of b' setting) g) group_terms_same 50 (omega arith))
+      rw group_cells_same (years_same _ _ (group_cells b' (decrements_of b' setting) g) group_terms_same 50
+      (omega arith))
 
   group_held_same : held_of_group b (last_class 1) g ≡ held_of_group b' (last_class 1) g
   group_held_same =
-      sym (held_group b (decrements_of b setting) g) ∙ ap held group_cells_same ∙ held_group b' (decrements_of b' setting)
+      sym (held_group b (decrements_of b setting) g) ∙ ap held group_cells_same ∙ held_group b'
+      (decrements_of b' setting)
       g
 
 -- Group's reply and table.

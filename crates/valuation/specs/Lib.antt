@@ -1,7 +1,7 @@
 pub mod Arithmetic
 pub mod Steps
 pub mod Bounds
-pub mod Contracts
+pub mod CallContracts
 pub mod Portfolio
 pub mod Replies
 pub mod Totals

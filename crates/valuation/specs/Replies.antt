@@ -1,10 +1,11 @@
 -- What Group answers, what its year table then holds, and what is promised of both.
-use Rattle.std.specs.Prelude.{ℕ, zero, suc, ◌+◌, ◌*◌, ◌<◌, ◌≤◌, ◌≡◌, List, [], ◌∷◌, ◌++◌, leb, ltb, ℤ, pos, length, get_or}
+use Rattle.std.specs.Prelude.{ℕ, zero, suc, ◌+◌, ◌*◌, ◌<◌, ◌≤◌, ◌≡◌, List, [], ◌∷◌, ◌++◌, leb, ltb, ℤ, pos, length}
+use Rattle.std.specs.Prelude.{get_or}
 use Rattle.verdict.specs.Verdicts.{need, ◌and_then◌}
 use Rattle.le_bytes.specs.Fields.{within}
 use Rattle.verdict.specs.declared.Verdict.{Verdict}
 use Rattle.verdict.specs.declared.Verdict.TheVariants.{Accepted, Refused}
-use Rattle.buffer.specs.Replies.{buffer_for}
+use Rattle.text_reply.specs.Replies.{buffer_for}
 use Rattle.book.specs.Layout.{last_class}
 use Rattle.book.specs.Cells.{held_of_group}
 use Rattle.book.specs.Check.{check_book}
@@ -14,7 +15,7 @@ use Rattle.valuation.specs.Steps.{Cell, Terms, SignedFraction, outgo, counted_pr
 use Rattle.valuation.specs.Steps.{discounted_premium, liability, exact_liability}
 use Rattle.valuation.specs.Portfolio.{NoRateBelowZero, group_cells, terms_of}
 use Rattle.valuation.specs.Bounds.{Within}
-use Rattle.valuation.specs.Contracts.{distance_of, half_distance_of}
+use Rattle.valuation.specs.CallContracts.{distance_of, half_distance_of}
 use Rattle.valuation.specs.declared.GroupReply.{GroupReply}
 use Rattle.valuation.specs.declared.GroupReply.TheVariants.{Valued, Refused as GroupRefused}
 
@@ -63,7 +64,8 @@ group_reply b setting g numbers =
 -- the four numbers of year k: premium after cap, outgo, both discounted
 abbrev pub year_numbers : Terms → List Cell → ℕ → List ℕ
 year_numbers t cs k =
-    counted_premium rounded t cs k ∷ outgo rounded t cs k ∷ discounted_premium rounded t cs k ∷ discounted_outgo rounded t
+    counted_premium rounded t cs k ∷ outgo rounded t cs k ∷ discounted_premium rounded t cs k
+    ∷ discounted_outgo rounded t
     cs k ∷ []
 
 -- the year table, document 01's term for the cash flows by year: those of the first j years
@@ -90,4 +92,5 @@ pub record GroupContract (b : List ℕ) (setting g : ℕ) (before after : List �
   pub half_distance : NoRateBelowZero b → refusal_in reply ≡ 0
       → Within (half_distance_of (count_in reply)) (liability_in reply) (exact_group_liability b setting g)
   -- from the sixth year on nine times the counted premium of the table is at most ten times its outgo
-  pub cap : (k : ℕ) → refusal_in reply ≡ 0 → 5 ≤ k → k < 50 → 9 * get_or after (4 * k) 0 ≤ 10 * get_or after (4 * k + 1) 0
+  pub cap : (k : ℕ) → refusal_in reply ≡ 0 → 5 ≤ k → k < 50
+      → 9 * get_or after (4 * k) 0 ≤ 10 * get_or after (4 * k + 1) 0

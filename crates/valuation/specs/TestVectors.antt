@@ -2,7 +2,8 @@
 use Rattle.std.specs.Prelude.{◌≡◌, List, ℕ, ◌+◌, ◌<◌, ◌≤◌, length, replicate}
 use Rattle.verdict.specs.declared.Verdict.TheVariants.{Refused}
 use Rattle.le_bytes.specs.Bytes.{read_u32}
-use Rattle.book.specs.Layout.{edition, curve_place, last_class, sex_of, class_of, next_of, field_of, count_offset, lapse_offset}
+use Rattle.book.specs.Layout.{edition, curve_place, last_class, sex_of, class_of, next_of, field_of, count_offset}
+use Rattle.book.specs.Layout.{lapse_offset}
 use Rattle.book.specs.Check.{check_book}
 use Rattle.settings_decrements.specs.Decrements.{decrements_of}
 use Rattle.valuation.specs.Arithmetic.{rounded}

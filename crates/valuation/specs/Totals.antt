@@ -9,7 +9,7 @@ use Rattle.book.specs.Check.{check_book}
 use Rattle.valuation.specs.Steps.{SignedFraction}
 use Rattle.valuation.specs.Portfolio.{NoRateBelowZero}
 use Rattle.valuation.specs.Bounds.{Within}
-use Rattle.valuation.specs.Contracts.{total_distance_of, half_total_distance_of}
+use Rattle.valuation.specs.CallContracts.{total_distance_of, half_total_distance_of}
 use Rattle.valuation.specs.Replies.{group_liability, exact_group_liability}
 use Rattle.valuation.specs.declared.TotalsReply.{TotalsReply}
 
@@ -35,7 +35,8 @@ exact_total_of b setting = exact_sum_below (λ j. exact_group_liability b settin
 -- the eight totals, setting 0 first
 abbrev pub totals_of : List ℕ → List ℤ
 totals_of b =
-    total_of b 0 ∷ total_of b 1 ∷ total_of b 2 ∷ total_of b 3 ∷ total_of b 4 ∷ total_of b 5 ∷ total_of b 6 ∷ total_of b 7 ∷ []
+    total_of b 0 ∷ total_of b 1 ∷ total_of b 2 ∷ total_of b 3 ∷ total_of b 4 ∷ total_of b 5 ∷ total_of b 6
+    ∷ total_of b 7 ∷ []
 
 -- the four differences: mortality, lapse, costs up less down, and claims less base
 abbrev pub differences_of : List ℕ → List ℤ

@@ -1,6 +1,7 @@
 -- The five traps of document 01 and a sixth, discounting in one step: a small example of each on the definitions that
 -- the calls meet, and what the wrong rule would make of it.
-use Rattle.std.specs.Prelude.{cond, ◌≡◌, List, [], ◌∷◌, ◌++◌, ℕ, ◌+◌, ◌-◌, ◌*◌, ◌/◌, leb, eqb, ℤ, pos, ◌+ℤ◌, ◌-ℤ◌, get_or, replicate}
+use Rattle.std.specs.Prelude.{cond, ◌≡◌, List, [], ◌∷◌, ◌++◌, ℕ, ◌+◌, ◌-◌, ◌*◌, ◌/◌, leb, eqb, pos, ◌+ℤ◌, ◌-ℤ◌}
+use Rattle.std.specs.Prelude.{get_or, replicate}
 use Rattle.le_bytes.specs.Bytes.{four_bytes}
 use Rattle.settings_decrements.specs.Decrements.{decrements_of}
 use Rattle.valuation.specs.Arithmetic.{rounded}
@@ -55,7 +56,8 @@ end_to_end (xs ∷ rest) = xs ++ end_to_end rest
 -- a record of men of PG2, of whom a tenth leave each year: its class, the record after it, and its count
 unfoldable pub men_at : ℕ → ℕ → ℕ → List ℕ
 men_at class next count =
-    end_to_end ((4 ∷ 0 ∷ class ∷ 0 ∷ next ∷ 0 ∷ 0 ∷ 0 ∷ []) ∷ four_bytes count ∷ four_bytes 100_000 ∷ replicate 8 0 ∷ [])
+    end_to_end
+    ((4 ∷ 0 ∷ class ∷ 0 ∷ next ∷ 0 ∷ 0 ∷ 0 ∷ []) ∷ four_bytes count ∷ four_bytes 100_000 ∷ replicate 8 0 ∷ [])
 
 -- A book of edition 1 with one man at class 119; there and at class 120 half of the men die, before weights.
 -- In turn its header; heads; cost rates and curve; mortality of men and of women; records.
@@ -109,7 +111,8 @@ pub record Together (b : List ℕ) (setting : ℕ) : Type 0 where
 
 pub record Traps : Type 0 where
   -- PG1a, PG1b and PG1c capped one by one: 1,500 would be cut to 277, and 100 stay
-  pub subgroups_capped_one_by_one : Apart (cells_premium_in both 5) 1_400 (cells_premium_in rich 5 + cells_premium_in poor 5)
+  pub subgroups_capped_one_by_one :
+      Apart (cells_premium_in both 5) 1_400 (cells_premium_in rich 5 + cells_premium_in poor 5)
       377
   pub subgroups_added : Apart (liability trap_terms both) (pos 0 -ℤ pos 7_987)
       (liability trap_terms rich +ℤ liability trap_terms poor) (pos 38_048)

@@ -1,6 +1,8 @@
 // What the calls Group and Totals answer.
 
-#[derive(Drop)]
+#![tactic(auto)]
+
+#[derive(Clone, Copy)]
 pub enum GroupReply {
     Valued(i64, u64),
     Refused(u64, usize),
@@ -8,7 +10,7 @@ pub enum GroupReply {
 
 // Refusal and place are 0 where the book is accepted; every other field is 0 where it is refused.
 #[repr(C)]
-#[derive(Drop)]
+#[derive(Clone, Copy)]
 pub struct TotalsReply {
     pub refusal: u64,
     pub place: usize,

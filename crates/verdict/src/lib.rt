@@ -1,9 +1,11 @@
 // What a check says, and verdicts one after the other.
+#![tactic(auto)]
+
 ghost use Rattle.std.specs.Prelude.{◌≡◌};
 ghost use Rattle.verdict.specs.Verdicts.{◌and_then◌, need};
 
 // What a check says: accepted with a count, or refused with a number and a byte place.
-#[derive(Drop)]
+#[derive(Clone, Copy)]
 pub enum Verdict {
     Accepted(u64),
     Refused(u64, usize),

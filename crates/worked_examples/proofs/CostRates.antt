@@ -8,7 +8,9 @@ use Rattle.conditions.specs.Every.{every}
 use Rattle.cost_rate_shares.specs.declared.Accounts.{Accounts}
 use Rattle.cost_rate_shares.specs.Rates.{figure, year_sum, lowered, share, year_rate, none_in, is_empty}
 use Rattle.cost_rate_shares.specs.Rates.{accounts_rate, rates_of}
-use Rattle.cost_rates.specs.Refusals.{all_at_most, within_limits, can_split, is_paid, can_compute, check_accounts}
+use Rattle.cost_rate_limits.specs.Limits.{all_at_most, within_limits}
+use Rattle.cost_rate_divisors.specs.Divisors.{can_split, is_paid, can_compute}
+use Rattle.cost_rates.specs.Refusals.{check_accounts}
 use Rattle.cost_rates.specs.Replies.{cost_rates}
 
 -- PG5 is empty
@@ -32,7 +34,8 @@ worked =
 
 pub worked_example : cost_rates worked
     ≡ record { refusal = 0; place = 0; rates = 56_611 ∷ 60_916 ∷ 105_881 ∷ 104_948 ∷ 0 ∷ [] }
-unfolding worked cost_rates check_accounts within_limits all_at_most can_compute can_split is_paid need ◌and_then◌ rates_of
+unfolding worked cost_rates check_accounts within_limits all_at_most can_compute can_split is_paid need ◌and_then◌
+    rates_of
     accounts_rate is_empty none_in every year_rate share lowered year_sum sum_by figure
 worked_example = refl
 
@@ -41,6 +44,7 @@ pub too_high : Accounts
 too_high = record { expenses = 1_000_000_001 ∷ 0 ∷ 0 ∷ []; stock = []; claims = []; premium = [] }
 
 pub too_high_first : (cost_rates too_high).refusal ≡ 17
-unfolding too_high cost_rates check_accounts within_limits all_at_most can_compute can_split is_paid need ◌and_then◌ is_empty
+unfolding too_high cost_rates check_accounts within_limits all_at_most can_compute can_split is_paid need ◌and_then◌
+    is_empty
     none_in every year_sum sum_by figure
 too_high_first = refl

@@ -13,9 +13,8 @@ use Rattle.risk_model.specs.Model.{coefficients_right, right_at, correlation_rig
 use Rattle.risk_form.specs.Form.{form_of}
 use Rattle.risk_form.specs.Root.{root_of}
 use Rattle.risk_form.proofs.Squares.{root_is}
-use Rattle.risk_factors.specs.Factors.{scaled_of, factors_of}
+use Rattle.risk_scaling.specs.Factors.{scaled_of, factors_of, factors_small}
 use Rattle.risk_factors.specs.Form.{form_for, form_over_thousand}
-use Rattle.risk_factors.specs.Refusals.{factors_small}
 use Rattle.risk_factors.specs.Replies.{deviation_for, deviation_reply_for, factors_reply}
 use Rattle.risk_factors.proofs.Replied.{Passed, replied_root}
 
@@ -45,7 +44,8 @@ unfolding worked differences form_for form_of sum_by factors_of scaled_of number
 worked_form = refl
 
 passed : Passed differences worked
-unfolding worked differences model_valid coefficients_right correlation_right right_at factors_small every form_for form_of
+unfolding worked differences model_valid coefficients_right correlation_right right_at factors_small every form_for
+    form_of
     sum_by factors_of scaled_of number_at
 passed = record { model = refl; small = refl; form = refl }
 

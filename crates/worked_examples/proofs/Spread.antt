@@ -30,7 +30,8 @@ pub level_claims : Summary
 level_claims = record { lowest = 7; quartile1 = 7; median = 7; quartile3 = 7; highest = 7 }
 
 pub level : spread_reply level_claims factors ≡ Level (fin false 7 (pos 0))
-unfolding factors level_claims spread_reply check_spread rising within_limit bad_factor need ◌and_then◌ estimates_of mean_of
+unfolding factors level_claims spread_reply check_spread rising within_limit bad_factor need ◌and_then◌ estimates_of
+    mean_of
     weighted round div lt is_nan of_int
 level = refl
 

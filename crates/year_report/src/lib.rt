@@ -1,18 +1,12 @@
 // The year report of a book in a setting, as text in the caller's buffer: premium after cap and
 // outgo of each product group and year. And how much buffer it wants, to the byte.
-ghost use Rattle.std.specs.Prelude.{◌≡◌, ◌<◌};
-ghost use Rattle.book.specs.Reading.{ValidBook};
-ghost use Rattle.report_text.specs.Report.{report_check, ReportContract, ReportLengthContract};
-ghost use Rattle.report_text.specs.Tables.{Years, Measures};
-ghost use Rattle.year_report.specs.Asked.{Asked};
+#![tactic(auto)]
 
-use buffer::TextReply;
-use cash_flow::Span;
-use cell_projection::{A_YEAR, YEARS};
-use rate_table::{COLUMNS, ROWS};
-use report_text::{Measured, YearTable};
-use settings_decrements::Shifts;
-use settings_outgo::Setting;
+ghost use Rattle.std.specs.Prelude.{◌≡◌};
+ghost use Rattle.report_text.specs.Report.{report_check, ReportContract, ReportLengthContract};
+
+use report_years::measured_years;
+use text_reply::TextReply;
 use verdict::Verdict;
 
 // The refusals of both calls, in their order.
@@ -24,41 +18,6 @@ fn check_report(book: &[u8], setting: usize) -> Verdict
         return asked;
     };
     book_check::check(book)
-}
-
-// Nothing is discounted: the report has the amounts as they fall due.
-fn year_table(book: &[u8], s: Setting, w: Shifts, group: usize) -> YearTable
-    requires { Asked book.now s w group }
-    ensures { Years book.now s.number group result.numbers }
-{
-    let mut rows = [0u64; ROWS * COLUMNS];
-    let mut sums = [0u64; YEARS * A_YEAR];
-    group_projection::group_sums(book, w, group, s.projection, &mut rows, &mut sums);
-    let years = cash_flow::undiscounted(book, s, group, &sums, Span { from: 0, to: 50 });
-    let premium = years.premium;
-    let outgo = years.outgo;
-    report_text::placed(&premium, &outgo)
-}
-
-// No text is built.
-fn measured_years(book: &[u8], setting: usize) -> Measured
-    requires { (setting < 8)
-        × ValidBook 1 book.now }
-    ensures { Measures book.now setting result }
-{
-    let s = Setting::new(setting);
-    let w = Shifts::new(book);
-    let mut years = Measured {
-        tables: [YearTable { numbers: [0; 200] }; 5],
-        bytes: 25,
-    };
-    for j in 0usize..5 {
-        let table = year_table(book, s, w, j + 1);
-        let numbers = table.numbers;
-        years.bytes = years.bytes + report_lines::lines_length(j as u64 + 1, numbers);
-        years.tables[j] = table;
-    }
-    years
 }
 
 // Writes the report where the caller's buffer has the space that `report_length` says; else, and

@@ -7,7 +7,8 @@ no_setting = 8
 
 -- one digit (from byte 48 on) names its setting; any other word names none
 unfoldable pub setting_of : List ℕ → ℕ
-setting_of word = cond (eqb (length word) 1) (cond (leb 48 (get_or word 0 0)) (get_or word 0 0 - 48) no_setting) no_setting
+setting_of word =
+    cond (eqb (length word) 1) (cond (leb 48 (get_or word 0 0)) (get_or word 0 0 - 48) no_setting) no_setting
 
 -- words: how many there are, the program's own name the first. No second word names the base; a third is one too many
 unfoldable pub setting_named : ℕ → List ℕ → ℕ

@@ -1,11 +1,15 @@
 // The year report of the book on standard input, or one line for a refusal. The setting is the word
 // that the program is started with; 0, the base, where there is none.
+#![tactic(auto)]
+
 ghost use Rattle.std.specs.Prelude.{◌≡◌};
 ghost use Rattle.year_report_main.specs.Words.{setting_of, setting_named};
 
-use buffer::TextReply;
-use libc::{STDIN_FILENO, STDOUT_FILENO};
+use std::env::{Env, FillError};
+use std::io;
+use text_reply::TextReply;
 
+#[tactic(auto, unfolding(crate::specs::Words::setting_of))]
 fn setting_of(word: &[u8]) -> usize
     ensures { result ≡ setting_of word.now }
 {
@@ -19,6 +23,7 @@ fn setting_of(word: &[u8]) -> usize
     (digit - 48) as usize
 }
 
+#[tactic(auto, unfolding(crate::specs::Words::setting_named))]
 fn setting_named(words: usize, second: &[u8]) -> usize
     ensures { result ≡ setting_named words second.now }
 {
@@ -31,22 +36,37 @@ fn setting_named(words: usize, second: &[u8]) -> usize
     setting_of(second)
 }
 
-fn main() {
+// How many words the program was started with, its own name the first.
+fn count_words(arguments: &impl Env) -> usize {
+    let mut none = [0u8; 0];
+    for i in 0..usize::MAX {
+        if let Err(FillError::NotPresent) = arguments.arg(i, &mut none) {
+            return i;
+        }
+    }
+    usize::MAX
+}
+
+// The setting that the words name which the program was started with. A word that is longer than
+// the buffer names none, as the empty word does.
+fn read_setting(arguments: &impl Env) -> usize {
     let mut word = [0u8; 8];
-    let spelled = os::arg(1, &mut word);
-    let setting = setting_named(os::arg_count(), &word[..spelled]);
+    let spelled = arguments.arg(1, &mut word).unwrap_or(0);
+    setting_named(count_words(arguments), &word[..spelled])
+}
+
+fn main(rt: HostRuntime) -> io::Result<()> {
+    let setting = read_setting(&rt);
     let mut space = book::input_buffer();
-    let got = io::read_full(STDIN_FILENO, &mut space);
+    let got = streams::read_full(&mut rt.stdin(), &mut space)?;
     // No report wants more: so `most` of the telling call's contract says.
     let mut text = [0u8; 9_525];
     let reply = year_report::write_report(&space[..got], setting, &mut text);
     match reply {
-        TextReply::Bytes(end) => {
-            io::write_all(STDOUT_FILENO, &text[..end]);
-        }
+        TextReply::Bytes(end) => rt.write_all(&text[..end]),
         TextReply::Refused(number, place) => {
             let end = buffer::put_refusal(&mut text, number, place as u64);
-            io::write_all(STDOUT_FILENO, &text[..end]);
+            rt.write_all(&text[..end])
         }
     }
 }

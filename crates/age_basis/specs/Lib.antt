@@ -1,2 +1,0 @@
-pub mod Conversion
-pub mod Steps

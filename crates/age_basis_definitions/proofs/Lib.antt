@@ -1,0 +1,4 @@
+pub mod Places
+pub mod Exact
+pub mod Passes
+pub mod ConvertContract

@@ -1,0 +1,17 @@
+-- `book_check::check_from` meets its contract. The invariant: what is counted so far, added to what the check from i on
+-- says, is what the whole says.
+-- The measure is the number of classes above. Assumes nothing.
+use mathlib.Core.Path.{◌≡◌}
+use Prim.Native.Nat.{◌+◌, ◌≤◌, ◌<◌}
+use Rattle.verdict.specs.Verdicts.{plus}
+use Rattle.book.specs.Layout.{records}
+use Rattle.book.specs.Check.{check_from}
+use Rattle.book_check.proofs.check_from.Given as goal
+
+abbrev pub invariant-loop-v : goal.invariant-loop-v
+invariant-loop-v l =
+    (l.n + l.above ≤ l.left) × (0 < l.i) × (l.i ≤ records l.b)
+    × (check_from l.b l.last l.k l.left l.from ≡ plus l.n (check_from l.b l.last l.k l.above l.i))
+
+abbrev pub decreases-loop-v : goal.decreases-loop-v
+decreases-loop-v l = l.above

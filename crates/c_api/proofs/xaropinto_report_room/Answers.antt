@@ -1,0 +1,9 @@
+-- `c_api::xaropinto_report_room` meets its contract: the reply in fields. Assumes nothing.
+use mathlib.Core.Path.{ap, ◌∙◌}
+use Rattle.c_api_fields.specs.Fields.{text_fields}
+use Rattle.c_api.proofs.xaropinto_report_room.Goals as goal
+
+pub returns : goal.returns
+returns c =
+    let w = c.report_length.ensures in
+    record { fields_are = c.text_fields.ensures ∙ ap text_fields w.reply_is; promised = rw w.reply_is at w }

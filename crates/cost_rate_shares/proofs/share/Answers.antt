@@ -1,0 +1,24 @@
+-- `cost_rate_shares::share` meets its contract: a figure is at most its year's sum, which is not zero. Assumes nothing.
+use Prim.Native.Nat.{◌≤◌}
+use native.Mathlib.Nat.{mul-le-mul}
+use native.Mathlib.Omega.{arith}
+use Rattle.cost_rate_shares.specs.Rates.{share}
+use Rattle.cost_rate_shares.proofs.Below.{figure_below, share_below}
+use Rattle.cost_rate_shares.proofs.share.Goals as goal
+
+pub overflow_mul-result : goal.overflow_mul-result
+overflow_mul-result c =
+    record { fits = omega (arith, mul-le-mul c.lowered.ensures.1 c.figure.ensures.1) }
+
+pub returns : goal.returns
+unfolding share
+returns c =
+    let a = c.args in
+    let w = c.lowered in
+    let x = c.figure in
+    let s = c.year_sum in
+    let below : x.result ≤ s.result =
+    rw (x.ensures.0, s.ensures.0) (figure_below a.split a.year a.group (omega arith)) in (
+      rw (w.ensures.0, x.ensures.0, s.ensures.0),
+      omega (arith, share_below w.result x.result s.result below),
+    )

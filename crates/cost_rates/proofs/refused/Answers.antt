@@ -1,0 +1,6 @@
+-- `cost_rates::refused` meets its contract: every field is as it is written. Assumes nothing.
+use mathlib.Core.Path.{refl}
+use Rattle.cost_rates.proofs.refused.Goals as goal
+
+pub returns : goal.returns
+returns c = refl

@@ -1,0 +1,14 @@
+-- `discount::step_years` meets its contract: two years a turn, then the one that is left where their number is odd.
+-- The invariant: the years from `from` to before k have gone a year back. The measure is the number of years left.
+-- Assumes nothing.
+use Prim.Native.Nat.{◌-◌, ◌≤◌}
+use Rattle.discount.specs.Discount.{Stepped}
+use Rattle.discount.proofs.step_years.Given as goal
+
+abbrev pub invariant-loop-k : goal.invariant-loop-k
+invariant-loop-k l =
+    (l.from ≤ l.k) × (l.k ≤ l.to) × Stepped l.divisors l.from l.k l.initial.premium l.premium
+    × Stepped l.divisors l.from l.k l.initial.outgo l.outgo
+
+abbrev pub decreases-loop-k : goal.decreases-loop-k
+decreases-loop-k l = l.to - l.k

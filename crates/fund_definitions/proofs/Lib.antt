@@ -1,0 +1,4 @@
+pub mod Joined
+pub mod Half
+pub mod Halves
+pub mod FundsContract

@@ -1,0 +1,3 @@
+pub mod Fund
+pub mod Valued
+pub mod Funds

@@ -1,2 +1,0 @@
-pub mod Fund
-pub mod Valued

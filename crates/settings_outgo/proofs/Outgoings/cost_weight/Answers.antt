@@ -1,0 +1,10 @@
+-- `settings_outgo::Outgoings::cost_weight` meets its contract: the test on the year picks the same weights as the
+-- definition. Assumes nothing.
+use borrow.Author.Tests.{lt-ltb, le-ltb}
+use Rattle.settings_outgo.proofs.Outgoings.cost_weight.Goals as goal
+
+pub returns-then-k-lt5 : goal.returns-then-k-lt5
+returns-then-k-lt5 c = (rw (lt-ltb _ _ c.if-k-lt5.true), c.requires.first_costs)
+
+pub returns-else-k-lt5 : goal.returns-else-k-lt5
+returns-else-k-lt5 c = (rw (le-ltb _ _ c.if-k-lt5.false), c.requires.later_costs)

@@ -1,0 +1,11 @@
+// What a call that writes a text into a passed buffer replies. It has no code: what the reply says
+// and what the buffer of a call holds afterwards stand in specs, the laws of both in proofs.
+
+#![tactic(auto)]
+
+// The text's length, or the refusal and its place.
+#[derive(Clone, Copy)]
+pub enum TextReply {
+    Bytes(usize),
+    Refused(u64, usize),
+}
