@@ -3,7 +3,6 @@
 import re
 import statistics
 import sys
-import time
 
 from tests import ROOT
 from tests.cli.run import sample
@@ -54,11 +53,34 @@ HEADINGS = ("[...document.querySelectorAll('h1, h2, h3')].filter((each) => each.
             ".map((each) => Number(each.tagName[1]))")
 # Milliseconds: the limits, and of how many runs a median is taken.
 MOST_TOTALS, MOST_DRAWN = 10, 300
-# A round of calls above the limit is followed by another, so many at the most.
-TOTALS_ROUNDS, SECONDS_BETWEEN = 5, 2
 TOTALS_RUNS, DRAWN_RUNS = 15, 5
-# Other programs may have the processors while a page is drawn: the best of so many medians counts.
+# Other programs may have the processors meanwhile: the best of so many medians counts.
 MOST_ROUNDS = 5
+# What the yardstick takes on the processor that the limit of Totals is for. A slower one, or one
+# whose core is shared, takes longer for both: the time of Totals is divided by how much longer.
+YARDSTICK_MILLISECONDS = 12.5
+# Work that is not ours: prime numbers by a sieve, and a product of two matrices.
+YARDSTICK_SCRIPT = """
+const sieve = new Uint8Array(200_000), side = 64;
+const factor = new Float64Array(side * side).fill(0.5), product = new Float64Array(side * side);
+window.yardstick = () => {
+  for (let turn = 0; turn < 4; turn++) {
+    sieve.fill(1);
+    for (let i = 2; i < sieve.length; i++) {
+      if (!sieve[i]) continue;
+      for (let j = 2 * i; j < sieve.length; j += i) sieve[j] = 0;
+    }
+  }
+  for (let turn = 0; turn < 8; turn++) {
+    product.fill(0);
+    for (let row = 0; row < side; row++)
+      for (let k = 0; k < side; k++)
+        for (let column = 0; column < side; column++)
+          product[side * row + column] += factor[side * row + k] * factor[side * k + column];
+  }
+  return String(product[0] + sieve[199_999]);
+};
+"""
 # Keeps the module's exports, and when a drop begins and what it gave is drawn.
 WATCH_SCRIPT = """
 const instantiate = WebAssembly.instantiate;
@@ -198,33 +220,38 @@ class Fast(PageCase):
         self.browser.value(
             f"(() => {{ {calls.replace('export function', 'function')}\n"
             f"const calls = openCalls(window.provedExports), book = Uint8Array.from({book});\n"
-            "window.totals = () => String(calls.totals(book).totals[0]); })()")
-        medians = [self.median_of_totals()]
-        while medians[-1] >= MOST_TOTALS and len(medians) < TOTALS_ROUNDS:
-            time.sleep(SECONDS_BETWEEN)
-            medians.append(self.median_of_totals())
-        print(f"totals of full.book: median {medians[-1]:.1f} ms")
-        self.assertLess(medians[-1], MOST_TOTALS, str(medians))
+            "window.totals = () => String(calls.totals(book).totals[0]);\n"
+            f"{YARDSTICK_SCRIPT} }})()")
+        self.least_median("totals of full.book", MOST_TOTALS, TOTALS_RUNS, self.time_of_totals)
 
-    def median_of_totals(self):
-        """Of one round; a shared core may take twice the time for as long as its host is busy."""
-        return statistics.median(self.time_of_totals() for _ in range(TOTALS_RUNS))
+    def least_median(self, name, most, runs, time_of):
+        """Hold the median of some runs to a limit: the best of as many as there may be."""
+        medians = []
+        while len(medians) < MOST_ROUNDS and (not medians or medians[-1] >= most):
+            medians.append(statistics.median(time_of() for _ in range(runs)))
+        print(f"{name}: median {medians[-1]:.1f} ms")
+        self.assertLess(medians[-1], most, str(medians))
 
     def time_of_totals(self):
-        """Milliseconds of the processor that the call takes; so other programs do not count."""
-        began = self.browser.processor_milliseconds()
-        total = self.browser.value("window.totals()")
-        ended = self.browser.processor_milliseconds()
+        """Milliseconds of the processor that the call takes, as one at full speed would."""
+        slower = max(1, self.time_of("yardstick")[0] / YARDSTICK_MILLISECONDS)
+        taken, total = self.time_of("totals")
         listing = (ROOT / "samples" / "full.listing").read_text(encoding="ascii")
         self.assertEqual(total, listing.split()[1])
-        return ended - began
+        return taken / slower
+
+    def time_of(self, name):
+        """Milliseconds of the processor that a function of the page takes, and what it gives.
+
+        So other programs do not count, but for what they slow on the same core.
+        """
+        began = self.browser.processor_milliseconds()
+        given = self.browser.value(f"window.{name}()")
+        return self.browser.processor_milliseconds() - began, given
 
     def test_from_drop_to_drawn(self):
-        medians = []
-        while len(medians) < MOST_ROUNDS and (not medians or medians[-1] >= MOST_DRAWN):
-            medians.append(statistics.median(self.time_to_draw() for _ in range(DRAWN_RUNS)))
-        print(f"from the drop of full.book to its page: median {medians[-1]:.0f} ms")
-        self.assertLess(medians[-1], MOST_DRAWN, str(medians))
+        self.least_median("from the drop of full.book to its page", MOST_DRAWN, DRAWN_RUNS,
+                          self.time_to_draw)
 
     def time_to_draw(self):
         """Milliseconds from a drop to the drawn page, in a page that was just opened."""
