@@ -45,7 +45,7 @@ def script(name, module, least):
     return Part(name, [sys.executable, "-m", module], least)
 
 
-PROOFS = Part("proofs, must-fail edits and programs", ["rt", "ci"], 459)
+PROOFS = Part("proofs, must-fail edits and programs", ["rt", "ci"], 473)
 # The proofs of `quick`: a crate that is as it was when it was proved is not proved again.
 QUICK_PROOFS = Part("proofs and programs", ["rt", "all", "test"], 94)
 # What needs the repository's files and nothing that is proved or built: it runs beside the proofs,

@@ -17,9 +17,9 @@ INSTALL = ROOT / "packaging" / "INSTALL.md"
 (API, DECISIONS, ERROR_BOUND, METHOD, TRACEABILITY, VERIFICATION) = (
     DOCS / f"{name}.md" for name in
     ("API", "DECISIONS", "ERROR_BOUND", "METHOD", "TRACEABILITY", "VERIFICATION"))
-# A record of what was spelled otherwise: it names what is gone.
-PORT = DOCS / "PORT.md"
-PAGES = [README, CONTRIBUTING, CHANGELOG, *sorted(set(DOCS.glob("*.md")) - {PORT}),
+# Records of what was spelled or designed otherwise: they name what is gone.
+RECORDS = {DOCS / "PORT.md", DOCS / "DESIGN-PASS.md"}
+PAGES = [README, CONTRIBUTING, CHANGELOG, *sorted(set(DOCS.glob("*.md")) - RECORDS),
          *sorted(LANDINGS.glob("*.md")), INSTALL]
 # Directories of what is built or kept, and of books; the file that marks an environment of Python.
 NOT_READ = {".git", "target", "out", "differing", "samples", "__pycache__"}

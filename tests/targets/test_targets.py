@@ -17,11 +17,14 @@ from tools.targets.build import build
 from tools.targets.capture import ARCHIVE, MODULE, captured, words_captured
 from tools.targets.header import calls
 from tools.targets.kit import run_tool
-from tools.targets.retarget import ADDRESS, EXTENDED, TARGETS, retarget
+from tools.targets.retarget import (ADDRESS, EXTENDED, PAIR_LINE, PARTS_LINES, TARGETS,
+                                    retarget)
 
 NAMES = [call.name for call in calls()]
 # The only lines that may change: what names the target, and where a function begins.
 MAY_CHANGE = re.compile(r"target (?:datalayout|triple) = |attributes #0 = |define ")
+# A pair whose second part is an address, loaded or stored as one.
+LOADED_AS_ONE = re.compile(r" (?:load|store) \{ [^}]*, ptr")
 EXTERNAL = re.compile(r"^define (?!internal).*@(\w+)\(", re.M)
 # Of a function's first line these may change: the name of a call, what belongs to the convention,
 # and whether it is inlined.
@@ -79,9 +82,14 @@ class Targets(Case):
     def test_no_instruction_is_changed(self):
         before = self.module.splitlines()
         for target in TARGETS:
-            after = retarget(self.module, target, NAMES).splitlines()
+            text = retarget(self.module, target, NAMES)
             if target.narrow:
-                self.check(f"{target.name}: addresses", ADDRESS not in "\n".join(after))
+                self.check(f"{target.name}: addresses", ADDRESS not in text)
+                self.check(f"{target.name}: pairs", not LOADED_AS_ONE.search(text))
+                for pair in PAIR_LINE.finditer(self.module):
+                    text = text.replace(pair.expand(PARTS_LINES), pair[0])
+            after = text.splitlines()
+            if target.narrow:
                 after = [line.replace(EXTENDED, ADDRESS) if ADDRESS in other else line
                          for line, other in zip(after, before)]
             changed = [line for line, other in zip(before, after) if line != other]

@@ -21,9 +21,18 @@ PROBED = 'nounwind "probe-stack"="inline-asm" "stack-probe-size"="3072"'
 FUNCTION_ATTRIBUTES = f'{PROBED} "target-cpu"="x86-64"'
 TARGET_LINE = re.compile(r"^target (?:datalayout|triple) = .*$", re.M)
 CALL_LINE = r"^define (?P<reply>.*) @(?P<name>{names})\((?P<arguments>.*)\) #0 \{{$"
-INNER_LINE = r'^(define internal .* @"(?:{names})"\(.*\) #0) \{{$'
+INNER_LINE = r'^(define internal .* @"(?:{names})(?:::<#[0-9a-f]+>)?"\(.*\) #0) \{{$'
 # The address of a pointer as a number; the second form extends one that has fewer bits.
 ADDRESS, EXTENDED = " = ptrtoaddr ptr ", " = ptrtoint ptr "
+# A truth value and an address, loaded as one: the address stands at byte 8, and where addresses
+# have 32 bits the pair's own layout has it at byte 4. So each is loaded from its place.
+PAIR_LINE = re.compile(
+    r"^  (?P<pair>%\w+) = load \{ i8, ptr \}, ptr (?P<at>%\w+), align 8$", re.M)
+PARTS_LINES = r"""  \g<pair>.tag = load i8, ptr \g<at>, align 1
+  \g<pair>.at = getelementptr i8, ptr \g<at>, i64 8
+  \g<pair>.address = load ptr, ptr \g<pair>.at, align 8
+  \g<pair>.half = insertvalue { i8, ptr } poison, i8 \g<pair>.tag, 0
+  \g<pair> = insertvalue { i8, ptr } \g<pair>.half, ptr \g<pair>.address, 1"""
 COPIED = re.compile(r" byval\(\[\d+ x i8\]\)")
 TWO_WORDS = "{ i64, i64 }"
 PROVED = "proved_"
@@ -49,12 +58,14 @@ class Target(NamedTuple):
 
 
 # WebAssembly has a stack that traps at its end. At its level of optimisation little is inlined: the
-# year of a cell, and what is constant for all of them, would be called each time.
+# year of a cell, and what is constant for all of them, would be called each time. A generic
+# function is named once for each type that it is called at.
 WASM32 = Target("wasm32", "wasm32-unknown-unknown", "nounwind", narrow=True, inlined=(
-    "cell::Cell::next_year", "cell_projection::one_year", "settings::weight",
-    "settings_columns::Columns::new", "settings_columns::FiveColumns::new",
-    "settings_columns::persistency_column", "settings_columns::same_mortality",
-    "settings_columns::survival_column"))
+    "cell::Cell::next_year", "cell_projection::one_year", "settings::ByPeriod::at",
+    "settings::ByPeriod::at", "settings::Kind::number", "settings::weight",
+    "settings_columns::Columns::new", "settings_columns::columns_of",
+    "settings_columns::five_columns", "settings_columns::persistency_column",
+    "settings_columns::same_mortality", "settings_columns::survival_column"))
 # Windows protects nothing below the stack pointer and unwinds by tables; it has its own probe of
 # the stack.
 WINDOWS = Target("windows-x86_64", "x86_64-pc-windows-gnu",
@@ -71,7 +82,7 @@ def retarget(module, target, names):
     module = changed(re.escape(f"#0 = {{ {FUNCTION_ATTRIBUTES} }}"),
                      lambda found: f"#0 = {{ {target.attributes} }}", module, 1)
     if target.narrow:
-        module = module.replace(ADDRESS, EXTENDED)
+        module = PAIR_LINE.sub(PARTS_LINES, module.replace(ADDRESS, EXTENDED))
     inner = re.compile(INNER_LINE.format(names="|".join(target.inlined)), re.M)
     module = changed(inner, r"\1 alwaysinline {", module, len(target.inlined))
     pattern = re.compile(CALL_LINE.format(names="|".join(names)), re.M)

@@ -6,15 +6,14 @@ ghost use Rattle.book.specs.Rules.{Rules};
 ghost use Rattle.age_basis_definitions.specs.Conversion.{converted, convert_check, ConvertContract};
 
 use age_basis_classes::lower_chains;
-use verdict::Verdict;
+use verdict::{Verdict, need};
 
 // 16, then the book's refusals on basis 2.
+#[tactic(auto, unfolding(age_basis_definitions::specs::Conversion::convert_check, verdict::specs::Verdicts::need, verdict::specs::Verdicts::first_refusal))]
 fn check_convert(book: &[u8], capacity: usize) -> Verdict
     ensures { result ≡ convert_check book.now capacity }
 {
-    if capacity < book.len() {
-        return Verdict::Refused(16, 0);
-    }
+    need(book.len() <= capacity, 16, 0)?;
     book_check::check_on(book, 2)
 }
 
@@ -37,10 +36,7 @@ fn write_converted(book: &[u8], out: &mut [u8])
 pub fn convert(book: &[u8], out: &mut [u8]) -> Verdict
     ensures { ConvertContract book.now out.old out.new result }
 {
-    let v = check_convert(book, out.len());
-    let Verdict::Accepted(_) = v else {
-        return v;
-    };
+    let n = check_convert(book, out.len())?;
     write_converted(book, out);
-    v
+    Ok(n)
 }

@@ -31,6 +31,7 @@ fn lower_chain(book: &[u8], out: &mut [u8], k: usize)
     ensures { let b = book.now in
         Lowered b (λ p. chain_class_at b p k) out.old out.new }
 {
+    // It follows links and counts no index: an iterator of them would be no plainer.
     let mut i = book::head_of(book, k);
     while i != 0 {
         lower_class(book, out, i);

@@ -5,9 +5,9 @@ use Prim.Native.Nat.{ℕ, ◌≤◌}
 use borrow.Author.Tests.{leb-true}
 use lib.ListN.{length, take, drop}
 use lib.Seq.{take_at}
-use Rattle.verdict.specs.Verdicts.{refusal_of, count_of}
-use Rattle.verdict.specs.declared.Verdict.{Verdict}
-use Rattle.verdict.specs.declared.Verdict.TheVariants.{Accepted, Refused}
+use Rattle.verdict.specs.declared.Refusal.{Refusal}
+use Rattle.verdict.specs.Verdicts.{refusal_of, count_of, Verdict}
+use Rattle.std.specs.Prelude.{Ok, Err}
 use Rattle.verdict.proofs.Verdicts.{need_true, then_left, then_right, ZeroAccepts, zero_accepts_need, zero_accepts_then}
 use Rattle.book.specs.Check.{check_book}
 use Rattle.book.proofs.Numbers.{zero_accepted}
@@ -15,12 +15,12 @@ use Rattle.age_basis_definitions.specs.Conversion.{converted, convert_check, con
 use Rattle.age_basis_definitions.proofs.Exact.{converted_length}
 use Rattle.age_basis_definitions.proofs.Passes.{converted_accepted}
 
-module _ (b : List ℕ) (capacity n : ℕ) (e : convert_check b capacity ≡ Accepted n) where
+module _ (b : List ℕ) (capacity n : ℕ) (e : convert_check b capacity ≡ Ok n) where
   pub convert_fits : length b ≤ capacity
   unfolding convert_check
   convert_fits = leb-true _ _ (need_true _ _ _ _ (then_left _ _ _ e))
 
-  pub convert_accepted : check_book 2 b ≡ Accepted n
+  pub convert_accepted : check_book 2 b ≡ Ok n
   unfolding convert_check
   convert_accepted = then_right _ _ _ e
 
@@ -31,7 +31,7 @@ convert_told b capacity = zero_accepts_then _ _ (zero_accepts_need _ 15 0) (zero
 
 module _ (b before : List ℕ) (v : Verdict) (is : v ≡ convert_check b (length before)) where
   -- without a refusal the converted book stands in the buffer, and passes the check with n of the reply
-  accepted : refusal_of v ≡ 0 → convert_check b (length before) ≡ Accepted (count_of v)
+  accepted : refusal_of v ≡ 0 → convert_check b (length before) ≡ Ok (count_of v)
   unfolding ZeroAccepts
   accepted none = rw is (convert_told b (length before) (rw is at none))
 
@@ -48,11 +48,11 @@ module _ (b before : List ℕ) (v : Verdict) (is : v ≡ convert_check b (length
         (refl, refl);
   }
 
-  pub refused : (q p : ℕ) → v ≡ Refused q p → ConvertContract b before before v
+  pub refused : (r : Refusal) → v ≡ Err r → ConvertContract b before before v
   unfolding converted_buffer
-  refused q p e = promised before (rw (sym is ∙ e))
+  refused r e = promised before (rw (sym is ∙ e))
 
-  pub delivered : (n : ℕ) (after : List ℕ) → v ≡ Accepted n → after ≡ converted b ++ drop (length b) before
+  pub delivered : (n : ℕ) (after : List ℕ) → v ≡ Ok n → after ≡ converted b ++ drop (length b) before
       → ConvertContract b before after v
   unfolding converted_buffer
   delivered n after e written = promised after (rw (sym is ∙ e, converted_length b) written)

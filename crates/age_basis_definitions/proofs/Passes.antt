@@ -10,7 +10,7 @@ use borrow.Author.Tests.{eqb-true, eqb-false}
 use lib.Dec.{eqb}
 use Rattle.le_bytes.specs.Bytes.{read_u32}
 use Rattle.lists.proofs.Sums.{sum_same}
-use Rattle.verdict.specs.declared.Verdict.TheVariants.{Accepted}
+use Rattle.std.specs.Prelude.{Ok}
 use Rattle.le_bytes.proofs.Same.{Same, u16_same, u32_same}
 use Rattle.book.specs.Layout.{header_size, record_size, last_class, edition, percent_place, percent_at, chains, records}
 use Rattle.book.specs.Layout.{head_place, head_of, cost_place}
@@ -150,7 +150,7 @@ module _ (b c : List ℕ) (t : ConversionRules b c) where
               let some : 0 < head_of b k = pos_of_ne-zero (eqb-false _ _ e) in
               let x = (r.chain k few).linked 0 some in
               let left = 121 - class_of b (head_of b k) in
-              let good : (m : ℕ) → left < m → check_from b 121 k left (head_of b k) ≡ Accepted
+              let good : (m : ℕ) → left < m → check_from b 121 k left (head_of b k) ≡ Ok
               (held_from b (head_of b k) m)
               = λ m h.
               from_good b 121 k left (head_of b k) m some (omega (arith, x.class_high)) h
@@ -163,14 +163,14 @@ module _ (b c : List ℕ) (t : ConversionRules b c) where
     rules_turned = record { header = header_turned; tables = tables_turned; chain = chain_turned }
 
 -- what keeps the rules of a conversion is accepted, with the same n
-pub conversion_accepted : (b c : List ℕ) (n : ℕ) → ConversionRules b c → check_book 2 b ≡ Accepted n
-    → check_book 1 c ≡ Accepted n
+pub conversion_accepted : (b c : List ℕ) (n : ℕ) → ConversionRules b c → check_book 2 b ≡ Ok n
+    → check_book 1 c ≡ Ok n
 unfolding held_in_all
 conversion_accepted b c n t e =
     let r = accepted_rules 2 b n e in
     rules_accepted 1 c (rules_turned b c t r)
-    ∙ ap Accepted (sum_same 0 ◌+◌ _ _ chains (λ k few. chain_held b c t r k few) ∙ sym (accepted_held 2 b n e))
+    ∙ ap Ok (sum_same 0 ◌+◌ _ _ chains (λ k few. chain_held b c t r k few) ∙ sym (accepted_held 2 b n e))
 
 -- every converted book passes the check, with the same n
-pub converted_accepted : (b : List ℕ) (n : ℕ) → check_book 2 b ≡ Accepted n → check_book 1 (converted b) ≡ Accepted n
+pub converted_accepted : (b : List ℕ) (n : ℕ) → check_book 2 b ≡ Ok n → check_book 1 (converted b) ≡ Ok n
 converted_accepted b n e = conversion_accepted b (converted b) n (converted_keeps b (accepted_rules 2 b n e)) e

@@ -2,8 +2,7 @@
 -- all else is copied. Mortality goes by age, so its bytes are among those copied.
 use Rattle.std.specs.Prelude.{ℕ, zero, suc, ◌+◌, ◌-◌, ◌<◌, ◌≡◌, List, Bool, true, false, cond, length, take, leb, eqb}
 use Rattle.le_bytes.specs.Bytes.{byte_at}
-use Rattle.verdict.specs.Verdicts.{need, ◌and_then◌, refusal_of, count_of}
-use Rattle.verdict.specs.declared.Verdict.{Verdict}
+use Rattle.verdict.specs.Verdicts.{need, ◌and_then◌, refusal_of, count_of, Verdict}
 use Rattle.book.specs.Layout.{last_class, age_basis, chains, record_at, class_of, link_at}
 use Rattle.book.specs.Check.{check_book}
 use Rattle.text_reply.specs.Replies.{buffer_for}

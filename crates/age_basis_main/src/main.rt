@@ -3,12 +3,12 @@
 #![tactic(auto)]
 
 use std::io;
-use verdict::Verdict;
+use verdict::Refusal;
 
-fn tell_refusal(errors: &impl Print, number: u64, place: usize) -> io::Result<()> {
+fn tell_refusal(errors: &impl Print, refusal: Refusal) -> io::Result<()> {
     // No refusal's line is longer: so the call's contract says.
     let mut line = [0u8; 50];
-    let end = buffer::put_refusal(&mut line, number, place as u64);
+    let end = buffer::put_refusal(&mut line, refusal.number, refusal.place as u64);
     errors.write_all(&line[..end])
 }
 
@@ -16,9 +16,8 @@ fn main(rt: HostRuntime) -> io::Result<()> {
     let mut space = book::input_buffer();
     let got = streams::read_full(&mut rt.stdin(), &mut space)?;
     let mut converted = book::input_buffer();
-    let v = age_basis::convert(&space[..got], &mut converted);
-    match v {
-        Verdict::Accepted(_) => rt.write_all(&converted[..got]),
-        Verdict::Refused(number, place) => tell_refusal(&rt.stderr(), number, place),
+    match age_basis::convert(&space[..got], &mut converted) {
+        Ok(_) => rt.write_all(&converted[..got]),
+        Err(refusal) => tell_refusal(&rt.stderr(), refusal),
     }
 }

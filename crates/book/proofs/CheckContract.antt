@@ -2,7 +2,7 @@
 use mathlib.Core.Path.{◌≡◌}
 use mathlib.Core.List.{List}
 use Prim.Native.Nat.{ℕ}
-use Rattle.verdict.specs.declared.Verdict.{Verdict}
+use Rattle.verdict.specs.Verdicts.{Verdict}
 use Rattle.book.specs.Check.{check_book}
 use Rattle.book.specs.CallContracts.{CheckContract}
 use Rattle.book.proofs.Exact.{accepted_rules, rules_accepted, accepted_held}

@@ -13,9 +13,8 @@ use lib.Dec.{leb, eqb}
 use lib.ListN.{length}
 use Rattle.lists.specs.Sums.{sum_by, sum_from}
 use Rattle.lists.proofs.Sums.{sum_start, sum_first}
-use Rattle.verdict.specs.Verdicts.{◌and_then◌, need, join_all}
-use Rattle.verdict.specs.declared.Verdict.{Verdict}
-use Rattle.verdict.specs.declared.Verdict.TheVariants.{Accepted}
+use Rattle.verdict.specs.Verdicts.{◌and_then◌, need, join_all, Verdict}
+use Rattle.std.specs.Prelude.{Ok}
 use Rattle.verdict.proofs.Verdicts.{need_good, then_good}
 use Rattle.le_bytes.proofs.Ranges.{within_good, field_good, fields_good}
 use Rattle.book.specs.Layout.{header_size, last_class, lowest_class, edition, chains, records, head_place, head_of}
@@ -83,13 +82,13 @@ module _ (basis : ℕ) (b : List ℕ) (v : ValidBook basis b) (k : ℕ) (few : k
         l;
   }
 
-pub accepted_rules : (basis : ℕ) (b : List ℕ) (n : ℕ) → check_book basis b ≡ Accepted n → Rules basis b
+pub accepted_rules : (basis : ℕ) (b : List ℕ) (n : ℕ) → check_book basis b ≡ Ok n → Rules basis b
 accepted_rules basis b n e =
     let v = valid basis b n e in
     record { header = v.header; tables = v.tables; chain = chain_rules basis b v }
 
 -- From the rules to acceptance.
-by_edition_good : (basis : ℕ) (b : List ℕ) → HeaderRules basis b → check_by_edition b ≡ Accepted 0
+by_edition_good : (basis : ℕ) (b : List ℕ) → HeaderRules basis b → check_by_edition b ≡ Ok 0
 unfolding check_by_edition check_percents check_spare
 by_edition_good basis b h =
     ⊎_elim
@@ -103,7 +102,7 @@ by_edition_good basis b h =
     rw (ne_eqb (edition b) 2 other) (need_good _ _ _ (eq-eqb _ _ (h.spare (omega arith)))))
     (eq-or-lt_of_le h.edition_high)
 
-header_good : (basis : ℕ) (b : List ℕ) → HeaderRules basis b → check_header basis (length b) b ≡ Accepted 0
+header_good : (basis : ℕ) (b : List ℕ) → HeaderRules basis b → check_header basis (length b) b ≡ Ok 0
 unfolding check_header
 header_good basis b h =
     then_good _ _ _ _
@@ -118,7 +117,7 @@ header_good basis b h =
     (by_edition_good basis b h))
     (need_good _ _ _ (eq-eqb _ _ h.size))
 
-tables_good : (b : List ℕ) → TableRules b → check_tables b ≡ Accepted 0
+tables_good : (b : List ℕ) → TableRules b → check_tables b ≡ Ok 0
 unfolding check_tables
 tables_good b t =
     then_good _ _ _ _
@@ -126,7 +125,7 @@ tables_good b t =
     (fields_good b _ _ _ _ _ t.mortality)
 
 module _ (b : List ℕ) (last k : ℕ) where
-  owner_good : (i : ℕ) → RecordRules b last k i → check_owner b k (record_at i) ≡ Accepted 0
+  owner_good : (i : ℕ) → RecordRules b last k i → check_owner b k (record_at i) ≡ Ok 0
   unfolding check_owner
   owner_good i r =
       then_good _ _ _ _
@@ -135,7 +134,7 @@ module _ (b : List ℕ) (last k : ℕ) where
       (need_good _ _ _ (eq-eqb _ _ r.spare)))
       (need_good _ _ _ (eq-eqb _ _ r.spare_two))
 
-  amounts_good : (i : ℕ) → RecordRules b last k i → check_amounts b (record_at i) ≡ Accepted 0
+  amounts_good : (i : ℕ) → RecordRules b last k i → check_amounts b (record_at i) ≡ Ok 0
   unfolding check_amounts field_of
   amounts_good i r =
       then_good _ _ _ _
@@ -145,7 +144,7 @@ module _ (b : List ℕ) (last k : ℕ) where
       (field_good _ _ _ _ _ r.claims)
 
   class_good : (left i : ℕ) → RecordRules b last k i → left + class_of b i ≡ last
-      → check_class b (lowest_class last) (last - left) (record_at i) ≡ Accepted 0
+      → check_class b (lowest_class last) (last - left) (record_at i) ≡ Ok 0
   unfolding check_class class_of
   class_good left i r c =
       let e : class_of b i ≡ last - left = omega arith in
@@ -159,7 +158,7 @@ module _ (b : List ℕ) (last k : ℕ) where
       rw (ne_eqb (suc left) 0 (λ z. absurd (omega arith)), ne_eqb (next_of b i) 0 more)
 
   link_good : (left i : ℕ) → RecordRules b last k i → left + class_of b i ≡ last → next_of b i ≤ records b
-      → check_link b last k left i ≡ Accepted 0
+      → check_link b last k left i ≡ Ok 0
   unfolding check_link
   link_good left i r c inside =
       then_good _ _ _ _
@@ -171,7 +170,7 @@ module _ (b : List ℕ) (last k : ℕ) where
   pub from_good : (left i m : ℕ) → 0 < i → left + class_of b i ≡ last → left < m
       → ((j : ℕ) → 0 < link_from b i j → RecordRules b last k (link_from b i j))
       → ((j : ℕ) → 0 < link_from b i j → class_of b (link_from b i j) ≡ class_of b i + j)
-      → check_from b last k left i ≡ Accepted (held_from b i m)
+      → check_from b last k left i ≡ Ok (held_from b i m)
   unfolding check_from held_from link_from
   from_good left i zero some c h linked rising = absurd (omega arith)
   from_good zero i (suc m) some c h linked rising =
@@ -185,21 +184,21 @@ module _ (b : List ℕ) (last k : ℕ) where
       rw (link_next b i 0 some) at (linked 1 (rw (link_next b i 0 some) more)) in
       let class : class_of b (next_of b i) ≡ class_of b i + 1 =
       rw (link_next b i 0 some) at (rising 1 (rw (link_next b i 0 some) more)) in
-      let rest : check_from b last k left (next_of b i) ≡ Accepted (held_from b (next_of b i) m)
+      let rest : check_from b last k left (next_of b i) ≡ Ok (held_from b (next_of b i) m)
       = from_good left (next_of b i) m more (omega arith) (omega arith)
       (λ j l. rw (link_next b i j some) at (linked (suc j) (rw (link_next b i j some) l)))
       (λ j l. let e = rw (link_next b i j some) at (rising (suc j) (rw (link_next b i j some) l)) in omega arith) in
       then_good _ _ _ _ (link_good (suc left) i r c next.inside) (rw (rest, after_some b i some))
 
-  chain_good : ChainRules b last k → check_chain b last k ≡ Accepted (held_in b last k)
+  chain_good : ChainRules b last k → check_chain b last k ≡ Ok (held_in b last k)
   unfolding check_chain held_in link_from
   chain_good c = by_head (eqb (head_of b k) 0) refl
     where
       by_head : (t : Bool) → eqb (head_of b k) 0 ≡ t
-          → cond t (Accepted 0)
+          → cond t (Ok 0)
           (need (leb (head_of b k) (records b)) 9 (head_place k) and_then check_from b last k
           (last - class_of b (head_of b k)) (head_of b k))
-          ≡ Accepted (held_from b (head_of b k) (last + 1))
+          ≡ Ok (held_from b (head_of b k) (last + 1))
       by_head true e = let none : head_of b k ≡ 0 = eqb-true _ _ e in rw (none, held_none b (last + 1))
       by_head false e =
           let some : 0 < head_of b k = pos_of_ne-zero (eqb-false _ _ e) in
@@ -209,8 +208,8 @@ module _ (b : List ℕ) (last k : ℕ) where
           (omega arith) c.linked c.rising)
 
 -- accepted runs, their counts added
-all_counted : (f : ℕ → Verdict) (g : ℕ → ℕ) (left k : ℕ) → ((j : ℕ) → k ≤ j → j < k + left → f j ≡ Accepted (g j))
-    → join_all f k left ≡ Accepted (sum_from g k left)
+all_counted : (f : ℕ → Verdict) (g : ℕ → ℕ) (left k : ℕ) → ((j : ℕ) → k ≤ j → j < k + left → f j ≡ Ok (g j))
+    → join_all f k left ≡ Ok (sum_from g k left)
 unfolding join_all sum_by
 all_counted f g zero k each = refl
 all_counted f g (suc left) k each =
@@ -218,11 +217,11 @@ all_counted f g (suc left) k each =
       each k (omega arith) (omega arith),
       all_counted f g left (k + 1) (λ j lo hi. each j (omega arith) (omega arith)),
     )
-    (ap Accepted (sym (sum_first g k left)))
+    (ap Ok (sym (sum_first g k left)))
 
 -- a book that keeps the rules is accepted, and n is as defined
 pub rules_accepted : (basis : ℕ) (b : List ℕ) → Rules basis b
-    → check_book basis b ≡ Accepted (held_in_all b (last_class basis))
+    → check_book basis b ≡ Ok (held_in_all b (last_class basis))
 unfolding check_book check_chains held_in_all
 rules_accepted basis b r =
     let long : header_size ≤ length b = omega (arith, r.header.size) in
@@ -231,10 +230,10 @@ rules_accepted basis b r =
     (then_good _ _ _ _ (need_good _ _ _ (le-leb _ _ long)) (header_good basis b r.header))
     (tables_good b r.tables))
     (all_counted _ _ chains 0 (λ k lo hi. chain_good b (last_class basis) k (r.chain k (omega arith)))
-    ∙ ap Accepted (sum_start (held_in b (last_class basis)) chains))
+    ∙ ap Ok (sum_start (held_in b (last_class basis)) chains))
 
 -- n of an accepted book is the number of its linked records that hold contracts
-pub accepted_held : (basis : ℕ) (b : List ℕ) (n : ℕ) → check_book basis b ≡ Accepted n
+pub accepted_held : (basis : ℕ) (b : List ℕ) (n : ℕ) → check_book basis b ≡ Ok n
     → n ≡ held_in_all b (last_class basis)
 accepted_held basis b n e = let f = rules_accepted basis b (accepted_rules basis b n e) in cc
 

@@ -9,10 +9,9 @@ use native.Mathlib.Omega.{arith}
 use borrow.Author.Tests.{le-leb}
 use lib.Dec.{T, leb, eqb}
 use Rattle.le_bytes.specs.Bytes.{byte_at}
-use Rattle.verdict.specs.Verdicts.{need, ◌and_then◌, plus, join, join_all, count_of, refusal_of}
+use Rattle.verdict.specs.Verdicts.{need, first_refusal, plus, join, join_all, count_of, refusal_of, ◌and_then◌, Verdict}
 use Rattle.le_bytes.specs.Fields.{check_field, check_fields}
-use Rattle.verdict.specs.declared.Verdict.{Verdict}
-use Rattle.verdict.specs.declared.Verdict.TheVariants.{Accepted, Refused}
+use Rattle.std.specs.Prelude.{Ok, Err}
 use Rattle.book.specs.Layout.{last_class, lowest_class, edition, head_of, next_of}
 use Rattle.book.specs.Cells.{holds}
 use Rattle.book.specs.Check.{check_spare, check_percents, check_by_edition, check_header, check_tables, check_owner}
@@ -26,8 +25,8 @@ listed last q =
 
 -- accepted, or refused with such a number
 abbrev pub Numbered : ℕ → Verdict → Type 0
-Numbered last (Accepted n) = Unit {0}
-Numbered last (Refused number place) = T (listed last number)
+Numbered last (Ok n) = Unit {0}
+Numbered last (Err r) = T (listed last r.number)
 
 module _ (last : ℕ) where
   by_need : (ok : Bool) (q p : ℕ) → T (listed last q) → Numbered last (need ok q p)
@@ -36,17 +35,17 @@ module _ (last : ℕ) where
   by_need false q p h = h
 
   by_then : (v w : Verdict) → Numbered last v → Numbered last w → Numbered last (v and_then w)
-  unfolding ◌and_then◌
-  by_then (Accepted n) w hv hw = hw
-  by_then (Refused q p) w hv hw = hv
+  unfolding first_refusal
+  by_then (Ok n) w hv hw = hw
+  by_then (Err r) w hv hw = hv
 
   by_plus : (n : ℕ) (v : Verdict) → Numbered last v → Numbered last (plus n v)
-  by_plus n (Accepted m) h = tt
-  by_plus n (Refused q p) h = h
+  by_plus n (Ok m) h = tt
+  by_plus n (Err r) h = h
 
   by_join : (v w : Verdict) → Numbered last v → Numbered last w → Numbered last (join v w)
-  by_join (Accepted n) w hv hw = by_plus n w hw
-  by_join (Refused q p) w hv hw = hv
+  by_join (Ok n) w hv hw = by_plus n w hw
+  by_join (Err r) w hv hw = hv
 
   by_all : (f : ℕ → Verdict) (left k : ℕ) → ((j : ℕ) → Numbered last (f j)) → Numbered last (join_all f k left)
   unfolding join_all
@@ -134,12 +133,12 @@ module _ (last : ℕ) where
     by_chain : (k : ℕ) → Numbered last (check_chain b last k)
     unfolding check_chain
     by_chain k =
-        by_pick (eqb (head_of b k) 0) (Accepted 0) _ tt (by_then _ _ (by_need _ 9 _ tt) (by_from k _ (head_of b k)))
+        by_pick (eqb (head_of b k) 0) (Ok 0) _ tt (by_then _ _ (by_need _ 9 _ tt) (by_from k _ (head_of b k)))
 
 -- on basis 1 the rule of 21 never bites, and 11 alone is left of the class's two
 pub class_on_basis_1 : (b : List ℕ) (class at : ℕ)
     → check_class b (lowest_class (last_class 1)) class at ≡ need (eqb (byte_at b (at + 2)) class) 11 (at + 2)
-unfolding check_class need ◌and_then◌
+unfolding check_class need first_refusal
 class_on_basis_1 b class at = rw (le-leb 0 (byte_at b (at + 2)) zero-le)
 
 -- on basis 1 a number from 1 to 13 or 23, on basis 2 one of these or 21
@@ -153,10 +152,9 @@ numbered b basis =
 
 -- refusal 0 is acceptance
 pub zero_accepted : (basis : ℕ) (b : List ℕ) → refusal_of (check_book basis b) ≡ 0
-    → check_book basis b ≡ Accepted (count_of (check_book basis b))
+    → check_book basis b ≡ Ok (count_of (check_book basis b))
 zero_accepted basis b = by (check_book basis b) (numbered b basis)
   where
-    by : (v : Verdict) → Numbered (last_class basis) v → refusal_of v ≡ 0 → v ≡ Accepted (count_of v)
-    by (Accepted n) h e = refl
-    by (Refused zero p) h e = absurd h
-    by (Refused (suc q) p) h e = absurd (omega arith)
+    by : (v : Verdict) → Numbered (last_class basis) v → refusal_of v ≡ 0 → v ≡ Ok (count_of v)
+    by (Ok n) h e = refl
+    by (Err r) h e = absurd (rw e at h)

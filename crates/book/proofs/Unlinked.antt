@@ -9,9 +9,8 @@ use native.Mathlib.Omega.{arith}
 use borrow.Author.Tests.{eqb-true, eqb-false, ne_eqb}
 use lib.Dec.{leb, eqb}
 use lib.ListN.{length}
-use Rattle.verdict.specs.Verdicts.{◌and_then◌, need, plus, refusal_of, place_of}
-use Rattle.verdict.specs.declared.Verdict.{Verdict}
-use Rattle.verdict.specs.declared.Verdict.TheVariants.{Accepted, Refused}
+use Rattle.verdict.specs.Verdicts.{first_refusal, need, plus, refusal_of, place_of, ◌and_then◌, Verdict, refused}
+use Rattle.std.specs.Prelude.{Ok, Err}
 use Rattle.verdict.proofs.Verdicts.{all_same}
 use Rattle.le_bytes.proofs.Same.{u16_same, field_same, fields_same}
 use Rattle.book.specs.Layout.{last_class, chains, records, head_place, head_of, cost_place, curve_place}
@@ -28,22 +27,22 @@ use Rattle.book.proofs.Same.{record_same, header_same}
 
 -- a verdict that refuses, and what comes after it
 abbrev Refuses : Verdict → Type 0
-Refuses v = v ≡ Refused (refusal_of v) (place_of v)
+Refuses v = v ≡ refused (refusal_of v) (place_of v)
 
 refuses_left : (v w : Verdict) → Refuses v → Refuses (v and_then w)
-unfolding ◌and_then◌
-refuses_left (Accepted n) w e = cc
-refuses_left (Refused q p) w e = refl
+unfolding first_refusal
+refuses_left (Ok n) w e = cc
+refuses_left (Err r) w e = refl
 
 refuses_right : (v w : Verdict) → Refuses w → Refuses (v and_then w)
-unfolding ◌and_then◌
-refuses_right (Accepted n) w e = e
-refuses_right (Refused q p) w e = refl
+unfolding first_refusal
+refuses_right (Ok n) w e = e
+refuses_right (Err r) w e = refl
 
 hidden : (v w w' : Verdict) → Refuses v → (v and_then w) ≡ (v and_then w')
-unfolding ◌and_then◌
-hidden (Accepted n) w w' e = cc
-hidden (Refused q p) w w' e = refl
+unfolding first_refusal
+hidden (Ok n) w w' e = cc
+hidden (Err r) w w' e = refl
 
 module _ (b b' : List ℕ) (last k : ℕ) (count : records b ≡ records b') where
   module _ (i : ℕ) (same : SameRecord b b' i) where
@@ -118,7 +117,7 @@ module _ (b b' : List ℕ) (last k : ℕ) (count : records b ≡ records b') whe
       chain c = need (leb (head_of b k) (records c)) 9 (head_place k) and_then check_from c last k
           (last - class_of c (head_of b k)) (head_of b k)
 
-      by_head : (t : Bool) → eqb (head_of b k) 0 ≡ t → cond t (Accepted 0) (chain b) ≡ cond t (Accepted 0) (chain b')
+      by_head : (t : Bool) → eqb (head_of b k) 0 ≡ t → cond t (Ok 0) (chain b) ≡ cond t (Ok 0) (chain b')
       by_head true e = refl
       by_head false e =
           let some : 0 < head_of b k = pos_of_ne-zero (eqb-false _ _ e) in

@@ -7,7 +7,7 @@ use native.Mathlib.Numerals.{add-one}
 use native.Mathlib.Omega.{arith}
 use lib.ListN.{length}
 use borrow.Author.Tests.{leb-true, eqb-true, eq-eqb, ne_eqb}
-use Rattle.verdict.specs.declared.Verdict.TheVariants.{Accepted}
+use Rattle.std.specs.Prelude.{Ok}
 use Rattle.verdict.proofs.Verdicts.{need_true, then_left, then_right, plus_right, all_each}
 use Rattle.le_bytes.proofs.Ranges.{within_means, field_bound, fields_bound}
 use Rattle.book.specs.Layout.{last_class, lowest_class, edition, records, spare_bytes, percent_at, most_percent}
@@ -23,22 +23,22 @@ use Rattle.book.proofs.Chains.{link_owner, link_class, link_amounts, link_ends, 
 
 module _ (b : List ℕ) (last k : ℕ) where
   -- the class of an accepted record is left below the last
-  link_class_is : (left i m : ℕ) → check_link b last k left i ≡ Accepted m → class_of b i ≡ last - left
+  link_class_is : (left i m : ℕ) → check_link b last k left i ≡ Ok m → class_of b i ≡ last - left
   unfolding check_class class_of
   link_class_is left i m e = eqb-true _ _ (need_true _ _ _ _ (then_right _ _ _ (link_class b last k left i m e)))
 
   -- and not below the lowest
-  link_class_low : (left i m : ℕ) → check_link b last k left i ≡ Accepted m → lowest_class last ≤ class_of b i
+  link_class_low : (left i m : ℕ) → check_link b last k left i ≡ Ok m → lowest_class last ≤ class_of b i
   unfolding check_class class_of
   link_class_low left i m e = leb-true _ _ (need_true _ _ _ _ (then_left _ _ _ (link_class b last k left i m e)))
 
   -- where the chain ends
-  link_end_is : (i m : ℕ) → check_link b last k 0 i ≡ Accepted m → next_of b i ≡ 0
+  link_end_is : (i m : ℕ) → check_link b last k 0 i ≡ Ok m → next_of b i ≡ 0
   unfolding ends_right
   link_end_is i m e = eqb-true _ _ (link_ends b last k 0 i m e)
 
   -- an accepted record keeps every rule of a record
-  record_rules : (left i m : ℕ) → 0 < i → i ≤ records b → left ≤ last → check_link b last k left i ≡ Accepted m
+  record_rules : (left i m : ℕ) → 0 < i → i ≤ records b → left ≤ last → check_link b last k left i ≡ Ok m
       → (class_of b i ≡ last → next_of b i ≡ 0) → (next_of b i ≡ 0 → class_of b i ≡ last) → RecordRules b last k i
   unfolding check_owner check_amounts field_of
   record_rules left i m some inside fits e ends goes_on =
@@ -65,7 +65,7 @@ module _ (b : List ℕ) (last k : ℕ) where
         goes_on = goes_on;
       }
 
-  from_valid : (left i n : ℕ) → 0 < i → i ≤ records b → left ≤ last → check_from b last k left i ≡ Accepted n
+  from_valid : (left i n : ℕ) → 0 < i → i ≤ records b → left ≤ last → check_from b last k left i ≡ Ok n
       → ChainFrom b last k left i
   unfolding check_from ChainFrom
   from_valid zero i n some inside fits e =
@@ -82,7 +82,7 @@ module _ (b : List ℕ) (last k : ℕ) where
             (plus_right _ _ _ (then_right _ _ _ e)),
       )
 
-  chain_valid : (n : ℕ) → (head_of b k ≡ 0 → ⊥) → check_chain b last k ≡ Accepted n
+  chain_valid : (n : ℕ) → (head_of b k ≡ 0 → ⊥) → check_chain b last k ≡ Ok n
       → ChainFrom b last k (last - class_of b (head_of b k)) (head_of b k)
   unfolding check_chain
   chain_valid n some e =
@@ -91,7 +91,7 @@ module _ (b : List ℕ) (last k : ℕ) where
       (then_right _ _ _ w)
 
 -- bytes 6 and 7, by the edition
-module _ (b : List ℕ) (n : ℕ) (e : check_by_edition b ≡ Accepted n) where
+module _ (b : List ℕ) (n : ℕ) (e : check_by_edition b ≡ Ok n) where
   spare_rule : edition b ≡ 1 → spare_bytes b ≡ 0
   unfolding check_by_edition check_spare
   spare_rule one =
@@ -110,7 +110,7 @@ module _ (b : List ℕ) (n : ℕ) (e : check_by_edition b ≡ Accepted n) where
       (omega (arith, women.0), omega (arith, women.1))
   percent_rule two (suc (suc sex)) h = absurd (omega arith)
 
-header_rules : (basis : ℕ) (b : List ℕ) (n : ℕ) → check_header basis (length b) b ≡ Accepted n → HeaderRules basis b
+header_rules : (basis : ℕ) (b : List ℕ) (n : ℕ) → check_header basis (length b) b ≡ Ok n → HeaderRules basis b
 unfolding check_header
 header_rules basis b n e =
     let h₅ = then_left _ _ _ e in
@@ -134,7 +134,7 @@ header_rules basis b n e =
       size = eqb-true _ _ (need_true _ _ _ _ (then_right _ _ _ e));
     }
 
-table_rules : (b : List ℕ) (n : ℕ) → check_tables b ≡ Accepted n → TableRules b
+table_rules : (b : List ℕ) (n : ℕ) → check_tables b ≡ Ok n → TableRules b
 unfolding check_tables
 table_rules b n e =
     let t = then_left _ _ _ e in
@@ -145,7 +145,7 @@ table_rules b n e =
     }
 
 -- what every reader of an accepted book needs
-pub valid : (basis : ℕ) (b : List ℕ) (n : ℕ) → check_book basis b ≡ Accepted n → ValidBook basis b
+pub valid : (basis : ℕ) (b : List ℕ) (n : ℕ) → check_book basis b ≡ Ok n → ValidBook basis b
 unfolding check_book check_chains
 valid basis b n e =
     let t = then_left _ _ _ e in

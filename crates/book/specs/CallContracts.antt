@@ -1,8 +1,7 @@
 -- What Check promises of any bytes, in the paper's values of its verdict: the refusal's number, 0 where accepted, and
 -- n.
 use Rattle.std.specs.Prelude.{◌≡◌, List, ℕ}
-use Rattle.verdict.specs.Verdicts.{refusal_of, count_of}
-use Rattle.verdict.specs.declared.Verdict.{Verdict}
+use Rattle.verdict.specs.Verdicts.{refusal_of, count_of, Verdict}
 use Rattle.book.specs.Layout.{last_class}
 use Rattle.book.specs.Cells.{held_in_all}
 use Rattle.book.specs.Check.{check_book}

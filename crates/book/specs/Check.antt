@@ -1,11 +1,9 @@
 -- The check of a book, in the order of its refusals: the first that applies is given, with its number and its place.
 -- basis is the age basis that the book must have, last its last class, lowest its lowest.
-use Rattle.std.specs.Prelude.{ℕ, zero, suc, ◌+◌, ◌-◌, ◌*◌, List, Bool, not, cond, length, leb, eqb}
+use Rattle.std.specs.Prelude.{ℕ, zero, suc, ◌+◌, ◌-◌, ◌*◌, List, Bool, not, cond, length, leb, eqb, Ok}
 use Rattle.le_bytes.specs.Bytes.{byte_at, read_u16}
-use Rattle.verdict.specs.Verdicts.{need, ◌and_then◌, plus, join_all}
+use Rattle.verdict.specs.Verdicts.{need, ◌and_then◌, plus, join_all, Verdict}
 use Rattle.le_bytes.specs.Fields.{within, check_field, check_fields}
-use Rattle.verdict.specs.declared.Verdict.{Verdict}
-use Rattle.verdict.specs.declared.Verdict.TheVariants.{Accepted}
 use Rattle.book.specs.Layout.{header_size, record_size, most_records, last_class, lowest_class, edition, age_basis}
 use Rattle.book.specs.Layout.{sst_year, first_year, last_year, records, spare_bytes, percent_place, percent_at}
 use Rattle.book.specs.Layout.{most_percent, chains, chain_code, chain_sex, head_place, head_of, cost_place, curve_place}
@@ -84,7 +82,7 @@ check_link b last k left i =
 -- chain k from record i on, with left classes above that record's: each record in turn. Its count is how many hold
 -- contracts.
 unfoldable pub check_from : List ℕ → ℕ → ℕ → ℕ → ℕ → Verdict
-check_from b last k zero i = check_link b last k zero i and_then Accepted (holds b i)
+check_from b last k zero i = check_link b last k zero i and_then Ok (holds b i)
 check_from b last k (suc left) i =
     check_link b last k (suc left) i and_then
     plus (holds b i) (check_from b last k left (next_of b i))
@@ -93,7 +91,7 @@ check_from b last k (suc left) i =
 -- is left, and it is 11.
 unfoldable pub check_chain : List ℕ → ℕ → ℕ → Verdict
 check_chain b last k =
-    cond (eqb (head_of b k) 0) (Accepted 0)
+    cond (eqb (head_of b k) 0) (Ok 0)
     (need (leb (head_of b k) (records b)) 9 (head_place k) and_then
     check_from b last k (last - class_of b (head_of b k)) (head_of b k))
 

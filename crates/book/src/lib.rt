@@ -104,7 +104,8 @@ pub fn records(b: &[u8]) -> usize
     le_bytes::read_u16(b, 4)
 }
 
-// The first record of chain k, 0 where it is empty.
+// The first record of chain k, 0 where it is empty: no `Option`, since the book's own bytes have 0,
+// and the definitions of its check speak of that number.
 pub fn head_of(b: &[u8], k: usize) -> usize
     requires { (k < 14)
         × (header_size ≤ length b.now) }
@@ -132,7 +133,7 @@ pub fn class_of(b: &[u8], i: usize) -> usize
     le_bytes::read_u8(b, record_at(i) + 2)
 }
 
-// The record that follows record i in its chain, 0 where the chain ends.
+// The record that follows record i in its chain, 0 where the chain ends, as in the book's bytes.
 pub fn next_of(b: &[u8], i: usize) -> usize
     requires { Inside b.now i }
     ensures { (result ≡ next_of b.now i)

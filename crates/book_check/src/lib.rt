@@ -10,7 +10,7 @@ ghost use Rattle.book.specs.Check.{check_from, check_chain, check_chains, check_
 ghost use Rattle.book.specs.Reading.{Sized};
 
 use book::{CHAINS, HEADER_SIZE};
-use verdict::Verdict;
+use verdict::{Verdict, need};
 
 // Chain k from record `from` on, with left classes above that record's.
 fn check_from(b: &[u8], last: usize, k: usize, left: usize, from: usize) -> Verdict
@@ -23,17 +23,15 @@ fn check_from(b: &[u8], last: usize, k: usize, left: usize, from: usize) -> Verd
         × Sized b.now }
     ensures { result ≡ check_from b.now last k left from }
 {
+    // It follows links that are checked one by one: an iterator of them would be no plainer.
     let mut i = from;
     let mut above = left;
     let mut n: u64 = 0;
     loop {
-        let v = book_check_records::check_link(b, last, k, above, i);
-        let Verdict::Accepted(_) = v else {
-            return v;
-        };
+        book_check_records::check_link(b, last, k, above, i)?;
         n += book::holds(b, i);
         if above == 0 {
-            return Verdict::Accepted(n);
+            return Ok(n);
         }
         i = book::next_of(b, i);
         above -= 1;
@@ -49,6 +47,7 @@ fn classes_above(last: usize, class: usize) -> usize
 }
 
 // Chain k from its head: refusals 9 to 13, and 21.
+#[tactic(auto, unfolding(book::specs::Check::check_chain, verdict::specs::Verdicts::need, verdict::specs::Verdicts::first_refusal))]
 fn check_chain(b: &[u8], last: usize, k: usize) -> Verdict
     requires { (k < 14)
         × (120 ≤ last)
@@ -59,11 +58,9 @@ fn check_chain(b: &[u8], last: usize, k: usize) -> Verdict
     let count = book::records(b);
     let head = book::head_of(b, k);
     if head == 0 {
-        return Verdict::Accepted(0);
+        return Ok(0);
     }
-    if count < head {
-        return Verdict::Refused(9, book::HEADS_PLACE + 2 * k);
-    }
+    need(head <= count, 9, book::HEADS_PLACE + 2 * k)?;
     let left = classes_above(last, book::class_of(b, head));
     check_from(b, last, k, left, head)
 }
@@ -76,33 +73,22 @@ fn check_chains(b: &[u8], last: usize) -> Verdict
     ensures { result ≡ check_chains b.now last }
 {
     let mut n: u64 = 0;
-    let mut k = 0;
-    while k < CHAINS {
-        let v = check_chain(b, last, k);
-        let Verdict::Accepted(m) = v else {
-            return v;
-        };
-        n += m;
-        k += 1;
+    for k in 0..CHAINS {
+        n += check_chain(b, last, k)?;
     }
-    Verdict::Accepted(n)
+    Ok(n)
 }
 
 // The check of a book on an age basis. It is for the crates above, which name the basis.
+#[tactic(auto, unfolding(book::specs::Check::check_book, verdict::specs::Verdicts::need, verdict::specs::Verdicts::first_refusal))]
 pub fn check_on(b: &[u8], basis: usize) -> Verdict
     requires { (1 ≤ basis)
         × (basis ≤ 2) }
     ensures { result ≡ check_book basis b.now }
 {
-    if b.len() < HEADER_SIZE {
-        return Verdict::Refused(1, b.len());
-    }
-    let header = book_check_header::check_header(b, b.len(), basis);
-    let tables = book_check_header::check_tables(b);
-    let v = header.and_then(tables);
-    let Verdict::Accepted(_) = v else {
-        return v;
-    };
+    need(HEADER_SIZE <= b.len(), 1, b.len())?;
+    book_check_header::check_header(b, b.len(), basis)?;
+    book_check_header::check_tables(b)?;
     check_chains(b, book::last_class(basis))
 }
 

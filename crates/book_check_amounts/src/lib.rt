@@ -11,13 +11,13 @@ use book::{
 use verdict::Verdict;
 
 // Refusal 12 of the record that starts at a place.
+#[tactic(auto, unfolding(book::specs::Check::check_amounts, verdict::specs::Verdicts::first_refusal))]
 pub fn check_amounts(b: &[u8], at: usize) -> Verdict
     requires { at + 24 ≤ length b.now }
     ensures { result ≡ check_amounts b.now at }
 {
-    let count = le_bytes::check_field(b, 12, 0, MOST_COUNT, at + COUNT_OFFSET);
-    let lapse = le_bytes::check_field(b, 12, 0, MOST_RATE, at + LAPSE_OFFSET);
-    let premium = le_bytes::check_field(b, 12, 0, MOST_AMOUNT, at + PREMIUM_OFFSET);
-    let claims = le_bytes::check_field(b, 12, 0, MOST_AMOUNT, at + CLAIMS_OFFSET);
-    count.and_then(lapse).and_then(premium).and_then(claims)
+    le_bytes::check_field(b, 12, 0, MOST_COUNT, at + COUNT_OFFSET)?;
+    le_bytes::check_field(b, 12, 0, MOST_RATE, at + LAPSE_OFFSET)?;
+    le_bytes::check_field(b, 12, 0, MOST_AMOUNT, at + PREMIUM_OFFSET)?;
+    le_bytes::check_field(b, 12, 0, MOST_AMOUNT, at + CLAIMS_OFFSET)
 }

@@ -11,7 +11,7 @@ use lib.ListN.{length, get_or}
 use Rattle.lists.specs.Sums.{sum_by, sum_below, sum_from}
 use Rattle.lists.proofs.Sums.{sum_first, sum_split}
 use Rattle.le_bytes.specs.Bytes.{read_u16}
-use Rattle.verdict.specs.declared.Verdict.TheVariants.{Accepted}
+use Rattle.std.specs.Prelude.{Ok}
 use Rattle.book.specs.Layout.{edition, spare_bytes, percent_at, most_percent, chains, head_of}
 use Rattle.book.specs.Cells.{holds, held_from, held_in, held_in_all}
 use Rattle.book.specs.Check.{check_book}
@@ -168,15 +168,15 @@ module _ (b : List ℕ) (v : Contents) (f : Fit v) (x : Laid b v) where
   held_all = rw f.counts_size (held_chains chains (omega arith))
 
 -- Contents that keep the rules give a book that is accepted.
-pub fit_accepted : (v : Contents) → Fit v → check_book 1 (book_of v) ≡ Accepted (not_zero v.counts)
+pub fit_accepted : (v : Contents) → Fit v → check_book 1 (book_of v) ≡ Ok (not_zero v.counts)
 fit_accepted v f =
     let b = book_of v in
     let x : Laid b v = stands_laid b v (stands_self b) in
     let rules : Rules 1 b =
     record { header = header_rules b v f x refl; tables = table_rules b v f x; chain = chain_rules b v f x } in
-    rules_accepted 1 b rules ∙ ap Accepted (held_all b v f x)
+    rules_accepted 1 b rules ∙ ap Ok (held_all b v f x)
 
 -- So is every book that is written.
-pub written_accepted : (v : Contents) (capacity n : ℕ) → check_contents v capacity ≡ Accepted n
-    → check_book 1 (book_of v) ≡ Accepted (not_zero v.counts)
+pub written_accepted : (v : Contents) (capacity n : ℕ) → check_contents v capacity ≡ Ok n
+    → check_book 1 (book_of v) ≡ Ok (not_zero v.counts)
 written_accepted v capacity n e = fit_accepted v (fit v capacity n e)

@@ -14,7 +14,7 @@ use lib.IntN.{ℤ, pos}
 use lib.ListN.{length, get_or, length-append, get_or-append}
 use lib.Seq.{get_or-append-add}
 use Rattle.le_bytes.specs.Bytes.{byte_at, read_u16, read_u32, two_bytes}
-use Rattle.verdict.specs.declared.Verdict.TheVariants.{Accepted}
+use Rattle.std.specs.Prelude.{Ok}
 use Rattle.book.specs.Layout.{header_size, record_size, edition, chains, records, head_place, head_of, record_at}
 use Rattle.book.specs.Layout.{class_of}
 use Rattle.book.specs.Layout.{next_of, field_of, cost_place, curve_place, mortality_place, most_rate, most_count}
@@ -231,7 +231,7 @@ module _ (b : List ℕ) (bytes : OfBytes b) (v : ValidBook 1 b) (r : Rules 1 b) 
       }
 
 -- The book of the reading is the book.
-pub written_again : (b : List ℕ) (n : ℕ) → OfBytes b → check_book 1 b ≡ Accepted n → InOrder b
+pub written_again : (b : List ℕ) (n : ℕ) → OfBytes b → check_book 1 b ≡ Ok n → InOrder b
     → book_of (contents_of b) ≡ b
 unfolding contents_of values_of
 written_again b n bytes e o =
@@ -319,15 +319,15 @@ module _ (b : List ℕ) (v : ValidBook 1 b) (r : Rules 1 b) where
       }
 
 -- What is read from an accepted book, in order or not, is not refused where the caller's buffer takes its book.
-pub reading_taken : (b : List ℕ) (n capacity : ℕ) → check_book 1 b ≡ Accepted n → OfBytes b
+pub reading_taken : (b : List ℕ) (n capacity : ℕ) → check_book 1 b ≡ Ok n → OfBytes b
     → book_size (firsts_of b) ≤ capacity
-    → check_contents (contents_of b) capacity ≡ Accepted 0
+    → check_contents (contents_of b) capacity ≡ Ok 0
 unfolding contents_of values_of
 reading_taken b n capacity e bytes enough =
     fit_good (contents_of b) capacity (reading_fit b (valid 1 b n e) (accepted_rules 1 b n e) bytes) enough
 
 -- So a book in order is written again: its reading is not refused in a buffer of its own length.
-pub taken_again : (b : List ℕ) (n : ℕ) → OfBytes b → check_book 1 b ≡ Accepted n → InOrder b
-    → check_contents (contents_of b) (length b) ≡ Accepted 0
+pub taken_again : (b : List ℕ) (n : ℕ) → OfBytes b → check_book 1 b ≡ Ok n → InOrder b
+    → check_contents (contents_of b) (length b) ≡ Ok 0
 taken_again b n bytes e o =
     reading_taken b n (length b) e bytes (omega (arith, (accepted_rules 1 b n e).header.size, o.all))

@@ -8,7 +8,7 @@ use borrow.Author.Tests.{eq-eqb, ne_eqb}
 use lib.IntN.{pos}
 use lib.ListN.{get_or}
 use Rattle.le_bytes.specs.Bytes.{read_u32}
-use Rattle.verdict.specs.declared.Verdict.TheVariants.{Accepted}
+use Rattle.std.specs.Prelude.{Ok}
 use Rattle.book.specs.Layout.{chains, head_of, cost_place, curve_place, mortality_place, count_offset, lapse_offset}
 use Rattle.book.specs.Layout.{premium_offset, claims_offset}
 use Rattle.buffer.proofs.Digits.{le_or_lt}
@@ -100,7 +100,7 @@ module _ (b : List ℕ) (v : Contents) (f : Fit v) (x : Laid b v) where
         )
 
 -- Reading the book of values that are not refused gives those values.
-pub read_written : (v : Contents) (capacity n : ℕ) → Shaped v.values → check_contents v capacity ≡ Accepted n
+pub read_written : (v : Contents) (capacity n : ℕ) → Shaped v.values → check_contents v capacity ≡ Ok n
     → contents_of (book_of v) ≡ v
 read_written v capacity n s e =
     values_back (book_of v) v (fit v capacity n e) (stands_laid (book_of v) v (stands_self (book_of v))) s

@@ -10,7 +10,7 @@ use lib.Dec.{leb}
 use lib.IntN.{ℤ, pos}
 use lib.ListN.{length, get_or, get_or-eq_default}
 use Rattle.verdict.specs.Verdicts.{need}
-use Rattle.verdict.specs.declared.Verdict.TheVariants.{Accepted}
+use Rattle.std.specs.Prelude.{Ok}
 use Rattle.verdict.proofs.Verdicts.{need_true, need_good, then_left, then_right, then_good, all_each, all_zero}
 use Rattle.le_bytes.proofs.Ranges.{within_means, within_good}
 use native.Mathlib.Nat.{eq-or-lt_of_le}
@@ -23,7 +23,7 @@ use Rattle.book_contents.specs.Limits.{check_edition}
 use Rattle.book_contents.specs.Limits.{check_given_tables, check_lists, check_contents, Fit}
 
 module _ (number most : ℕ) (l : List ℕ) where
-  most_means : (n : ℕ) → check_most number most l ≡ Accepted n → (j : ℕ) → get_or l j 0 ≤ most
+  most_means : (n : ℕ) → check_most number most l ≡ Ok n → (j : ℕ) → get_or l j 0 ≤ most
   unfolding check_most
   most_means n e j =
       ⊎_elim
@@ -33,11 +33,11 @@ module _ (number most : ℕ) (l : List ℕ) where
       (all_each (λ (i : ℕ). need (leb (get_or l i 0) most) number 0) (length l) 0 n j e zero-le (omega arith))))
       (le_or_lt (length l) j)
 
-  most_good : ((j : ℕ) → get_or l j 0 ≤ most) → check_most number most l ≡ Accepted 0
+  most_good : ((j : ℕ) → get_or l j 0 ≤ most) → check_most number most l ≡ Ok 0
   unfolding check_most
   most_good h = all_zero _ (length l) 0 (λ j lo hi. need_good _ _ _ (le-leb _ _ (h j)))
 
-curve_means : (l : List ℤ) (n : ℕ) → check_curve l ≡ Accepted n → (j : ℕ) → curve_rate (get_or l j (pos 0)) ≡ true
+curve_means : (l : List ℤ) (n : ℕ) → check_curve l ≡ Ok n → (j : ℕ) → curve_rate (get_or l j (pos 0)) ≡ true
 unfolding check_curve curve_rate
 curve_means l n e j =
     ⊎_elim
@@ -46,12 +46,12 @@ curve_means l n e j =
     (all_each (λ (i : ℕ). need (curve_rate (get_or l i (pos 0))) 7 0) (length l) 0 n j e zero-le (omega arith)))
     (le_or_lt (length l) j)
 
-curve_good : (l : List ℤ) → ((j : ℕ) → curve_rate (get_or l j (pos 0)) ≡ true) → check_curve l ≡ Accepted 0
+curve_good : (l : List ℤ) → ((j : ℕ) → curve_rate (get_or l j (pos 0)) ≡ true) → check_curve l ≡ Ok 0
 unfolding check_curve
 curve_good l h = all_zero _ (length l) 0 (λ j lo hi. need_good _ _ _ (h j))
 
 -- the percentages, by the edition
-module _ (edition men women n : ℕ) (e : check_given_percents edition men women ≡ Accepted n) where
+module _ (edition men women n : ℕ) (e : check_given_percents edition men women ≡ Ok n) where
   none_given : edition ≡ 1 → (men ≡ 0) × (women ≡ 0)
   unfolding check_given_percents
   none_given one =
@@ -71,7 +71,7 @@ module _ (edition men women n : ℕ) (e : check_given_percents edition men women
       ((omega (arith, m.0), omega (arith, m.1)), (omega (arith, w.0), omega (arith, w.1)))
 
 percents_good : (v : Contents) → Fit v
-    → check_given_percents v.values.edition v.values.men v.values.women ≡ Accepted 0
+    → check_given_percents v.values.edition v.values.men v.values.women ≡ Ok 0
 unfolding check_given_percents
 percents_good v f =
     ⊎_elim
@@ -100,7 +100,7 @@ percents_small v f =
     (eq-or-lt_of_le f.edition_high)
 
 module _ (v : Contents) (capacity : ℕ) where
-  pub fit : (n : ℕ) → check_contents v capacity ≡ Accepted n → Fit v
+  pub fit : (n : ℕ) → check_contents v capacity ≡ Ok n → Fit v
   unfolding check_contents check_lengths check_edition check_given_tables check_lists
   fit n e =
       let e₁ = then_left _ _ _ e in
@@ -147,13 +147,13 @@ module _ (v : Contents) (capacity : ℕ) where
       }
 
   -- the caller's buffer takes the book
-  pub capacity_enough : (n : ℕ) → check_contents v capacity ≡ Accepted n → book_size v.values.first ≤ capacity
+  pub capacity_enough : (n : ℕ) → check_contents v capacity ≡ Ok n → book_size v.values.first ≤ capacity
   unfolding check_contents check_lengths
   capacity_enough n e =
       leb-true _ _
       (need_true _ _ _ _ (then_right _ _ _ (then_right _ _ _ (then_left _ _ _ (then_left _ _ _ (then_left _ _ _ e))))))
 
-  pub fit_good : Fit v → book_size v.values.first ≤ capacity → check_contents v capacity ≡ Accepted 0
+  pub fit_good : Fit v → book_size v.values.first ≤ capacity → check_contents v capacity ≡ Ok 0
   unfolding check_contents check_lengths check_edition check_given_tables check_lists
   fit_good f enough =
       then_good _ _ _ _

@@ -5,7 +5,7 @@ use mathlib.Core.List.{List}
 use Prim.Native.Nat.{ℕ, ◌+◌, ◌<◌, ◌≤◌}
 use native.Mathlib.Nat.{eq-or-lt_of_le}
 use native.Mathlib.Omega.{arith}
-use Rattle.verdict.specs.declared.Verdict.TheVariants.{Accepted}
+use Rattle.std.specs.Prelude.{Ok}
 use Rattle.book.specs.Layout.{chains, head_of, next_of, link_at}
 use Rattle.buffer.proofs.Digits.{le_or_lt}
 use Rattle.book_contents.specs.Contents.{Contents, size_of, records_before}
@@ -40,7 +40,7 @@ module _ (b : List ℕ) (v : Contents) (f : Fit v) (x : Laid b v) where
       (λ (l : j + 1 < size_of v.values.first k). omega (arith, here, next, next_more v.values.first k j l))
       (eq-or-lt_of_le (omega arith))
 
-pub written_ordered : (v : Contents) (capacity n : ℕ) → Shaped v.values → check_contents v capacity ≡ Accepted n
+pub written_ordered : (v : Contents) (capacity n : ℕ) → Shaped v.values → check_contents v capacity ≡ Ok n
     → InOrder (book_of v)
 unfolding contents_of values_of
 written_ordered v capacity n s e =

@@ -7,9 +7,9 @@ use native.Mathlib.Omega.{arith}
 use borrow.Author.Tests.{leb-true}
 use lib.ListN.{length, drop}
 use lib.Seq.{sets, length-sets}
-use Rattle.verdict.specs.Verdicts.{◌and_then◌}
-use Rattle.verdict.specs.declared.Verdict.{Verdict}
-use Rattle.verdict.specs.declared.Verdict.TheVariants.{Accepted, Refused}
+use Rattle.verdict.specs.Verdicts.{first_refusal, Verdict}
+use Rattle.std.specs.Prelude.{Ok, Err}
+use Rattle.verdict.specs.declared.Refusal.{Refusal}
 use Rattle.verdict.proofs.Verdicts.{need_true, then_left, then_right, accepted}
 use Rattle.book.specs.Layout.{header_size, chains, head_of, next_of, link_from, link_at}
 use Rattle.book.specs.Check.{check_book}
@@ -60,20 +60,20 @@ unfolding each
 each_wrote f j v w = rw (add-one j) (v then w)
 
 -- a refused book gives its refusal, however long the four buffers are
-pub book_refused : (b : List ℕ) (counts lapses premiums claims q p : ℕ) → check_book 1 b ≡ Refused q p
-    → check_read b counts lapses premiums claims ≡ Refused q p
-unfolding check_read ◌and_then◌
-book_refused b counts lapses premiums claims q p e = rw e
+pub book_refused : (b : List ℕ) (counts lapses premiums claims : ℕ) (r : Refusal) → check_book 1 b ≡ Err r
+    → check_read b counts lapses premiums claims ≡ Err r
+unfolding check_read first_refusal
+book_refused b counts lapses premiums claims r e = rw e
 
 -- what an accepted reading says of the book and of the four buffers
 module _ (b : List ℕ) (counts lapses premiums claims n : ℕ)
-    (e : check_read b counts lapses premiums claims ≡ Accepted n) where
+    (e : check_read b counts lapses premiums claims ≡ Ok n) where
   pub read_sound : Sound b
   read_sound = by (check_book 1 b) refl
     where
       by : (v : Verdict) → check_book 1 b ≡ v → Sound b
-      by (Accepted m) h = accepted _ m h
-      by (Refused q p) h = let f = book_refused b counts lapses premiums claims q p h in cc
+      by (Ok m) h = accepted _ m h
+      by (Err r) h = let f = book_refused b counts lapses premiums claims r h in cc
 
   pub read_counts : records_before (firsts_of b) chains ≤ counts
   unfolding check_read
@@ -104,3 +104,6 @@ filled b offset entry exit fits e =
 pub filled_kept : (b : List ℕ) (offset : ℕ) (entry exit : List ℕ) → exit ≡ sets entry 0 (field_list b offset)
     → length exit ≡ length entry
 filled_kept b offset entry exit e = ap length e ∙ length-sets entry 0 (field_list b offset)
+
+-- what the readers of an accepted book stand on
+pub ruleset reading = (sound_long, sound_inside, read_sound, filled_kept)

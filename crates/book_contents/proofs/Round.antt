@@ -2,7 +2,7 @@
 use mathlib.Core.Path.{◌≡◌, ap}
 use Prim.Native.Nat.{ℕ, ◌≤◌}
 use borrow.Author.Tests.{le-leb}
-use Rattle.verdict.specs.declared.Verdict.TheVariants.{Accepted}
+use Rattle.std.specs.Prelude.{Ok}
 use Rattle.verdict.proofs.Verdicts.{need_good, then_good}
 use Rattle.book.specs.Layout.{chains}
 use Rattle.book_contents.specs.Contents.{Contents, records_before}
@@ -14,10 +14,10 @@ use Rattle.book_contents.proofs.Back.{read_written}
 
 -- Buffers that take the lists are enough for the reading call: it refuses no book that was written.
 pub written_read : (v : Contents) (capacity n counts lapses premiums claims : ℕ) → Shaped v.values
-    → check_contents v capacity ≡ Accepted n
+    → check_contents v capacity ≡ Ok n
     → records_before v.values.first chains ≤ counts → records_before v.values.first chains ≤ lapses
     → records_before v.values.first chains ≤ premiums → records_before v.values.first chains ≤ claims
-    → check_read (book_of v) counts lapses premiums claims ≡ Accepted 0
+    → check_read (book_of v) counts lapses premiums claims ≡ Ok 0
 unfolding check_read contents_of values_of
 written_read v capacity n counts lapses premiums claims s e c l p q =
     let firsts : firsts_of (book_of v) ≡ v.values.first =

@@ -4,9 +4,9 @@ use mathlib.Core.List.{[], ◌∷◌}
 use lib.IntN.{pos}
 use lib.ListN.{replicate}
 use Rattle.lists.specs.Sums.{sum_by}
-use Rattle.verdict.specs.Verdicts.{need, ◌and_then◌, join_all}
+use Rattle.verdict.specs.Verdicts.{need, first_refusal, join_all}
 use Rattle.le_bytes.specs.Fields.{within}
-use Rattle.verdict.specs.declared.Verdict.TheVariants.{Accepted}
+use Rattle.std.specs.Prelude.{Ok}
 use Rattle.book.specs.Check.{check_book}
 use Rattle.book_contents.specs.Contents.{Contents, given, size_of}
 use Rattle.book_contents.specs.Written.{book_of}
@@ -38,14 +38,14 @@ one_record =
 shaped : Shaped one_record.values
 shaped = record { cost = refl; curve = refl; mortality = refl; first = refl }
 
-pub one_record_taken : check_contents one_record 1244 ≡ Accepted 0
+pub one_record_taken : check_contents one_record 1244 ≡ Ok 0
 unfolding check_contents check_lengths check_given_percents check_edition check_given_tables check_lists check_most
     check_curve
     curve_rate
-    join_all need ◌and_then◌ within size_of sum_by
+    join_all need first_refusal within size_of sum_by
 one_record_taken = refl
 
-pub one_record_accepted : check_book 1 (book_of one_record) ≡ Accepted 1
+pub one_record_accepted : check_book 1 (book_of one_record) ≡ Ok 1
 unfolding not_zero sum_by
 one_record_accepted = written_accepted one_record 1244 0 one_record_taken
 

@@ -9,21 +9,18 @@ use borrow.Author.Tests.{ne_eqb}
 use lib.Dec.{eqb}
 use lib.ListN.{length, take}
 use lib.Seq.{take-append-le, take_all}
-use Rattle.verdict.specs.Verdicts.{refusal_of, place_of, count_of}
-use Rattle.verdict.specs.declared.Verdict.{Verdict}
-use Rattle.verdict.specs.declared.Verdict.TheVariants.{Accepted, Refused}
+use Rattle.verdict.specs.Verdicts.{refusal_of, place_of, count_of, Verdict}
+use Rattle.std.specs.Prelude.{Ok, Err}
 use Rattle.verdict.proofs.Verdicts.{ZeroAccepts}
 use Rattle.book.specs.Layout.{chains, records, count_offset, lapse_offset, premium_offset, claims_offset}
 use Rattle.book.specs.Check.{check_book}
-use Rattle.book_contents.specs.declared.WriteReply.{WriteReply}
+use Rattle.book_contents.specs.CallContracts.{WriteReply, write_refusal, write_place, write_length, write_reply_for}
 use Rattle.book_contents.specs.declared.ReadReply.{ReadReply}
 use Rattle.book_contents.specs.Contents.{Contents, given, records_before}
 use Rattle.book_contents.specs.Written.{book_of}
 use Rattle.book_contents.specs.Limits.{check_contents, Shaped}
 use Rattle.book_contents.specs.Reading.{values_of, firsts_of, field_list, contents_of, OfBytes, InOrder}
-use Rattle.book_contents.specs.CallContracts.{write_refusal, write_place, write_length, write_reply_for}
-use Rattle.book_contents.specs.CallContracts.{write_reply}
-use Rattle.book_contents.specs.CallContracts.{WriteContract, read_for, read_verdict, ReadContract}
+use Rattle.book_contents.specs.CallContracts.{write_reply, WriteContract, read_for, read_verdict, ReadContract}
 use Rattle.book_contents.proofs.Accepted.{written_accepted}
 use Rattle.book_contents.proofs.Back.{read_written}
 use Rattle.book_contents.proofs.Again.{written_again, taken_again}
@@ -37,33 +34,33 @@ take_first l m n e = rw (← e) (take-append-le (length l) l m (le_refl _) ∙ t
 
 -- the paper's values of a reply are those of the verdict, and the length where it has no refusal
 refusal_for : (w : Verdict) (size : ℕ) → write_refusal (write_reply_for w size) ≡ refusal_of w
-refusal_for (Accepted m) size = refl
-refusal_for (Refused q p) size = refl
+refusal_for (Ok m) size = refl
+refusal_for (Err r) size = refl
 
 place_for : (w : Verdict) (size : ℕ) → write_place (write_reply_for w size) ≡ place_of w
-place_for (Accepted m) size = refl
-place_for (Refused q p) size = refl
+place_for (Ok m) size = refl
+place_for (Err r) size = refl
 
 length_for_lem : (w : Verdict) (size : ℕ) → ZeroAccepts w
     → write_length (write_reply_for w size) ≡ cond (eqb (write_refusal (write_reply_for w size)) 0) size 0
 unfolding ZeroAccepts
-length_for_lem (Accepted m) size told = refl
-length_for_lem (Refused q p) size told =
-    rw (ne_eqb q 0 (λ e. let z : ◌≡◌ {A = ℕ} 0 1 = cc (told e) in absurd (omega arith)))
+length_for_lem (Ok m) size told = refl
+length_for_lem (Err r) size told =
+    rw (ne_eqb r.number 0 (λ e. let z : ◌≡◌ {A = ℕ} 0 1 = cc (told e) in absurd (omega arith)))
 
 -- a reply without a refusal is that of accepted contents, with the book's length
 written_for : (w : Verdict) (size : ℕ) → ZeroAccepts w → write_refusal (write_reply_for w size) ≡ 0
-    → (w ≡ Accepted (count_of w)) × (write_length (write_reply_for w size) ≡ size)
+    → (w ≡ Ok (count_of w)) × (write_length (write_reply_for w size) ≡ size)
 unfolding ZeroAccepts
-written_for (Accepted m) size told e = (refl, refl)
-written_for (Refused q p) size told e = let z : ◌≡◌ {A = ℕ} 0 1 = cc (told e) in absurd (omega arith)
+written_for (Ok m) size told e = (refl, refl)
+written_for (Err r) size told e = let z : ◌≡◌ {A = ℕ} 0 1 = cc (told e) in absurd (omega arith)
 
 module _ (v : Contents) (entry exit : List ℕ) (r : WriteReply) (s : Shaped v.values)
     (reply : r ≡ write_reply v (length entry))
     (bytes : exit ≡ buffer_for (check_contents v (length entry)) (book_of v) entry) where
   -- what is written was not refused, and is the book
   written : write_refusal r ≡ 0
-      → (check_contents v (length entry) ≡ Accepted (count_of (check_contents v (length entry))))
+      → (check_contents v (length entry) ≡ Ok (count_of (check_contents v (length entry))))
       × (take (write_length r) exit ≡ book_of v)
   unfolding write_reply
   written none =
@@ -98,14 +95,14 @@ module _ (b counts lapses premiums claims counts' lapses' premiums' claims' : Li
     (field_list b claims_offset) claims) where
   -- a reply with refusal 0 is that of an accepted reading
   read_good : r.refusal ≡ 0
-      → read_verdict b counts lapses premiums claims ≡ Accepted
+      → read_verdict b counts lapses premiums claims ≡ Ok
       (count_of (read_verdict b counts lapses premiums claims))
   unfolding ZeroAccepts
   read_good e = zero_accepts_read b _ _ _ _ (sym (ap (λ (q : ReadReply). q.refusal) reply) ∙ e)
 
   -- what a buffer holds, up to N
   list_back : (offset m : ℕ) (entry exit : List ℕ) → records b ≡ records_before (firsts_of b) chains
-      → read_verdict b counts lapses premiums claims ≡ Accepted m
+      → read_verdict b counts lapses premiums claims ≡ Ok m
       → exit ≡ buffer_for (read_verdict b counts lapses premiums claims) (field_list b offset) entry
       → take (records b) exit ≡ field_list b offset
   list_back offset m entry exit all g e =
@@ -128,8 +125,8 @@ module _ (b counts lapses premiums claims counts' lapses' premiums' claims' : Li
 
   book_first : (w : Verdict) → check_book 1 b ≡ w → 0 < refusal_of w
       → (r.refusal ≡ refusal_of w) × (r.place ≡ place_of w)
-  book_first (Accepted n) h some = absurd (omega arith)
-  book_first (Refused q p) h some = rw (reply, book_refused b _ _ _ _ q p h) (refl, refl)
+  book_first (Ok n) h some = absurd (omega arith)
+  book_first (Err r) h some = rw (reply, book_refused b _ _ _ _ r h) (refl, refl)
 
   -- what was read of a book in order, given to Write with space for the book
   rewritten : r.refusal ≡ 0 → InOrder b → let w = write_reply (contents_of b) (length b) in

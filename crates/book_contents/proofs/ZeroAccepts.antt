@@ -4,9 +4,8 @@ use mathlib.Core.List.{List}
 use mathlib.Core.Bool.{Bool, true, false, cond}
 use Prim.Native.Nat.{ℕ, zero, suc, ◌+◌}
 use lib.Dec.{eqb}
-use Rattle.verdict.specs.Verdicts.{need, ◌and_then◌, join, join_all}
-use Rattle.verdict.specs.declared.Verdict.{Verdict}
-use Rattle.verdict.specs.declared.Verdict.TheVariants.{Accepted, Refused}
+use Rattle.verdict.specs.Verdicts.{need, ◌and_then◌, join, join_all, Verdict}
+use Rattle.std.specs.Prelude.{Ok, Err}
 use Rattle.verdict.proofs.Verdicts.{ZeroAccepts, zero_accepts_need, zero_accepts_then}
 use Rattle.book.proofs.Numbers.{zero_accepted}
 use Rattle.book_contents.specs.Contents.{Contents}
@@ -17,9 +16,9 @@ use Rattle.book_contents.specs.Reading.{check_read}
 
 zero_accepts_join : (v w : Verdict) → ZeroAccepts v → ZeroAccepts w → ZeroAccepts (join v w)
 unfolding ZeroAccepts
-zero_accepts_join (Accepted n) (Accepted m) hv hw = λ e. refl
-zero_accepts_join (Accepted n) (Refused q p) hv hw = hw
-zero_accepts_join (Refused q p) w hv hw = hv
+zero_accepts_join (Ok n) (Ok m) hv hw = λ e. refl
+zero_accepts_join (Ok n) (Err r) hv hw = hw
+zero_accepts_join (Err r) w hv hw = hv
 
 zero_accepts_all : (f : ℕ → Verdict) (left k : ℕ) → ((j : ℕ) → ZeroAccepts (f j)) → ZeroAccepts (join_all f k left)
 unfolding ZeroAccepts join_all

@@ -1,15 +1,12 @@
 -- What the two calls promise (W-205), in the paper's values: replies and caller's buffers equal their definitions, and
 -- both round trips hold.
-use Rattle.std.specs.Prelude.{cond, ℕ, ◌<◌, ◌≡◌, List, eqb, length, get_or, take}
+use Rattle.std.specs.Prelude.{cond, ℕ, ◌<◌, ◌≡◌, List, eqb, length, get_or, take, Result, Ok, Err}
 use Rattle.lists.specs.Sums.{sum_below}
-use Rattle.verdict.specs.Verdicts.{refusal_of, place_of, count_of}
-use Rattle.verdict.specs.declared.Verdict.{Verdict}
-use Rattle.verdict.specs.declared.Verdict.TheVariants.{Accepted, Refused}
+use Rattle.verdict.specs.Verdicts.{refusal_of, place_of, count_of, Verdict}
+use Rattle.verdict.specs.declared.Refusal.{Refusal}
 use Rattle.book.specs.Layout.{records, count_offset, lapse_offset, premium_offset, claims_offset}
 use Rattle.book.specs.Check.{check_book}
 use Rattle.book_contents.specs.declared.Values.{Values}
-use Rattle.book_contents.specs.declared.WriteReply.{WriteReply}
-use Rattle.book_contents.specs.declared.WriteReply.TheVariants.{Written, Refused as WriteRefused}
 use Rattle.book_contents.specs.declared.ReadReply.{ReadReply}
 use Rattle.book_contents.specs.Contents.{Contents, given}
 use Rattle.book_contents.specs.Written.{book_of}
@@ -17,24 +14,28 @@ use Rattle.book_contents.specs.Limits.{check_contents}
 use Rattle.book_contents.specs.Reading.{values_of, field_list, contents_of, check_read, no_values, InOrder}
 use Rattle.text_reply.specs.Replies.{buffer_for}
 
+-- the book's length, or the refusal
+abbrev pub WriteReply : Type 0
+WriteReply = Result ℕ Refusal
+
 -- The paper's values of a reply to writing: the refusal's number and place, 0 and 0 where written; the length, 0 where
 -- refused.
 abbrev pub write_refusal : WriteReply → ℕ
-write_refusal (Written size) = 0
-write_refusal (WriteRefused number place) = number
+write_refusal (Ok size) = 0
+write_refusal (Err r) = r.number
 
 abbrev pub write_place : WriteReply → ℕ
-write_place (Written size) = 0
-write_place (WriteRefused number place) = place
+write_place (Ok size) = 0
+write_place (Err r) = r.place
 
 abbrev pub write_length : WriteReply → ℕ
-write_length (Written size) = size
-write_length (WriteRefused number place) = 0
+write_length (Ok size) = size
+write_length (Err r) = 0
 
 -- the reply: the book's length, or the refusal
 abbrev pub write_reply_for : Verdict → ℕ → WriteReply
-write_reply_for (Accepted m) size = Written size
-write_reply_for (Refused number place) size = WriteRefused number place
+write_reply_for (Ok m) size = Ok size
+write_reply_for (Err r) size = Err r
 
 unfoldable pub write_reply : Contents → ℕ → WriteReply
 write_reply v capacity = write_reply_for (check_contents v capacity) (length (book_of v))
@@ -59,8 +60,8 @@ pub record WriteContract (v : Contents) (entry exit : List ℕ) (r : WriteReply)
 
 -- the reply: the values, or the refusal and 0 in every other field
 abbrev pub values_for : Verdict → Values → Values
-values_for (Accepted m) h = h
-values_for (Refused number place) h = no_values
+values_for (Ok m) h = h
+values_for (Err r) h = no_values
 
 abbrev pub read_for : Verdict → Values → ReadReply
 read_for v h = record { refusal = refusal_of v; place = place_of v; values = values_for v h }

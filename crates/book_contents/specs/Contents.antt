@@ -1,8 +1,10 @@
 -- What a user has who wants a book (W-205): the header's values, a first class for each chain, and four lists.
-use Rattle.std.specs.Prelude.{ℕ, ◌+◌, ◌-◌, List, get_or}
+use Rattle.std.specs.Prelude.{ℕ, ◌+◌, ◌-◌, List, get_or, length}
+use Rattle.std.specs.Borrow.{Bor}
 use Rattle.lists.specs.Sums.{sum_below}
 use Rattle.book.specs.Layout.{last_class}
 use Rattle.book_contents.specs.declared.Values.{Values}
+use Rattle.book_contents.specs.declared.ByKind.{ByKind}
 
 pub record Contents : Type 0 where
   -- edition, mortality percentages of men and women, SST year, cost rates, curve, mortality, first class of each chain
@@ -18,6 +20,19 @@ pub record Contents : Type 0 where
 abbrev pub given : Values → List ℕ → List ℕ → List ℕ → List ℕ → Contents
 given values counts lapses premiums claims =
     record { values = values; counts = counts; lapses = lapses; premiums = premiums; claims = claims }
+
+-- the same, of lists that are passed together; and how long each kind's are
+abbrev pub given_lists : Values → ByKind (Bor (List ℕ)) → Contents
+given_lists values lists = given values lists.counts.now lists.lapses.now lists.premiums.now lists.claims.now
+
+abbrev pub lengths_of : ByKind (Bor (List ℕ)) → ByKind ℕ
+lengths_of lists =
+    record {
+      counts = length lists.counts.now;
+      lapses = length lists.lapses.now;
+      premiums = length lists.premiums.now;
+      claims = length lists.claims.now;
+    }
 
 -- the first class of an empty chain, 121: one above the last
 abbrev pub no_class : ℕ

@@ -1,8 +1,7 @@
 -- When contents are refused: the tests in their order, each with place 0; and the rules that they keep, in no order.
 use Rattle.std.specs.Prelude.{ℕ, ◌+◌, ◌*◌, ◌≤◌, ◌≡◌, Bool, true, cond, List, leb, eqb, ℤ, pos, negsuc, length, get_or}
-use Rattle.verdict.specs.Verdicts.{need, ◌and_then◌, join_all}
+use Rattle.verdict.specs.Verdicts.{need, ◌and_then◌, join_all, Verdict}
 use Rattle.le_bytes.specs.Fields.{within}
-use Rattle.verdict.specs.declared.Verdict.{Verdict}
 use Rattle.book.specs.Layout.{header_size, record_size, first_year, last_year, most_percent, chains, most_rate}
 use Rattle.book.specs.Layout.{curve_lift}
 use Rattle.book.specs.Layout.{curve_span, most_count, most_amount}

@@ -1,9 +1,7 @@
 -- The contents of a book: its values and, along its chains, its lists. Records that no chain links are left out.
-use Rattle.std.specs.Prelude.{cond, ℕ, ◌+◌, ◌-◌, ◌*◌, ◌<◌, ◌≡◌, List, leb, eqb, ℤ, pos, negsuc, replicate}
+use Rattle.std.specs.Prelude.{cond, ℕ, ◌+◌, ◌-◌, ◌*◌, ◌<◌, ◌≡◌, List, leb, eqb, ℤ, pos, negsuc, replicate, Ok}
 use Rattle.le_bytes.specs.Bytes.{byte_at, read_u32}
-use Rattle.verdict.specs.Verdicts.{need, ◌and_then◌, count_of}
-use Rattle.verdict.specs.declared.Verdict.{Verdict}
-use Rattle.verdict.specs.declared.Verdict.TheVariants.{Accepted}
+use Rattle.verdict.specs.Verdicts.{need, ◌and_then◌, count_of, Verdict}
 use Rattle.book.specs.Layout.{edition, percent_at, sst_year, records, chains, head_of, class_of, next_of, field_of}
 use Rattle.book.specs.Layout.{link_at}
 use Rattle.book.specs.Layout.{cost_place, curve_place, mortality_place, count_offset, lapse_offset, premium_offset}
@@ -68,7 +66,7 @@ check_read b counts lapses premiums claims =
 
 -- the book is accepted: what the readers inside ask of their callers
 abbrev pub Sound : List ℕ → Type 0
-Sound b = check_book 1 b ≡ Accepted (count_of (check_book 1 b))
+Sound b = check_book 1 b ≡ Ok (count_of (check_book 1 b))
 
 -- values of zeros, beside a refusal
 abbrev pub no_values : Values

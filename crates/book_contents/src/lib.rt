@@ -4,6 +4,11 @@
 
 #![tactic(auto)]
 
+ghost use Rattle.std.specs.Prelude.{◌≡◌};
+ghost use Rattle.book_contents.specs.Contents.{lengths_of};
+
+use verdict::Refusal;
+
 // The header's values: the edition and its mortality percentages of men and women, both 0 in
 // edition 1; the SST year;
 // five cost rates, 49 curve rates and 242 of mortality, men's before women's, in millionths; and
@@ -23,18 +28,37 @@ pub struct Values {
 }
 
 // The call that writes: the book's length, or the refusal.
-#[derive(Clone, Copy)]
-pub enum WriteReply {
-    Written(usize),
-    Refused(u64, usize),
-}
+pub type WriteReply = Result<usize, Refusal>;
 
 // The call that reads. Refusal and place are 0 where the book is read; every other field is 0 where
-// it is refused.
+// it is refused. C has this struct as it is, so it is no `Result`.
 #[repr(C)]
 #[derive(Clone, Copy)]
 pub struct ReadReply {
     pub refusal: u64,
     pub place: usize,
     pub values: Values,
+}
+
+// One thing for each of the four kinds of numbers that records have: the lists of that kind, all
+// chains' end to end, or how long they are together.
+#[derive(Clone, Copy)]
+pub struct ByKind<T> {
+    pub counts: T,
+    pub lapses: T,
+    pub premiums: T,
+    pub claims: T,
+}
+
+impl ByKind<&[u64]> {
+    pub fn lengths(self) -> ByKind<usize>
+        ensures { result ≡ lengths_of self.entry }
+    {
+        ByKind {
+            counts: self.counts.len(),
+            lapses: self.lapses.len(),
+            premiums: self.premiums.len(),
+            claims: self.claims.len(),
+        }
+    }
 }

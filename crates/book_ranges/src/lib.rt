@@ -18,15 +18,10 @@ const HIGHEST_RATE: i64 = 200_000;
 pub fn check_most(list: &[u64], most: u64, number: u64) -> Verdict
     ensures { result ≡ check_most number most list.now }
 {
-    let mut j = 0;
-    while j < list.len() {
-        let v = need(list[j] <= most, number, 0);
-        let Verdict::Accepted(_) = v else {
-            return v;
-        };
-        j += 1;
+    for x in list {
+        need(*x <= most, number, 0)?;
     }
-    Verdict::Accepted(0)
+    Ok(0)
 }
 
 // Within the curve's range.
@@ -39,39 +34,39 @@ fn curve_rate(x: i64) -> bool
     x <= HIGHEST_RATE
 }
 
-// Refusal 7.
+// Refusal 7. Beside `check_most`: a rate has a sign and two bounds, and one function of both would
+// be no plainer.
 pub fn check_curve(curve: &[i64]) -> Verdict
     ensures { result ≡ check_curve curve.now }
 {
-    let mut j = 0;
-    while j < curve.len() {
-        let v = need(curve_rate(curve[j]), 7, 0);
-        let Verdict::Accepted(_) = v else {
-            return v;
-        };
-        j += 1;
+    for x in curve {
+        need(curve_rate(*x), 7, 0)?;
     }
-    Verdict::Accepted(0)
+    Ok(0)
 }
 
-// Refusal 23 of edition 2, 4 of edition 1.
+// Refusal 23 of edition 2, 4 of edition 1. Of values, with place 0: one function for these and a
+// book's bytes, with their places, would be no plainer.
+#[tactic(auto, unfolding(book_contents::specs::Limits::check_given_percents, verdict::specs::Verdicts::first_refusal))]
 fn check_percents(edition: u64, men: u64, women: u64) -> Verdict
     ensures { result ≡ check_given_percents edition men women }
 {
     if edition == 2 {
         let of_men = le_bytes::within(1, MOST_PERCENT, men as usize);
         let of_women = le_bytes::within(1, MOST_PERCENT, women as usize);
-        return need(of_men, 23, 0).require(of_women, 23, 0);
+        need(of_men, 23, 0)?;
+        return need(of_women, 23, 0);
     }
-    need(men == 0, 4, 0).require(women == 0, 4, 0)
+    need(men == 0, 4, 0)?;
+    need(women == 0, 4, 0)
 }
 
 // Refusals 2, 4 and 23.
+#[tactic(auto, unfolding(book_contents::specs::Limits::check_edition, verdict::specs::Verdicts::first_refusal))]
 pub fn check_edition(edition: u64, men: u64, women: u64, year: u64) -> Verdict
     ensures { result ≡ check_edition edition men women year }
 {
-    let known = need(le_bytes::within(1, 2, edition as usize), 2, 0);
-    let in_range = need(le_bytes::within(FIRST_YEAR, LAST_YEAR, year as usize), 4, 0);
-    let percents = check_percents(edition, men, women);
-    known.and_then(in_range).and_then(percents)
+    need(le_bytes::within(1, 2, edition as usize), 2, 0)?;
+    need(le_bytes::within(FIRST_YEAR, LAST_YEAR, year as usize), 4, 0)?;
+    check_percents(edition, men, women)
 }

@@ -2,19 +2,19 @@
 // buffers, the lists of its chains.
 #![tactic(auto)]
 
-ghost use Rattle.std.specs.Prelude.{◌≡◌};
-ghost use Rattle.verdict.specs.declared.Verdict.TheVariants.{Refused};
+ghost use Rattle.std.specs.Prelude.{◌≡◌, Err};
 ghost use Rattle.book_contents.specs.Reading.{no_values};
 ghost use Rattle.book_contents.specs.CallContracts.{read_for, ReadContract};
 
 use book::{CLAIMS_OFFSET, COUNT_OFFSET, LAPSE_OFFSET, PREMIUM_OFFSET};
-use book_contents::{ReadReply, Values};
+use book_contents::{ByKind, ReadReply, Values};
 use book_read_lists::{check_read, fill_list};
 use book_read_values::values_of;
-use verdict::Verdict;
+use verdict::Refusal;
 
-fn refused(number: u64, place: usize) -> ReadReply
-    ensures { result ≡ read_for (Refused number place) no_values }
+// A refusal, in the struct that C has.
+fn refused(refusal: Refusal) -> ReadReply
+    ensures { result ≡ read_for (Err refusal) no_values }
 {
     let values = Values {
         edition: 0,
@@ -27,15 +27,16 @@ fn refused(number: u64, place: usize) -> ReadReply
         first: [0; 14],
     };
     ReadReply {
-        refusal: number,
-        place,
+        refusal: refusal.number,
+        place: refusal.place,
         values,
     }
 }
 
 // Reads a book: the header's values in the answer, the lists in the four buffers. Numbers past the
 // lists stay as they were; so does every buffer passed where the book is refused or a buffer is too
-// short.
+// short. They stand apart here, as `xaropinto_read` takes them.
+#[tactic(auto, using(book_contents::proofs::Projection::reading))]
 pub fn read(
     book: &[u8],
     counts: &mut [u64],
@@ -47,15 +48,15 @@ pub fn read(
         premiums.old claims.old counts.new lapses.new
         premiums.new claims.new result }
 {
-    let v = check_read(
-        book,
-        counts.len(),
-        lapses.len(),
-        premiums.len(),
-        claims.len(),
-    );
+    let lengths = ByKind {
+        counts: counts.len(),
+        lapses: lapses.len(),
+        premiums: premiums.len(),
+        claims: claims.len(),
+    };
+    let v = check_read(book, lengths);
     match v {
-        Verdict::Accepted(_) => {
+        Ok(_) => {
             fill_list(book, COUNT_OFFSET, counts);
             fill_list(book, LAPSE_OFFSET, lapses);
             fill_list(book, PREMIUM_OFFSET, premiums);
@@ -67,6 +68,6 @@ pub fn read(
                 values,
             }
         }
-        Verdict::Refused(number, place) => refused(number, place),
+        Err(refusal) => refused(refusal),
     }
 }

@@ -7,9 +7,10 @@ ghost use Rattle.buffer.specs.Text.{Wrote};
 ghost use Rattle.book_contents.specs.Reading.{list_in, field_list, check_read, Sound};
 
 use book::CHAINS;
+use book_contents::ByKind;
 use book_read_values::{first_in, firsts_of};
 use book_sizes::NO_CLASS;
-use verdict::Verdict;
+use verdict::{Verdict, need};
 
 // Writes one number, and gives the next place; past the buffer's end it is dropped.
 fn put_entry(list: &mut [u64], at: usize, x: u64) -> usize
@@ -18,12 +19,12 @@ fn put_entry(list: &mut [u64], at: usize, x: u64) -> usize
 {
     if at < list.len() {
         list[at] = x;
-        return at + 1;
     }
     at + 1
 }
 
 // One field of the records of chain k, from a place of the list on.
+#[tactic(auto, using(book_contents::proofs::Projection::reading))]
 fn fill_chain(book: &[u8], k: usize, offset: usize, list: &mut [u64], at: usize) -> usize
     requires { (k < 14)
         × (offset ≤ 20)
@@ -56,24 +57,17 @@ pub fn fill_list(book: &[u8], offset: usize, list: &mut [u64])
     }
 }
 
-// The book's refusals, then 22 for buffers of so many numbers.
-pub fn check_read(
-    book: &[u8],
-    counts: usize,
-    lapses: usize,
-    premiums: usize,
-    claims: usize,
-) -> Verdict
-    ensures { result ≡ check_read book.now counts lapses premiums claims }
+// The book's refusals, then 22 for buffers of these lengths.
+#[tactic(auto, unfolding(book_contents::specs::Reading::check_read, verdict::specs::Verdicts::first_refusal))]
+pub fn check_read(book: &[u8], lengths: ByKind<usize>) -> Verdict
+    ensures { result ≡ check_read book.now lengths.counts lengths.lapses lengths.premiums
+        lengths.claims }
 {
-    let v = book_check::check(book);
-    let Verdict::Accepted(_) = v else {
-        return v;
-    };
+    book_check::check(book)?;
     let first = firsts_of(book);
     let n = book_sizes::total(&first);
-    let v = v.require(n <= counts, 22, 0);
-    let v = v.require(n <= lapses, 22, 0);
-    let v = v.require(n <= premiums, 22, 0);
-    v.require(n <= claims, 22, 0)
+    need(n <= lengths.counts, 22, 0)?;
+    need(n <= lengths.lapses, 22, 0)?;
+    need(n <= lengths.premiums, 22, 0)?;
+    need(n <= lengths.claims, 22, 0)
 }

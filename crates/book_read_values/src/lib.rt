@@ -2,44 +2,30 @@
 // functions are for the call that reads, which has that from the check.
 #![tactic(auto)]
 
-ghost use Rattle.std.specs.Prelude.{◌≡◌, ℕ, ◌+◌, ◌*◌, ◌≤◌, ◌<◌, length, set};
+ghost use Rattle.std.specs.Prelude.{◌≡◌, ℕ, ◌+◌, ◌*◌, ◌≤◌, ◌<◌, length};
 ghost use Rattle.le_bytes.specs.Bytes.{read_u32};
 ghost use Rattle.book_contents.specs.Reading.{signed_of, first_in, firsts_of, values_of, Sound};
 ghost use Rattle.lists.specs.Each.{each};
 
-use book::{CHAINS, COST_PLACE, CURVE_PLACE, MORTALITY_PLACE};
+use book::{COST_PLACE, CURVE_PLACE, MORTALITY_PLACE};
 use book_contents::Values;
 use book_sizes::NO_CLASS;
+use std::array;
 
 // The signed number that 32 bits hold.
 fn signed_of(u: u64) -> i64
     requires { u < 4294967296 }
     ensures { result ≡ signed_of u }
 {
-    if u <= 2_147_483_647 {
-        return u as i64;
-    }
-    u as i64 - 4_294_967_296
+    i64::from((u as u32).cast_signed())
 }
 
-// A run of four-byte fields from a place on, as many as the list has numbers.
-fn fill_fields(book: &[u8], at: usize, list: &mut [u64])
-    requires { at + 4 * length list.old ≤ length book.now }
-    ensures { list.new ≡ each (λ (j : ℕ). read_u32 book.now (at + 4 * j))
-        (length list.old) }
+// A run of four-byte fields from a place on.
+fn fields_of<const N: usize>(book: &[u8], at: usize) -> [u64; N]
+    requires { at + 4 * N ≤ length book.now }
+    ensures { result ≡ each (λ (j : ℕ). read_u32 book.now (at + 4 * j)) N }
 {
-    let mut j = 0;
-    while j < list.len() {
-        list[j] = le_bytes::read_u32(book, at + 4 * j);
-        j += 1;
-    }
-}
-
-fn set_rate(curve: &mut [i64; 49], j: usize, rate: i64)
-    requires { j < 49 }
-    ensures { curve.new ≡ set curve.old j rate }
-{
-    curve[j] = rate;
+    array::from_fn(|j| le_bytes::read_u32(book, at + 4 * j))
 }
 
 fn curve_of(book: &[u8]) -> [i64; 49]
@@ -47,15 +33,7 @@ fn curve_of(book: &[u8]) -> [i64; 49]
     ensures { result ≡ each (λ (j : ℕ). signed_of (read_u32 book.now (56 + 4 * j)))
         49 }
 {
-    let mut curve = [0i64; 49];
-    for j in 0usize..49 {
-        set_rate(
-            &mut curve,
-            j,
-            signed_of(le_bytes::read_u32(book, CURVE_PLACE + 4 * j)),
-        );
-    }
-    curve
+    array::from_fn(|j| signed_of(le_bytes::read_u32(book, CURVE_PLACE + 4 * j)))
 }
 
 // Chain k's first class, 121 where it is empty.
@@ -72,32 +50,20 @@ pub fn first_in(book: &[u8], k: usize) -> u64
     book::class_of(book, head) as u64
 }
 
-fn set_first(first: &mut [u64; 14], k: usize, class: u64)
-    requires { k < 14 }
-    ensures { first.new ≡ set first.old k class }
-{
-    first[k] = class;
-}
-
 pub fn firsts_of(book: &[u8]) -> [u64; 14]
     requires { Sound book.now }
     ensures { result ≡ firsts_of book.now }
 {
-    let mut first = [0u64; 14];
-    for k in 0..CHAINS {
-        set_first(&mut first, k, first_in(book, k));
-    }
-    first
+    array::from_fn(|k| first_in(book, k))
 }
 
+#[tactic(auto, using(book_contents::proofs::Projection::reading))]
 pub fn values_of(book: &[u8]) -> Values
     requires { Sound book.now }
     ensures { result ≡ values_of book.now }
 {
-    let mut cost = [0u64; 5];
-    fill_fields(book, COST_PLACE, &mut cost);
-    let mut mortality = [0u64; 242];
-    fill_fields(book, MORTALITY_PLACE, &mut mortality);
+    let cost = fields_of(book, COST_PLACE);
+    let mortality = fields_of(book, MORTALITY_PLACE);
     let curve = curve_of(book);
     let first = firsts_of(book);
     let edition = book::edition(book) as u64;

@@ -5,11 +5,10 @@ ghost use Rattle.std.specs.Prelude.{[], ◌∷◌, ◌++◌, ◌≡◌, ◌+◌,
 ghost use Rattle.le_bytes.specs.Bytes.{two_bytes};
 ghost use Rattle.book.specs.Layout.{chain_code, chain_sex};
 ghost use Rattle.buffer.specs.Text.{Wrote};
-ghost use Rattle.book_contents.specs.Contents.{records_before};
 ghost use Rattle.book_contents.specs.Written.{next_for, encoded_record};
 
 use book_encoding::{put_four, put_two};
-use book_sizes::size_of;
+use book_sizes::Chain;
 use buffer::put_byte;
 
 // The first eight bytes of a record of chain k.
@@ -59,16 +58,13 @@ pub fn put_record(out: &mut [u8], at: usize, fields: Record) -> usize
     put_four(out, claims_at, fields.claims)
 }
 
-// The next of entry j of chain k, with so many records before the chain's.
-pub fn next_for(first: &[u64; 14], k: usize, j: usize, sum: usize) -> u64
-    requires { (k < 14)
-        × (sum ≡ records_before first.now k)
-        × (sum < 65536)
-        × (j < 121) }
-    ensures { result ≡ next_for first.now k j }
+// The next of entry j of a chain.
+pub fn next_for(chain: Chain, j: usize) -> u64
+    requires { j < 121 }
+    ensures { result ≡ next_for chain.entry.values.now.first chain.entry.number j }
 {
-    if j + 1 == size_of(first, k) {
+    if j + 1 == chain.size() {
         return 0;
     }
-    (sum + (j + 1) + 1) as u64
+    (chain.before + (j + 1) + 1) as u64
 }

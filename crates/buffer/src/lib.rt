@@ -1,10 +1,11 @@
 // Text into the caller's buffer, for the crates above. Each writer takes a place and gives the next
 // one; a byte past the buffer's end is dropped, and the place goes on all the same, so a run of
 // writers says the length of its text whatever the buffer's.
+// A struct of buffer and place would be no plainer: `Wrote` is of the buffer before and after.
 #![tactic(auto)]
 
-ghost use Rattle.std.specs.Prelude.{◌≡◌, [], ◌∷◌, ◌+◌, ◌<◌, ◌≤◌, ◌^◌, length};
-ghost use Rattle.buffer.specs.Text.{decimal, signed, ended, signed_ended, refusal_text, Wrote};
+ghost use Rattle.std.specs.Prelude.{◌≡◌, List, [], ◌∷◌, ◌++◌, ℕ, ◌+◌, ◌<◌, ◌≤◌, ◌^◌, length};
+ghost use Rattle.buffer.specs.Text.{decimal, signed, refusal_text, Wrote};
 
 pub fn put_byte(out: &mut [u8], at: usize, b: u8) -> usize
     requires { at + 1 < 2 ^ 64 }
@@ -12,71 +13,68 @@ pub fn put_byte(out: &mut [u8], at: usize, b: u8) -> usize
 {
     if at < out.len() {
         out[at] = b;
-        return at + 1;
     }
     at + 1
-}
-
-fn digit(d: u64) -> u8
-    requires { d < 10 }
-    ensures { result ≡ 48 + d }
-{
-    48 + d as u8
-}
-
-pub fn put_number(out: &mut [u8], at: usize, n: u64) -> usize
-    requires { at + 21 < 2 ^ 64 }
-    ensures { Wrote out.old at (decimal n) out.new result
-        × (result ≤ at + 20) }
-{
-    if n < 10 {
-        return put_byte(out, at, digit(n));
-    }
-    let next = put_number(out, at, n / 10);
-    put_byte(out, next, digit(n % 10))
 }
 
 pub fn put_bytes(out: &mut [u8], at: usize, s: &[u8]) -> usize
     requires { at + length s.now + 1 < 2 ^ 64 }
     ensures { Wrote out.old at s.now out.new result }
 {
-    let mut i = 0;
     let mut next = at;
-    while i < s.len() {
-        next = put_byte(out, next, s[i]);
-        i += 1;
+    for b in s {
+        next = put_byte(out, next, *b);
     }
     next
 }
 
-pub fn put_signed(out: &mut [u8], at: usize, v: i64) -> usize
-    requires { at + 22 < 2 ^ 64 }
-    ensures { Wrote out.old at (signed v) out.new result
-        × (result ≤ at + 21) }
-{
-    if v < 0 {
-        let next = put_byte(out, at, 45);
-        return put_number(out, next, signed::size_below(v));
+// A number as text in base ten, and the most bytes that it takes.
+pub trait Decimal: Copy {
+    ghost text: { Self → List ℕ };
+
+    ghost most: { ℕ };
+
+    fn put(self, out: &mut [u8], at: usize) -> usize
+        requires { at + most + 1 < 2 ^ 64 }
+        ensures { Wrote out.old at (text self) out.new result
+            × (result ≤ at + most) };
+}
+
+impl Decimal for u64 {
+    ghost text = { decimal };
+
+    ghost most = { 20 };
+
+    fn put(self, out: &mut [u8], at: usize) -> usize {
+        if self < 10 {
+            return put_byte(out, at, b'0' + self as u8);
+        }
+        let next = (self / 10).put(out, at);
+        put_byte(out, next, b'0' + (self % 10) as u8)
     }
-    put_number(out, at, v as u64)
+}
+
+impl Decimal for i64 {
+    ghost text = { signed };
+
+    ghost most = { 21 };
+
+    fn put(self, out: &mut [u8], at: usize) -> usize {
+        if self < 0 {
+            let next = put_byte(out, at, b'-');
+            return self.unsigned_abs().put(out, next);
+        }
+        self.unsigned_abs().put(out, at)
+    }
 }
 
 // A number and the byte that ends it.
-pub fn put_ended(out: &mut [u8], at: usize, n: u64, b: u8) -> usize
-    requires { at + 22 < 2 ^ 64 }
-    ensures { Wrote out.old at (ended n b) out.new result
-        × (result ≤ at + 21) }
+pub fn put_ended<N: Decimal>(out: &mut [u8], at: usize, n: N, b: u8) -> usize
+    requires { at + N.most + 2 < 2 ^ 64 }
+    ensures { Wrote out.old at (N.text n ++ b ∷ []) out.new result
+        × (result ≤ at + N.most + 1) }
 {
-    let next = put_number(out, at, n);
-    put_byte(out, next, b)
-}
-
-pub fn put_signed_ended(out: &mut [u8], at: usize, v: i64, b: u8) -> usize
-    requires { at + 23 < 2 ^ 64 }
-    ensures { Wrote out.old at (signed_ended v b) out.new result
-        × (result ≤ at + 22) }
-{
-    let next = put_signed(out, at, v);
+    let next = n.put(out, at);
     put_byte(out, next, b)
 }
 

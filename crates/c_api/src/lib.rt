@@ -20,9 +20,7 @@ ghost use Rattle.c_api.specs.Version.{version_number};
 
 use book_contents::{ReadReply, Values};
 use c_api_fields::{
-    FundsFields, GroupFields, InForceFields, ReportFields, SpreadFields, VerdictFields,
-    WriteFields, funds_fields, group_fields, in_force_fields, spread_fields, text_fields,
-    verdict_fields, write_fields,
+    FundsFields, GroupFields, InForceFields, ReportFields, SpreadFields, VerdictFields, WriteFields,
 };
 use claims_estimates::{SampleFactors, Summary};
 use cost_rate_shares::Accounts;
@@ -44,7 +42,7 @@ pub extern "C" fn xaropinto_version() -> u64
 pub extern "C" fn xaropinto_check(book: &[u8]) -> VerdictFields
     ensures { CheckExported book.now result }
 {
-    verdict_fields(book_check::check(book))
+    VerdictFields::from(book_check::check(book))
 }
 
 #[unsafe(no_mangle)]
@@ -57,7 +55,7 @@ pub extern "C" fn xaropinto_group(
     ensures { GroupExported book.now setting group table.old
         table.new result }
 {
-    group_fields(group_liability::group(book, setting, group, table))
+    GroupFields::from(group_liability::group(book, setting, group, table))
 }
 
 #[unsafe(no_mangle)]
@@ -85,7 +83,7 @@ pub extern "C" fn xaropinto_cost_rates(accounts: Accounts) -> CostRates
 pub extern "C" fn xaropinto_listing(book: &[u8], out: &mut [u8]) -> ReportFields
     ensures { ListingExported book.now out.old out.new result }
 {
-    text_fields(listing::write_listing(book, out))
+    ReportFields::from(listing::write_listing(book, out))
 }
 
 #[unsafe(no_mangle)]
@@ -93,21 +91,21 @@ pub extern "C" fn xaropinto_report(book: &[u8], setting: usize, out: &mut [u8]) 
     ensures { ReportExported book.now setting out.old out.new
         result }
 {
-    text_fields(year_report::write_report(book, setting, out))
+    ReportFields::from(year_report::write_report(book, setting, out))
 }
 
 #[unsafe(no_mangle)]
 pub extern "C" fn xaropinto_report_room(book: &[u8], setting: usize) -> ReportFields
     ensures { ReportLengthExported book.now setting result }
 {
-    text_fields(year_report::report_length(book, setting))
+    ReportFields::from(year_report::report_length(book, setting))
 }
 
 #[unsafe(no_mangle)]
 pub extern "C" fn xaropinto_convert(book: &[u8], out: &mut [u8]) -> VerdictFields
     ensures { ConvertExported book.now out.old out.new result }
 {
-    verdict_fields(age_basis::convert(book, out))
+    VerdictFields::from(age_basis::convert(book, out))
 }
 
 // The values by value: a C programmer fills one struct, and passes what Read returns as it is.
@@ -124,7 +122,7 @@ pub extern "C" fn xaropinto_write(
         (given values counts.now lapses.now premiums.now
         claims.now) out.old out.new result }
 {
-    write_fields(book_write::write(values, counts, lapses, premiums, claims, out))
+    WriteFields::from(book_write::write(values, counts, lapses, premiums, claims, out))
 }
 
 #[unsafe(no_mangle)]
@@ -152,7 +150,7 @@ pub extern "C" fn xaropinto_funds(
     ensures { FundsExported table.now first.now second.now
         numbers.old numbers.new result }
 {
-    funds_fields(funds::funds(table, first, second, numbers))
+    FundsFields::from(funds::funds(table, first, second, numbers))
 }
 
 #[unsafe(no_mangle)]
@@ -167,7 +165,7 @@ pub extern "C" fn xaropinto_in_force(
     ensures { InForceExported book.now setting code sex class out.old
         out.new result }
 {
-    in_force_fields(in_force::in_force(book, setting, code, sex, class, out))
+    InForceFields::from(in_force::in_force(book, setting, code, sex, class, out))
 }
 
 #[unsafe(no_mangle)]
@@ -175,7 +173,7 @@ pub extern "C" fn xaropinto_spread(claims: Summary, xi: f64, eta: f64) -> Spread
     ensures { SpreadExported claims xi eta result }
 {
     let factors = SampleFactors { xi, eta };
-    spread_fields(claims_variation::spread(claims, factors))
+    SpreadFields::from(claims_variation::spread(claims, factors))
 }
 
 // The model by value, as the accounts: a matrix passed by pointer would have a length of its own to
@@ -191,5 +189,5 @@ pub extern "C" fn xaropinto_deviation(book: &[u8], model: RiskModel) -> Deviatio
 pub extern "C" fn xaropinto_practice(start: u64, out: &mut [u8]) -> WriteFields
     ensures { PracticeExported start out.old out.new result }
 {
-    write_fields(practice_book::practice(start, out))
+    WriteFields::from(practice_book::practice(start, out))
 }

@@ -1,16 +1,12 @@
 -- The replies of the calls in fields, as C has them: the paper's values of each reply.
 use Rattle.std.specs.Prelude.{cond}
-use Rattle.verdict.specs.Verdicts.{refusal_of, place_of, count_of}
-use Rattle.verdict.specs.declared.Verdict.{Verdict}
-use Rattle.valuation.specs.Replies.{refusal_in, place_in, liability_in, count_in}
-use Rattle.valuation.specs.declared.GroupReply.{GroupReply}
-use Rattle.text_reply.specs.Replies.{text_refusal, text_place, text_length}
-use Rattle.text_reply.specs.declared.TextReply.{TextReply}
-use Rattle.book_contents.specs.CallContracts.{write_refusal, write_place, write_length}
-use Rattle.book_contents.specs.declared.WriteReply.{WriteReply}
+use Rattle.verdict.specs.Verdicts.{refusal_of, place_of, count_of, Verdict}
+use Rattle.valuation.specs.Replies.{refusal_in, place_in, liability_in, count_in, GroupReply}
+use Rattle.text_reply.specs.Replies.{text_refusal, text_place, text_length, TextReply}
+use Rattle.book_contents.specs.CallContracts.{write_refusal, write_place, write_length, WriteReply}
 use Rattle.fund_definitions.specs.declared.FundsReply.{FundsReply}
 use Rattle.claims_variation.specs.Replies.{spread_refusal, spread_place, spread_level, spread_mean, spread_coefficient}
-use Rattle.claims_variation.specs.declared.SpreadReply.{SpreadReply}
+use Rattle.claims_variation.specs.Replies.{SpreadReply}
 use Rattle.c_api_fields.specs.declared.VerdictFields.{VerdictFields}
 use Rattle.c_api_fields.specs.declared.GroupFields.{GroupFields}
 use Rattle.c_api_fields.specs.declared.ReportFields.{ReportFields}

@@ -10,7 +10,7 @@ ghost use Rattle.c_api_fields.specs.Fields.{text_fields, write_fields, spread_fi
 ghost use Rattle.c_api_fields.specs.Fields.{funds_fields};
 
 use book_contents::WriteReply;
-use claims_variation::SpreadReply;
+use claims_variation::{SpreadReply, Variation};
 use fund_definitions::FundsReply;
 use text_reply::TextReply;
 use valuation::GroupReply;
@@ -25,20 +25,22 @@ pub struct VerdictFields {
     pub n: u64,
 }
 
-pub fn verdict_fields(v: Verdict) -> VerdictFields
-    ensures { result ≡ verdict_fields v }
-{
-    match v {
-        Verdict::Accepted(n) => VerdictFields {
-            refusal: 0,
-            place: 0,
-            n,
-        },
-        Verdict::Refused(refusal, place) => VerdictFields {
-            refusal,
-            place,
-            n: 0,
-        },
+impl From<Verdict> for VerdictFields {
+    ghost from_gives = { λ v fields. fields ≡ verdict_fields v };
+
+    fn from(v: Verdict) -> VerdictFields {
+        match v {
+            Ok(n) => VerdictFields {
+                refusal: 0,
+                place: 0,
+                n,
+            },
+            Err(refusal) => VerdictFields {
+                refusal: refusal.number,
+                place: refusal.place,
+                n: 0,
+            },
+        }
     }
 }
 
@@ -50,15 +52,20 @@ pub struct InForceFields {
     pub place: usize,
 }
 
-pub fn in_force_fields(v: Verdict) -> InForceFields
-    ensures { result ≡ in_force_fields v }
-{
-    match v {
-        Verdict::Accepted(_) => InForceFields {
-            refusal: 0,
-            place: 0,
-        },
-        Verdict::Refused(refusal, place) => InForceFields { refusal, place },
+impl From<Verdict> for InForceFields {
+    ghost from_gives = { λ v fields. fields ≡ in_force_fields v };
+
+    fn from(v: Verdict) -> InForceFields {
+        match v {
+            Ok(_) => InForceFields {
+                refusal: 0,
+                place: 0,
+            },
+            Err(refusal) => InForceFields {
+                refusal: refusal.number,
+                place: refusal.place,
+            },
+        }
     }
 }
 
@@ -70,14 +77,16 @@ pub struct FundsFields {
     pub second: VerdictFields,
 }
 
-pub fn funds_fields(reply: FundsReply) -> FundsFields
-    ensures { result ≡ funds_fields reply }
-{
-    let first = reply.first;
-    let second = reply.second;
-    FundsFields {
-        first: verdict_fields(first),
-        second: verdict_fields(second),
+impl From<FundsReply> for FundsFields {
+    ghost from_gives = { λ reply fields. fields ≡ funds_fields reply };
+
+    fn from(reply: FundsReply) -> FundsFields {
+        let first = reply.first;
+        let second = reply.second;
+        FundsFields {
+            first: VerdictFields::from(first),
+            second: VerdictFields::from(second),
+        }
     }
 }
 
@@ -90,22 +99,24 @@ pub struct GroupFields {
     pub n: u64,
 }
 
-pub fn group_fields(reply: GroupReply) -> GroupFields
-    ensures { result ≡ group_fields reply }
-{
-    match reply {
-        GroupReply::Valued(liability, n) => GroupFields {
-            refusal: 0,
-            place: 0,
-            liability,
-            n,
-        },
-        GroupReply::Refused(refusal, place) => GroupFields {
-            refusal,
-            place,
-            liability: 0,
-            n: 0,
-        },
+impl From<GroupReply> for GroupFields {
+    ghost from_gives = { λ reply fields. fields ≡ group_fields reply };
+
+    fn from(reply: GroupReply) -> GroupFields {
+        match reply {
+            Ok(valued) => GroupFields {
+                refusal: 0,
+                place: 0,
+                liability: valued.liability,
+                n: valued.n,
+            },
+            Err(refusal) => GroupFields {
+                refusal: refusal.number,
+                place: refusal.place,
+                liability: 0,
+                n: 0,
+            },
+        }
     }
 }
 
@@ -118,20 +129,22 @@ pub struct ReportFields {
     pub length: usize,
 }
 
-pub fn text_fields(reply: TextReply) -> ReportFields
-    ensures { result ≡ text_fields reply }
-{
-    match reply {
-        TextReply::Bytes(length) => ReportFields {
-            refusal: 0,
-            place: 0,
-            length,
-        },
-        TextReply::Refused(refusal, place) => ReportFields {
-            refusal,
-            place,
-            length: 0,
-        },
+impl From<TextReply> for ReportFields {
+    ghost from_gives = { λ reply fields. fields ≡ text_fields reply };
+
+    fn from(reply: TextReply) -> ReportFields {
+        match reply {
+            Ok(length) => ReportFields {
+                refusal: 0,
+                place: 0,
+                length,
+            },
+            Err(refusal) => ReportFields {
+                refusal: refusal.number,
+                place: refusal.place,
+                length: 0,
+            },
+        }
     }
 }
 
@@ -144,20 +157,22 @@ pub struct WriteFields {
     pub length: usize,
 }
 
-pub fn write_fields(reply: WriteReply) -> WriteFields
-    ensures { result ≡ write_fields reply }
-{
-    match reply {
-        WriteReply::Written(length) => WriteFields {
-            refusal: 0,
-            place: 0,
-            length,
-        },
-        WriteReply::Refused(refusal, place) => WriteFields {
-            refusal,
-            place,
-            length: 0,
-        },
+impl From<WriteReply> for WriteFields {
+    ghost from_gives = { λ reply fields. fields ≡ write_fields reply };
+
+    fn from(reply: WriteReply) -> WriteFields {
+        match reply {
+            Ok(length) => WriteFields {
+                refusal: 0,
+                place: 0,
+                length,
+            },
+            Err(refusal) => WriteFields {
+                refusal: refusal.number,
+                place: refusal.place,
+                length: 0,
+            },
+        }
     }
 }
 
@@ -172,30 +187,32 @@ pub struct SpreadFields {
     pub coefficient: f64,
 }
 
-pub fn spread_fields(reply: SpreadReply) -> SpreadFields
-    ensures { result ≡ spread_fields reply }
-{
-    match reply {
-        SpreadReply::Coefficient(mean, coefficient) => SpreadFields {
-            refusal: 0,
-            place: 0,
-            level: 0,
-            mean,
-            coefficient,
-        },
-        SpreadReply::Level(mean) => SpreadFields {
-            refusal: 0,
-            place: 0,
-            level: 1,
-            mean,
-            coefficient: 0.0,
-        },
-        SpreadReply::Refused(refusal, place) => SpreadFields {
-            refusal,
-            place,
-            level: 0,
-            mean: 0.0,
-            coefficient: 0.0,
-        },
+impl From<SpreadReply> for SpreadFields {
+    ghost from_gives = { λ reply fields. fields ≡ spread_fields reply };
+
+    fn from(reply: SpreadReply) -> SpreadFields {
+        match reply {
+            Ok(Variation::Coefficient(mean, coefficient)) => SpreadFields {
+                refusal: 0,
+                place: 0,
+                level: 0,
+                mean,
+                coefficient,
+            },
+            Ok(Variation::Level(mean)) => SpreadFields {
+                refusal: 0,
+                place: 0,
+                level: 1,
+                mean,
+                coefficient: 0.0,
+            },
+            Err(refusal) => SpreadFields {
+                refusal: refusal.number,
+                place: refusal.place,
+                level: 0,
+                mean: 0.0,
+                coefficient: 0.0,
+            },
+        }
     }
 }

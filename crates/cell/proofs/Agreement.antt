@@ -11,7 +11,7 @@ use Rattle.book.specs.Layout.{chain_sex, sex_of, class_of, field_of, count_offse
 use Rattle.book.specs.Reading.{Standing}
 use Rattle.settings.specs.Settings.{weight_of}
 use Rattle.settings_decrements.specs.Decrements.{mortality_weight, decrements_of, mortality_in, lapse_in}
-use Rattle.settings_decrements.specs.declared.Decrements.{Decrements}
+use Rattle.settings_decrements.specs.Decrements.{Decrements}
 use Rattle.settings_columns.specs.Columns.{same_mortality, survival_column, persistency_column}
 use Rattle.settings.proofs.Weights.{each_setting}
 use Rattle.settings_columns.proofs.Held.{survival_low, persistency_low}
@@ -55,8 +55,12 @@ module _ (b : List ℕ) (sex i k : ℕ) where
   column_persistency = by (ltb k 5) refl
     where
       by : (early : Bool) → ltb k 5 ≡ early → (setting : ℕ) → setting < 8 → Stays setting
-      by true e = each_setting Stays (rw e) (rw e) (rw e) (rw e) (rw e) (rw e) (rw e) (rw e)
-      by false e = each_setting Stays (rw e) (rw e) (rw e) (rw e) (rw e) (rw e) (rw e) (rw e)
+      by true e =
+          each_setting Stays (rw (e, lapse_in)) (rw (e, lapse_in)) (rw (e, lapse_in)) (rw (e, lapse_in))
+          (rw (e, lapse_in)) (rw (e, lapse_in)) (rw (e, lapse_in)) (rw (e, lapse_in))
+      by false e =
+          each_setting Stays (rw (e, lapse_in)) (rw (e, lapse_in)) (rw (e, lapse_in)) (rw (e, lapse_in))
+          (rw (e, lapse_in)) (rw (e, lapse_in)) (rw (e, lapse_in)) (rw (e, lapse_in))
 
 module _ (b : List ℕ) (chain i : ℕ) (s : Standing b 120 chain i) (t : List ℕ) (rows : RowsOf b chain i t) (own : ℕ)
     (fits : own ≤ 120 - class_of b i) where

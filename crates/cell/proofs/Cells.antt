@@ -8,6 +8,7 @@ use native.Mathlib.Nat.{add-zero, le_trans, mul-le-mul, mul-le-mul_left, div-le_
 use native.Mathlib.Numerals.{add-one}
 use native.Mathlib.Omega.{arith}
 use Rattle.settings_columns.specs.Columns.{survival_column, persistency_column, columns_of, survives_in, persists_in}
+use Rattle.settings.specs.declared.ByPeriod.{ByPeriod}
 use Rattle.settings_columns.specs.declared.Columns.{Columns}
 use Rattle.settings_columns.proofs.Held.{survival_low, persistency_low, survives_is, persists_is}
 use Rattle.valuation.specs.Arithmetic.{rounded}
@@ -20,10 +21,6 @@ use Rattle.cell.specs.States.{premium_by, claims_by}
 pub share_le : (x y : ℕ) → y ≤ 1_000_000_000 → x * y / 1_000_000_000 ≤ x
 share_le x y h = div-le_of_le-mul 1_000_000_000 (omega (arith, mul-le-mul_left x h))
 
--- the share of what lives on can be taken further
-pub share_bound : (x y m r : ℕ) → y ≤ 1_000_000_000 → x ≤ m → r ≡ x * y / 1_000_000_000 → r ≤ m
-share_bound x y m r h k e = rw e (le_trans (share_le x y h) k)
-
 -- what a state that can go on adds at most
 module _ (t : List ℕ) (c : Cell) (r : Ready t c) where
   pub premium_in_le : premium_in t c ≤ 1_000_000_000_000
@@ -33,7 +30,7 @@ module _ (t : List ℕ) (c : Cell) (r : Ready t c) where
   claims_in_le = div-le_of_le-mul 1_000_000_000 (le_trans (mul-le-mul r.bound r.row.claims) (omega arith))
 
 -- the columns of a setting are those of its year k
-module _ (setting k : ℕ) (columns : Columns) (e : columns ≡ columns_of setting) where
+module _ (setting k : ℕ) (columns : ByPeriod Columns) (e : columns ≡ columns_of setting) where
   pub held_low : (survives_in columns k ≤ 5) × (persists_in columns k ≤ 5)
   held_low = rw e (
     omega (arith, survives_is setting k, survival_low setting k),

@@ -1,7 +1,7 @@
 -- The state of a cell from year to year in a setting, as the code carries it over the rows of its chain.
 use Rattle.std.specs.Prelude.{List, ℕ, ◌+◌, ◌*◌, ◌/◌, ◌<◌, ◌≤◌, get_or}
 use Rattle.arith.specs.Fractions.{IsFraction}
-use Rattle.settings_decrements.specs.declared.Decrements.{Decrements}
+use Rattle.settings_decrements.specs.Decrements.{Decrements}
 use Rattle.settings_columns.specs.Columns.{survival_column, persistency_column}
 use Rattle.valuation.specs.Arithmetic.{rounded}
 use Rattle.valuation.specs.Steps as steps

@@ -9,6 +9,7 @@ ghost use Rattle.rate_table.specs.Rows.{row_count, a_row};
 ghost use Rattle.cell.specs.States.{Ready, ShareAt, share_of, next_by, premium_in, claims_in};
 
 use rate_table::{CLAIMS, COLUMNS, PREMIUM, RATES, RateTable};
+use settings::ByPeriod;
 use settings_columns::Columns;
 
 // What 100,000 contracts have in force, in billionths: no cell has more.
@@ -65,14 +66,15 @@ impl Cell {
     }
 
     // The state a year after year k of the setting that has these columns.
-    pub fn next_year(self, rows: &RateTable, columns: Columns, k: usize) -> Cell
+    pub fn next_year(self, rows: &RateTable, columns: ByPeriod<Columns>, k: usize) -> Cell
         requires { Ready rows.now self
             × (survives_in columns k ≤ 5)
             × (persists_in columns k ≤ 5) }
         ensures { result ≡ next_by rows.now (survives_in columns k)
             (persists_in columns k) self }
     {
-        self.next_by(rows, columns.survives(k), columns.persists(k))
+        let held = columns.at(k);
+        self.next_by(rows, held.survival, held.persistency)
     }
 
     // The premium of the state's year.

@@ -6,6 +6,7 @@ use mathlib.Core.List.{List}
 use Prim.Native.Nat.{ℕ, zero, suc, ◌+◌, ◌-◌, ◌*◌, ◌/◌, ◌%◌, ◌<◌, ◌≤◌}
 use native.Mathlib.Omega.{arith}
 use lib.Dec.{eqb}
+use Rattle.std.specs.Prelude.{Option}
 use Rattle.book.specs.Layout.{class_of, field_of, count_offset}
 use Rattle.book.specs.Reading.{Standing}
 use Rattle.settings_decrements.specs.Decrements.{decrements_of}
@@ -52,11 +53,11 @@ module _ (b : List ℕ) (chain i : ℕ) (s : Standing b 120 chain i) (t : List �
       by true = premiums
       by false = claims
 
-  pub amounts_added : (which : ℕ) (u : List ℕ)
+  pub amounts_added : (which : Option ℕ) (u : List ℕ)
       → added (chosen which (amount_by (cell_in t own n))) 500 u ≡ added (amount_in b which j) 500 u
   unfolding amount_in
   amounts_added which u =
-      added_same _ _ 500 u (λ m h. chosen_same which (amount_by (cell_in t own n)) (amount_at b j) m (amount_same m h))
+      added_same _ _ 500 u (λ m h. chosen_same (amount_by (cell_in t own n)) which (amount_at b j) m (amount_same m h))
 
   -- the years of a projection are those of the record's cell in that setting
   pub years_same : (setting : ℕ) → setting < 8
@@ -73,21 +74,21 @@ amount_at_le b chain i s j =
     amount_each (λ x. x ≤ 1_000_000_000_000) _ j (premium_at_le b (decrements_of b (j % 10 / 2)) chain i s (j / 10))
     (claims_at_le b (decrements_of b (j % 10 / 2)) chain i s (j / 10))
 
-pub amount_in_le : (b : List ℕ) (which chain i : ℕ) → Standing b 120 chain i → (j : ℕ)
+pub amount_in_le : (b : List ℕ) (which : Option ℕ) (chain i : ℕ) → Standing b 120 chain i → (j : ℕ)
     → amount_in b which i j ≤ 1_000_000_000_000
 unfolding amount_in
-amount_in_le b which chain i s j = chosen_le which (amount_at b i) j _ (amount_at_le b chain i s j)
+amount_in_le b which chain i s j = chosen_le (amount_at b i) which j _ (amount_at_le b chain i s j)
 
 -- the numbers of a projection in a year
-module _ (b : List ℕ) (which k s i : ℕ) (among : Among which s) (h : s < 5) (year : k < 50) where
+module _ (b : List ℕ) (which : Option ℕ) (k s i : ℕ) (among : Among which s) (h : s < 5) (year : k < 50) where
   pub premium_column_at : amount_in b which i (10 * k + 2 * s) ≡ premium_at b (decrements_of b s) i k
   unfolding amount_in amount_at premium_at
   premium_column_at =
-      chosen_at which (amount_at b i) s (10 * k + 2 * s) among h (omega arith) (omega arith)
+      chosen_at (amount_at b i) which s (10 * k + 2 * s) among (omega arith) (omega arith)
       ∙ amount_premium (λ x. cell_of b (decrements_of b x) i) k s h
 
   pub claims_column_at : amount_in b which i (10 * k + 2 * s + 1) ≡ claims_at b (decrements_of b s) i k
   unfolding amount_in amount_at claims_at
   claims_column_at =
-      chosen_at which (amount_at b i) s (10 * k + 2 * s + 1) among h (omega arith) (omega arith)
+      chosen_at (amount_at b i) which s (10 * k + 2 * s + 1) among (omega arith) (omega arith)
       ∙ amount_claims (λ x. cell_of b (decrements_of b x) i) k s h

@@ -9,6 +9,7 @@ use native.Mathlib.Nat.{add-zero, zero-add}
 use native.Mathlib.Omega.{arith}
 use borrow.Author.Tests.{lt-ltb, le-ltb, eq-eqb, ne_eqb, eqb-true, ltb-true, ltb-false}
 use lib.Dec.{eqb, ltb}
+use Rattle.std.specs.Prelude.{Option, None, Some}
 use Rattle.lists.specs.AtMost.{AtMost}
 use Rattle.valuation.specs.Arithmetic.{rounded}
 use Rattle.valuation.specs.Steps as steps
@@ -71,31 +72,28 @@ module _ (f : ℕ → ℕ) (s m k j : ℕ) where
       by true false e false b upto u = zero-add _
 
 -- all projections or one
-module _ (which : ℕ) (f : ℕ → ℕ) where
-  pub chosen_all : which ≡ 5 → (j : ℕ) → chosen which f j ≡ f j
+module _ (f : ℕ → ℕ) where
+  pub chosen_all : (which : Option ℕ) → which ≡ None → (j : ℕ) → chosen which f j ≡ f j
   unfolding chosen
-  chosen_all e j = rw (eq-eqb which 5 e)
+  chosen_all which e j = rw e
 
-  pub chosen_one : (which ≡ 5 → ⊥) → (j : ℕ) → chosen which f j ≡ only_years f which 0 50 j
+  pub chosen_one : (which : Option ℕ) (s : ℕ) → which ≡ Some s → (j : ℕ) → chosen which f j ≡ only_years f s 0 50 j
   unfolding chosen
-  chosen_one h j = rw (ne_eqb which 5 h)
+  chosen_one which s e j = rw e
 
-  pub chosen_le : (j z : ℕ) → f j ≤ z → chosen which f j ≤ z
+  pub chosen_le : (which : Option ℕ) (j z : ℕ) → f j ≤ z → chosen which f j ≤ z
   unfolding chosen
-  chosen_le j z h = by (eqb which 5)
-    where
-      by : (all : Bool) → cond all (f j) (only_years f which 0 50 j) ≤ z
-      by true = h
-      by false = within_le f which 0 50 j z h
+  chosen_le None j z h = h
+  chosen_le (Some s) j z h = within_le f s 0 50 j z h
 
-  pub chosen_same : (g : ℕ → ℕ) (j : ℕ) → f j ≡ g j → chosen which f j ≡ chosen which g j
+  pub chosen_same : (which : Option ℕ) (g : ℕ → ℕ) (j : ℕ) → f j ≡ g j → chosen which f j ≡ chosen which g j
   unfolding chosen only_years
-  chosen_same g j e = rw e
+  chosen_same None g j e = e
+  chosen_same (Some s) g j e = rw e
 
-  pub chosen_at : (s j : ℕ) → Among which s → s < 5 → j % 10 / 2 ≡ s → j / 10 < 50 → chosen which f j ≡ f j
-  chosen_at s j (inl e) l own h = chosen_all e j
-  chosen_at s j (inr e) l own h =
-      chosen_one (λ q. omega (arith, e, q, l)) j ∙ within_own f which 0 50 j (own ∙ sym e) (omega arith) h
+  pub chosen_at : (which : Option ℕ) (s j : ℕ) → Among which s → j % 10 / 2 ≡ s → j / 10 < 50 → chosen which f j ≡ f j
+  chosen_at which s j (inl e) own h = chosen_all which e j
+  chosen_at which s j (inr e) own h = chosen_one which s e j ∙ within_own f s 0 50 j own (omega arith) h
 
 -- no years add nothing
 pub within_start : (f : ℕ → ℕ) (s m : ℕ) (u : List ℕ) → u ≡ added (only_years f s m m) 500 u
@@ -212,16 +210,6 @@ module _ (t : List ℕ) (r n s m to k : ℕ) (c : Cell) (u v : List ℕ) (run : 
             (claims_is t r n s k ∙ sym (amount_claims (cell_in t r n) k s l))))
             (λ j a. within_join _ s m k j (k + 1) run.0 (omega arith)),
       )
-
-  -- it stops at its end, or where nothing is in force
-  pub run_stops : (k < to → c.inforce ≤ 0) → StoppedIn t r n s m to k c u v
-  run_stops none_left = record {
-    since = run.0;
-    most = run.1;
-    reached = run.2;
-    sums = run.3;
-    ended = λ early. omega (arith, none_left early);
-  }
 
 -- where it stops
 module _ (t : List ℕ) (r n s m to k : ℕ) (c : Cell) (u v : List ℕ) (stop : StoppedIn t r n s m to k c u v) where

@@ -1,6 +1,7 @@
 -- A table of five hundred numbers: for each of the fifty years ten, for each of the five projections premium and
 -- claims. What is added to one.
 use Rattle.std.specs.Prelude.{cond, List, [], ◌∷◌, ◌⊎◌, ◌≡◌, ℕ, zero, suc, ◌+◌, ◌*◌, ◌/◌, ◌%◌, ltb, eqb, get_or, set}
+use Rattle.std.specs.Prelude.{Option, None, Some}
 use Rattle.settings_decrements.specs.Decrements.{decrements_of}
 use Rattle.valuation.specs.Steps.{Cell}
 use Rattle.valuation.specs.Portfolio.{cell_of}
@@ -49,16 +50,17 @@ unfoldable pub only_years : (ℕ → ℕ) → ℕ → ℕ → ℕ → ℕ → �
 only_years f s m k j =
     cond (eqb (j % a_year / 2) s) (cond (ltb (j / a_year) m) 0 (cond (ltb (j / a_year) k) (f j) 0)) 0
 
--- all of f where `which` is 5, and else the fifty years of that projection
-unfoldable pub chosen : ℕ → (ℕ → ℕ) → ℕ → ℕ
-chosen which f j = cond (eqb which 5) (f j) (only_years f which 0 year_count j)
+-- all of f where no one projection is asked for, and else the fifty years of that one
+unfoldable pub chosen : Option ℕ → (ℕ → ℕ) → ℕ → ℕ
+chosen None f j = f j
+chosen (Some s) f j = only_years f s 0 year_count j
 
 -- projection s is among them
-abbrev pub Among : ℕ → ℕ → Type 0
-Among which s = (which ≡ 5) ⊎ (which ≡ s)
+abbrev pub Among : Option ℕ → ℕ → Type 0
+Among which s = (which ≡ None) ⊎ (which ≡ Some s)
 
 -- what the cell of record i adds there
-unfoldable pub amount_in : List ℕ → ℕ → ℕ → ℕ → ℕ
+unfoldable pub amount_in : List ℕ → Option ℕ → ℕ → ℕ → ℕ
 amount_in b which i = chosen which (amount_at b i)
 
 -- x more at number j, and y more at the next

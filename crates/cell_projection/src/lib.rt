@@ -12,6 +12,7 @@ ghost use Rattle.cell_projection.specs.Projected.{ReachedIn, StoppedIn, Projecte
 
 use cell::Cell;
 use rate_table::RateTable;
+use settings::ByPeriod;
 use settings_columns::Columns;
 
 // For each of the fifty years premium and claims of the five projections.
@@ -61,7 +62,7 @@ pub fn add_at(sums: &mut YearSums, j: usize, x: u64)
 pub fn one_year(
     rows: &RateTable,
     cell: Cell,
-    columns: Columns,
+    columns: ByPeriod<Columns>,
     setting: usize,
     k: usize,
     sums: &mut YearSums,
@@ -86,7 +87,7 @@ pub fn one_year(
 fn project_stretch(
     rows: &RateTable,
     point: ModelPoint,
-    columns: Columns,
+    columns: ByPeriod<Columns>,
     setting: usize,
     stretch: Stretch,
     sums: &mut YearSums,
@@ -104,6 +105,7 @@ fn project_stretch(
     let to = stretch.to;
     let mut cell = stretch.cell;
     let mut k = stretch.from;
+    // It may end before `to`: a `for` with a `break` would be no plainer.
     while k < to && 0 < cell.inforce {
         cell = one_year(rows, cell, columns, setting, k, sums);
         k += 1;
@@ -116,7 +118,7 @@ fn project_stretch(
 pub fn alone(
     rows: &RateTable,
     point: ModelPoint,
-    columns: Columns,
+    columns: ByPeriod<Columns>,
     setting: usize,
     start: CellInYear,
     sums: &mut YearSums,
@@ -144,7 +146,7 @@ pub fn alone(
 pub fn project_in(
     rows: &RateTable,
     point: ModelPoint,
-    columns: Columns,
+    columns: ByPeriod<Columns>,
     setting: usize,
     sums: &mut YearSums,
 ) -> usize

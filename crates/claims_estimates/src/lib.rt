@@ -41,7 +41,8 @@ fn double(n: u64) -> f64
     n as f64
 }
 
-// Exact: the sum is far below 2^53, and 8 is a power of two.
+// Exact: the sum is far below 2^53, and 8 is a power of two. Ranked stays a `requires` of two inner
+// functions: C passes any Summary, and a type for those that pass 27 would be the longer.
 fn mean(s: Summary) -> f64
     requires { Ranked s }
     ensures { result ≡ mean_of s }
@@ -62,11 +63,11 @@ pub fn estimated(claims: Summary, factors: SampleFactors) -> Estimates
     requires { Ranked claims }
     ensures { result ≡ estimates_of claims factors }
 {
-    let mut estimates = Estimates {
-        mean: mean(claims),
-        deviation: deviation(claims, factors),
-        coefficient: 0.0,
-    };
-    estimates.coefficient = estimates.deviation / estimates.mean;
-    estimates
+    let mean = mean(claims);
+    let deviation = deviation(claims, factors);
+    Estimates {
+        mean,
+        deviation,
+        coefficient: deviation / mean,
+    }
 }

@@ -5,7 +5,7 @@ use Prim.Native.Nat.{ℕ, ◌*◌}
 use lib.Dec.{leb, ltb}
 use lib.Ieee.{Float, nan, inf, fin, ne, is_nan, up, down}
 use borrow.Author.Tests.{eq-eqb, leb-true, ltb-true, not-true}
-use Rattle.verdict.specs.declared.Verdict.TheVariants.{Accepted}
+use Rattle.std.specs.Prelude.{Ok}
 use Rattle.verdict.proofs.Verdicts.{need_true, then_left}
 use Rattle.conditions.proofs.Joined.{and_left, and_right, or_left, or_right}
 use Rattle.claims_estimates.specs.Ranked.{Ranked}
@@ -58,6 +58,6 @@ pub second_good : (xi eta : Float) → not (bad_factor xi || bad_factor eta) ≡
 second_good xi eta e = or_right (bad_factor xi) (bad_factor eta) (not-true _ e)
 
 -- what the whole check leaves to the estimates
-pub accepted_ranked : (s : Summary) (f : SampleFactors) (n : ℕ) → check_spread s f ≡ Accepted n → Ranked s
+pub accepted_ranked : (s : Summary) (f : SampleFactors) (n : ℕ) → check_spread s f ≡ Ok n → Ranked s
 unfolding check_spread
 accepted_ranked s f n e = summary_ranked s (need_true _ _ _ _ (then_left _ _ _ e))

@@ -1,23 +1,27 @@
 -- What the call answers, the paper's values of each case, and what is promised of them.
-use Rattle.std.specs.Prelude.{ℕ, ◌≡◌, Bool, true, false, cond, T, eqb, pos, Float}
+use Rattle.std.specs.Prelude.{ℕ, ◌≡◌, Bool, true, false, cond, T, eqb, pos, Float, Result, Ok, Err}
 use Rattle.std.specs.Float.{fin}
 use Rattle.std.specs.Float.Ieee.{le}
 use Rattle.std.specs.Float.Ieee.Exact.{HasValue}
 use Rattle.std.specs.Float.Ieee.Scale.{finite}
-use Rattle.verdict.specs.declared.Verdict.{Verdict}
-use Rattle.verdict.specs.declared.Verdict.TheVariants.{Accepted, Refused as VerdictRefused}
+use Rattle.verdict.specs.Verdicts.{Verdict}
+use Rattle.verdict.specs.declared.Refusal.{Refusal}
 use Rattle.claims_estimates.specs.Estimates.{weighted, estimates_of}
 use Rattle.claims_estimates.specs.declared.Summary.{Summary}
 use Rattle.claims_estimates.specs.declared.SampleFactors.{SampleFactors}
 use Rattle.claims_estimates.specs.declared.Estimates.{Estimates}
 use Rattle.claims_variation.specs.Refusals.{check_spread}
-use Rattle.claims_variation.specs.declared.SpreadReply.{SpreadReply}
-use Rattle.claims_variation.specs.declared.SpreadReply.TheVariants.{Coefficient, Level, Refused}
+use Rattle.claims_variation.specs.declared.Variation.{Variation}
+use Rattle.claims_variation.specs.declared.Variation.TheVariants.{Coefficient, Level}
+
+-- what the claims are found to be, or the refusal
+abbrev pub SpreadReply : Type 0
+SpreadReply = Result Variation Refusal
 
 -- mean and coefficient; where the claims are level the mean only; or the refusal
 abbrev pub spread_reply_for : Verdict → Bool → Estimates → SpreadReply
-spread_reply_for (Accepted n) level e = cond level (Level e.mean) (Coefficient e.mean e.coefficient)
-spread_reply_for (VerdictRefused number place) level e = Refused number place
+spread_reply_for (Ok n) level e = Ok (cond level (Level e.mean) (Coefficient e.mean e.coefficient))
+spread_reply_for (Err r) level e = Err r
 
 -- the reply to a summary and its factors; the claims are level where the lowest equals the highest
 unfoldable pub spread_reply : Summary → SampleFactors → SpreadReply
@@ -30,29 +34,27 @@ zero_float = fin false 0 (pos 0)
 -- The paper's values of a reply: the refusal's number and its place, 0 and 0 where accepted; whether it is 'level';
 -- mean and coefficient, 0 where it has none.
 abbrev pub spread_refusal : SpreadReply → ℕ
-spread_refusal (Coefficient mean coefficient) = 0
-spread_refusal (Level mean) = 0
-spread_refusal (Refused number place) = number
+spread_refusal (Ok v) = 0
+spread_refusal (Err r) = r.number
 
 abbrev pub spread_place : SpreadReply → ℕ
-spread_place (Coefficient mean coefficient) = 0
-spread_place (Level mean) = 0
-spread_place (Refused number place) = place
+spread_place (Ok v) = 0
+spread_place (Err r) = r.place
 
 abbrev pub spread_level : SpreadReply → Bool
-spread_level (Coefficient mean coefficient) = false
-spread_level (Level mean) = true
-spread_level (Refused number place) = false
+spread_level (Ok (Coefficient mean coefficient)) = false
+spread_level (Ok (Level mean)) = true
+spread_level (Err r) = false
 
 abbrev pub spread_mean : SpreadReply → Float
-spread_mean (Coefficient mean coefficient) = mean
-spread_mean (Level mean) = mean
-spread_mean (Refused number place) = zero_float
+spread_mean (Ok (Coefficient mean coefficient)) = mean
+spread_mean (Ok (Level mean)) = mean
+spread_mean (Err r) = zero_float
 
 abbrev pub spread_coefficient : SpreadReply → Float
-spread_coefficient (Coefficient mean coefficient) = coefficient
-spread_coefficient (Level mean) = zero_float
-spread_coefficient (Refused number place) = zero_float
+spread_coefficient (Ok (Coefficient mean coefficient)) = coefficient
+spread_coefficient (Ok (Level mean)) = zero_float
+spread_coefficient (Err r) = zero_float
 
 -- What the call promises. The mean is exact: `HasValue x false a 8` says that x is finite, without a minus, and just
 -- the fraction a / 8. No double of a reply is an infinity or not a number, and none is below zero.

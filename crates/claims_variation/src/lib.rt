@@ -8,15 +8,17 @@ ghost use Rattle.claims_variation.specs.Refusals.{check_spread};
 ghost use Rattle.claims_variation.specs.Replies.{SpreadContract};
 
 use claims_estimates::{SampleFactors, Summary};
-use verdict::Verdict;
+use verdict::{Refusal, Verdict, need};
 
-// Mean and coefficient; the mean alone where all claims are alike; a refusal's number and place.
+// Mean and coefficient; the mean alone where all claims are alike.
 #[derive(Clone, Copy)]
-pub enum SpreadReply {
+pub enum Variation {
     Coefficient(f64, f64),
     Level(f64),
-    Refused(u64, usize),
 }
+
+// What the claims are found to be, or the refusal.
+pub type SpreadReply = Result<Variation, Refusal>;
 
 const HIGHEST_CLAIMS: u64 = 10_000_000;
 
@@ -51,12 +53,14 @@ fn bad_factor(x: f64) -> bool
 }
 
 // 27 is tested before 28, and both before the claims may be level.
+#[tactic(auto, unfolding(crate::specs::Refusals::check_spread, verdict::specs::Verdicts::first_refusal))]
 fn check(s: Summary, factors: SampleFactors) -> Verdict
     ensures { result ≡ check_spread s factors }
 {
     let ranked = rising(s) & within_limit(s) & (0 < s.highest);
     let good = !(bad_factor(factors.xi) | bad_factor(factors.eta));
-    verdict::need(ranked, 27, 0).require(good, 28, 0)
+    need(ranked, 27, 0)?;
+    need(good, 28, 0)
 }
 
 // Mean and coefficient of yearly claims, 'level' with the mean where all are alike, or the first
@@ -64,14 +68,11 @@ fn check(s: Summary, factors: SampleFactors) -> Verdict
 pub fn spread(claims: Summary, factors: SampleFactors) -> SpreadReply
     ensures { SpreadContract claims factors result }
 {
-    let v = check(claims, factors);
-    if let Verdict::Refused(number, place) = v {
-        return SpreadReply::Refused(number, place);
-    }
+    check(claims, factors)?;
     let estimates = claims_estimates::estimated(claims, factors);
     if claims.lowest == claims.highest {
-        SpreadReply::Level(estimates.mean)
+        Ok(Variation::Level(estimates.mean))
     } else {
-        SpreadReply::Coefficient(estimates.mean, estimates.coefficient)
+        Ok(Variation::Coefficient(estimates.mean, estimates.coefficient))
     }
 }

@@ -3,50 +3,35 @@
 
 ghost use Rattle.std.specs.Prelude.{◌≡◌, ◌<◌};
 ghost use Rattle.conditions.specs.Every.{every};
-ghost use Rattle.lists.specs.AtMost.{AtMost};
-ghost use Rattle.cost_rate_shares.specs.Usable.{Bounded};
 ghost use Rattle.cost_rate_divisors.specs.Divisors.{can_split, is_paid, can_compute};
 
-use cost_rate_shares::{Accounts, figure, is_empty, year_sum};
+use cost_rate_shares::{BoundedAccounts, Figures};
 
 // Whether each year's expenses can be split by these figures.
-fn can_split(split: [u64; 15]) -> bool
-    requires { AtMost 1000000000 15 split }
-    ensures { result ≡ can_split split }
+fn can_split(split: Figures) -> bool
+    ensures { result ≡ can_split split.figures }
 {
-    (0 < year_sum(split, 0)) & (0 < year_sum(split, 1)) & (0 < year_sum(split, 2))
+    (0usize..3).all(|year| split.year_sum(year) > 0)
 }
 
 // An empty group needs no premium, any other needs some in each of the three years.
-fn is_paid(accounts: Accounts, group: usize) -> bool
-    requires { (group < 5)
-        × Bounded accounts }
-    ensures { result ≡ is_paid accounts group }
+fn is_paid(bounded: BoundedAccounts, group: usize) -> bool
+    requires { group < 5 }
+    ensures { result ≡ is_paid bounded.accounts group }
 {
-    let premium = accounts.premium;
-    let each_year = (0 < figure(premium, 0, group))
-        & (0 < figure(premium, 1, group))
-        & (0 < figure(premium, 2, group));
-    is_empty(accounts, group) | each_year
+    let premium = bounded.premium();
+    bounded.is_empty(group) | (0usize..3).all(|year| premium.at(year, group) > 0)
 }
 
-fn all_paid(accounts: Accounts) -> bool
-    requires { Bounded accounts }
-    ensures { result ≡ every (is_paid accounts) 5 }
+fn all_paid(bounded: BoundedAccounts) -> bool
+    ensures { result ≡ every (is_paid bounded.accounts) 5 }
 {
-    is_paid(accounts, 0)
-        & is_paid(accounts, 1)
-        & is_paid(accounts, 2)
-        & is_paid(accounts, 3)
-        & is_paid(accounts, 4)
+    (0usize..5).all(|group| is_paid(bounded, group))
 }
 
 // 18 looks at what shares and rates are divided by.
-pub fn can_compute(accounts: Accounts) -> bool
-    requires { Bounded accounts }
-    ensures { result ≡ can_compute accounts }
+pub fn can_compute(bounded: BoundedAccounts) -> bool
+    ensures { result ≡ can_compute bounded.accounts }
 {
-    let stock = accounts.stock;
-    let claims = accounts.claims;
-    can_split(stock) & can_split(claims) & all_paid(accounts)
+    can_split(bounded.stock()) & can_split(bounded.claims()) & all_paid(bounded)
 }

@@ -1,1 +1,3 @@
 pub mod Below
+pub mod Filled
+pub mod YearSum

@@ -19,111 +19,140 @@ pub struct Accounts {
     pub premium: [u64; 15],
 }
 
-pub fn figure(figures: [u64; 15], year: usize, group: usize) -> u64
-    requires { (year < 3)
-        × (group < 5)
-        × AtMost 1000000000 15 figures }
-    ensures { (result ≡ figure figures year group)
-        × (result ≤ 1000000000) }
-{
-    figures[5 * year + group]
+// Fifteen figures of accounts that pass 17, in the order in which Accounts has them.
+#[derive(Clone, Copy)]
+pub struct Figures {
+    pub figures: [u64; 15],
+    pub ghost limit: { AtMost 1000000000 15 figures },
 }
 
-pub fn year_sum(figures: [u64; 15], year: usize) -> u64
-    requires { (year < 3)
-        × AtMost 1000000000 15 figures }
-    ensures { (result ≡ year_sum figures year)
-        × (result ≤ 5000000000) }
-{
-    figure(figures, year, 0)
-        + figure(figures, year, 1)
-        + figure(figures, year, 2)
-        + figure(figures, year, 3)
-        + figure(figures, year, 4)
-}
-
-fn lowered(expenses: [u64; 3], year: usize) -> u64
-    requires { (year < 3)
-        × AtMost 1000000000 3 expenses }
-    ensures { (result ≡ lowered expenses year)
-        × (result ≤ 950000000) }
-{
-    expenses[year] * 95 / 100
-}
-
-// A group's share of the year's lowered expenses, split by stock or by claims.
-fn share(expenses: [u64; 3], split: [u64; 15], year: usize, group: usize) -> u64
-    requires { (year < 3)
-        × (group < 5)
-        × AtMost 1000000000 3 expenses
-        × AtMost 1000000000 15 split
-        × (0 < year_sum split year) }
-    ensures { (result ≡ share expenses split year group)
-        × (result ≤ 950000000) }
-{
-    lowered(expenses, year) * figure(split, year, group) / year_sum(split, year)
-}
-
-// Both shares over twice the premium: one division, so that nothing is rounded between the average
-// and the rate.
-fn year_rate(accounts: Accounts, year: usize, group: usize) -> u64
-    requires { (year < 3)
-        × (group < 5)
-        × Usable accounts
-        × (0 < figure accounts.premium year group) }
-    ensures { (result ≡ year_rate accounts year group)
-        × (result ≤ 1900000000000000) }
-{
-    let expenses = accounts.expenses;
-    let stock = accounts.stock;
-    let claims = accounts.claims;
-    let premium = accounts.premium;
-    let both = share(expenses, stock, year, group) + share(expenses, claims, year, group);
-    both * 1_000_000 / (2 * figure(premium, year, group))
-}
-
-fn none_in(figures: [u64; 15], group: usize) -> bool
-    requires { (group < 5)
-        × AtMost 1000000000 15 figures }
-    ensures { result ≡ none_in figures group }
-{
-    (figure(figures, 0, group) == 0)
-        & (figure(figures, 1, group) == 0)
-        & (figure(figures, 2, group) == 0)
-}
-
-pub fn is_empty(accounts: Accounts, group: usize) -> bool
-    requires { (group < 5)
-        × Bounded accounts }
-    ensures { result ≡ is_empty accounts group }
-{
-    let stock = accounts.stock;
-    let claims = accounts.claims;
-    let premium = accounts.premium;
-    none_in(stock, group) & none_in(claims, group) & none_in(premium, group)
-}
-
-fn rate(accounts: Accounts, group: usize) -> u64
-    requires { (group < 5)
-        × Usable accounts }
-    ensures { result ≡ accounts_rate accounts group }
-{
-    if is_empty(accounts, group) {
-        return 0;
+impl Figures {
+    pub fn at(self, year: usize, group: usize) -> u64
+        requires { (year < 3)
+            × (group < 5) }
+        ensures { (result ≡ figure self.figures year group)
+            × (result ≤ 1000000000) }
+    {
+        self.figures[5 * year + group]
     }
-    (year_rate(accounts, 0, group) + year_rate(accounts, 1, group) + year_rate(accounts, 2, group))
-        / 3
+
+    pub fn year_sum(self, year: usize) -> u64
+        requires { year < 3 }
+        ensures { (result ≡ year_sum self.figures year)
+            × (result ≤ 5000000000) }
+    {
+        let start = 5 * year;
+        self.figures[start..start + 5].iter().sum()
+    }
+
+    fn none_in(self, group: usize) -> bool
+        requires { group < 5 }
+        ensures { result ≡ none_in self.figures group }
+    {
+        (0usize..3).all(|year| self.at(year, group) == 0)
+    }
 }
 
-pub fn rates(accounts: Accounts) -> [u64; 5]
-    requires { Usable accounts }
-    ensures { result ≡ rates_of accounts }
-{
-    [
-        rate(accounts, 0),
-        rate(accounts, 1),
-        rate(accounts, 2),
-        rate(accounts, 3),
-        rate(accounts, 4),
-    ]
+// Accounts that pass 17.
+#[derive(Clone, Copy)]
+pub struct BoundedAccounts {
+    pub accounts: Accounts,
+    pub ghost bounded: { Bounded accounts },
+}
+
+impl BoundedAccounts {
+    pub fn stock(self) -> Figures
+        ensures { result.figures ≡ self.accounts.stock }
+    {
+        let figures = self.accounts.stock;
+        Figures { figures }
+    }
+
+    pub fn claims(self) -> Figures
+        ensures { result.figures ≡ self.accounts.claims }
+    {
+        let figures = self.accounts.claims;
+        Figures { figures }
+    }
+
+    pub fn premium(self) -> Figures
+        ensures { result.figures ≡ self.accounts.premium }
+    {
+        let figures = self.accounts.premium;
+        Figures { figures }
+    }
+
+    pub fn is_empty(self, group: usize) -> bool
+        requires { group < 5 }
+        ensures { result ≡ is_empty self.accounts group }
+    {
+        self.stock().none_in(group) & self.claims().none_in(group) & self.premium().none_in(group)
+    }
+
+    fn lowered(self, year: usize) -> u64
+        requires { year < 3 }
+        ensures { (result ≡ lowered self.accounts.expenses year)
+            × (result ≤ 950000000) }
+    {
+        self.accounts.expenses[year] * 95 / 100
+    }
+
+    // A group's share of the year's lowered expenses, split by stock or by claims.
+    fn share(self, split: Figures, year: usize, group: usize) -> u64
+        requires { (year < 3)
+            × (group < 5)
+            × (0 < year_sum split.figures year) }
+        ensures { (result ≡ share self.accounts.expenses split.figures year group)
+            × (result ≤ 950000000) }
+    {
+        self.lowered(year) * split.at(year, group) / split.year_sum(year)
+    }
+}
+
+// Accounts that pass 17 and 18.
+#[derive(Clone, Copy)]
+pub struct UsableAccounts {
+    pub accounts: Accounts,
+    pub ghost usable: { Usable accounts },
+}
+
+impl UsableAccounts {
+    fn bounded(self) -> BoundedAccounts
+        ensures { result.accounts ≡ self.accounts }
+    {
+        BoundedAccounts {
+            accounts: self.accounts,
+        }
+    }
+
+    // Both shares over twice the premium: one division, so that nothing is rounded between the
+    // average and the rate.
+    fn year_rate(self, year: usize, group: usize) -> u64
+        requires { (year < 3)
+            × (group < 5)
+            × (0 < figure self.accounts.premium year group) }
+        ensures { (result ≡ year_rate self.accounts year group)
+            × (result ≤ 1900000000000000) }
+    {
+        let bounded = self.bounded();
+        let by_stock = bounded.share(bounded.stock(), year, group);
+        let by_claims = bounded.share(bounded.claims(), year, group);
+        (by_stock + by_claims) * 1_000_000 / (2 * bounded.premium().at(year, group))
+    }
+
+    fn rate(self, group: usize) -> u64
+        requires { group < 5 }
+        ensures { result ≡ accounts_rate self.accounts group }
+    {
+        if self.bounded().is_empty(group) {
+            return 0;
+        }
+        (self.year_rate(0, group) + self.year_rate(1, group) + self.year_rate(2, group)) / 3
+    }
+
+    pub fn rates(self) -> [u64; 5]
+        ensures { result ≡ rates_of self.accounts }
+    {
+        std::array::from_fn(|group| self.rate(group))
+    }
 }

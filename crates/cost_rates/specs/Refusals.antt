@@ -1,7 +1,6 @@
 -- The refusals of accounts: 17 over all figures first, 18 next, 19 last. None names a place.
 use Rattle.std.specs.Prelude.{ℕ}
-use Rattle.verdict.specs.Verdicts.{need, ◌and_then◌}
-use Rattle.verdict.specs.declared.Verdict.{Verdict}
+use Rattle.verdict.specs.Verdicts.{need, ◌and_then◌, Verdict}
 use Rattle.cost_rate_shares.specs.declared.Accounts.{Accounts}
 use Rattle.cost_rate_shares.specs.Rates.{rates_of}
 use Rattle.cost_rate_limits.specs.Limits.{all_at_most, within_limits}

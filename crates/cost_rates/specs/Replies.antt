@@ -1,9 +1,8 @@
 -- What the call answers, and what is promised of it.
-use Rattle.std.specs.Prelude.{ℕ, ◌+◌, ◌≤◌, ◌<◌, ◌≡◌, List, [], ◌∷◌}
+use Rattle.std.specs.Prelude.{ℕ, ◌+◌, ◌≤◌, ◌<◌, ◌≡◌, List, [], ◌∷◌, Ok, Err}
 use Rattle.lists.specs.AtMost.{AtMost}
 use Rattle.lists.specs.Sums.{sum_below}
-use Rattle.verdict.specs.declared.Verdict.{Verdict}
-use Rattle.verdict.specs.declared.Verdict.TheVariants.{Accepted, Refused}
+use Rattle.verdict.specs.Verdicts.{Verdict}
 use Rattle.cost_rate_shares.specs.declared.Accounts.{Accounts}
 use Rattle.cost_rate_shares.specs.Rates.{lowered, share, rates_of}
 use Rattle.cost_rates.specs.declared.CostRates.{CostRates}
@@ -11,9 +10,9 @@ use Rattle.cost_rates.specs.Refusals.{highest_rate, check_accounts}
 
 -- the five rates, or the refusal and 0 in every other field
 abbrev pub rates_reply_for : Verdict → List ℕ → CostRates
-rates_reply_for (Accepted n) rates = record { refusal = 0; place = 0; rates = rates }
-rates_reply_for (Refused number place) rates =
-    record { refusal = number; place = place; rates = 0 ∷ 0 ∷ 0 ∷ 0 ∷ 0 ∷ [] }
+rates_reply_for (Ok n) rates = record { refusal = 0; place = 0; rates = rates }
+rates_reply_for (Err r) rates =
+    record { refusal = r.number; place = r.place; rates = 0 ∷ 0 ∷ 0 ∷ 0 ∷ 0 ∷ [] }
 
 -- the reply to accounts
 unfoldable pub cost_rates : Accounts → CostRates

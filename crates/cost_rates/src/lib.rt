@@ -2,15 +2,15 @@
 #![tactic(auto)]
 
 ghost use Rattle.std.specs.Prelude.{◌≡◌, []};
-ghost use Rattle.verdict.specs.declared.Verdict.TheVariants.{Refused};
+ghost use Rattle.verdict.specs.Verdicts.{refused};
 ghost use Rattle.cost_rates.specs.Replies.{rates_reply_for, RatesContract};
 
 use cost_rate_divisors::can_compute;
 use cost_rate_limits::{all_at_most, within_limits};
-use cost_rate_shares::Accounts;
+use cost_rate_shares::{Accounts, BoundedAccounts, UsableAccounts};
 
 // Refusal and place are 0 where the accounts are accepted, and every rate is 0 where they are
-// refused.
+// refused. C has this struct as it is, so it is no `Result`.
 #[repr(C)]
 #[derive(Clone, Copy)]
 pub struct CostRates {
@@ -22,8 +22,9 @@ pub struct CostRates {
 
 const HIGHEST_RATE: u64 = 1_000_000;
 
+// A refusal, in the struct that C has.
 fn refused(number: u64) -> CostRates
-    ensures { result ≡ rates_reply_for (Refused number 0) [] }
+    ensures { result ≡ rates_reply_for (refused number 0) [] }
 {
     CostRates {
         refusal: number,
@@ -39,11 +40,13 @@ pub fn cost_rates(accounts: Accounts) -> CostRates
     if !within_limits(accounts) {
         return refused(17);
     }
-    if !can_compute(accounts) {
+    let bounded = BoundedAccounts { accounts };
+    if !can_compute(bounded) {
         return refused(18);
     }
-    let rates = cost_rate_shares::rates(accounts);
-    if !all_at_most(HIGHEST_RATE, &rates, 5) {
+    let usable = UsableAccounts { accounts };
+    let rates = usable.rates();
+    if !all_at_most(HIGHEST_RATE, &rates) {
         return refused(19);
     }
     CostRates {

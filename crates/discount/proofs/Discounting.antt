@@ -7,12 +7,13 @@ use Prim.Native.Nat.{ℕ, zero, suc, ◌+◌, ◌-◌, ◌*◌, ◌/◌, ◌≤�
 use native.Mathlib.Nat.{zero-div, div-le_of_le-mul, mul-le-mul_right, mul-div-mul_left, eq-or-lt_of_le, eq-zero-or-pos}
 use native.Mathlib.Numerals.{sub-one}
 use native.Mathlib.Omega.{arith}
-use lib.ListN.{get_or, set}
+use lib.ListN.{length, get_or, set}
 use lib.Seq.{get_or-set_other}
 use Rattle.lists.specs.AtMost.{AtMost}
 use Rattle.valuation.specs.Arithmetic.{rounded}
 use Rattle.valuation.specs.Steps.{discounted}
-use Rattle.discount.specs.Discount.{Stepped, Discounted, DiscountedIn}
+use Rattle.discount.specs.Discount.{divisors, Stepped, Discounted, DiscountedIn}
+use Rattle.discount.specs.declared.curve.YearDivisor.{YearDivisor}
 
 discounted_none : (d j x : ℕ) → j ≡ 0 → x ≡ discounted rounded d j x
 unfolding discounted
@@ -39,6 +40,12 @@ pub halved : (x d : ℕ) → 2 * x * 1_000_000 / (2 * d) ≡ x * 1_000_000 / d
 halved x d =
     let e : 2 * x * 1_000_000 ≡ 2 * (x * 1_000_000) = omega arith in
     ap (λ (n : ℕ). n / (2 * d)) e ∙ mul-div-mul_left (x * 1_000_000) d (omega arith)
+
+-- no divisor of a curve is below 990,000
+pub divisor_low : (curve : List YearDivisor) (k : ℕ) → k < length curve → 990_000 ≤ get_or (divisors curve) k 0
+divisor_low [] k h = absurd (omega arith)
+divisor_low (y ∷ curve) zero h = y.low
+divisor_low (y ∷ curve) (suc k) h = divisor_low curve k (omega arith)
 
 -- a step past a list's end is one on nothing
 step_at : (u : List ℕ) (k d : ℕ) → get_or (set u k (get_or u k 0 * 1_000_000 / d)) k 0 ≡ get_or u k 0 * 1_000_000 / d

@@ -1,1 +1,2 @@
 pub mod Discount
+pub mod Fraction

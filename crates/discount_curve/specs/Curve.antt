@@ -1,9 +1,9 @@
--- The divisors of a book's years with their fractions.
+-- The divisors of a book's years.
 use Rattle.std.specs.Prelude.{◌≡◌, List, ℕ, ◌<◌, get_or}
 use Rattle.valuation.specs.Portfolio.{divisor_of}
-use Rattle.discount.specs.Discount.{Divisor}
+use Rattle.discount.specs.declared.curve.YearDivisor.{YearDivisor}
+use Rattle.discount.specs.Discount.{divisors}
 
--- the divisors of the fifty years, and their fractions
-pub record CurveOf (b divisors fractions : List ℕ) : Type 0 where
-  pub divisors_are : (k : ℕ) → k < 50 → get_or divisors k 0 ≡ divisor_of b k
-  pub fractions_are : (k : ℕ) → k < 50 → Divisor (divisor_of b k) (get_or fractions k 0)
+-- the divisors of the fifty years are the book's
+abbrev pub CurveOf : List ℕ → List YearDivisor → Type 0
+CurveOf b curve = (k : ℕ) → k < 50 → get_or (divisors curve) k 0 ≡ divisor_of b k

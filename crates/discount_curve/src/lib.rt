@@ -1,4 +1,4 @@
-// The curve of a book: the divisor of each year and its fraction, from the rates in the header.
+// The curve of a book: the divisor of each year with its fraction, from the rates in the header.
 // Internal: it asks for an accepted book, which the calls above have from the check.
 #![tactic(auto)]
 
@@ -7,6 +7,9 @@ ghost use Rattle.arith.specs.Fractions.{IsFraction};
 ghost use Rattle.book.specs.Reading.{ValidBook};
 ghost use Rattle.valuation.specs.Portfolio.{divisor_of};
 ghost use Rattle.discount_curve.specs.Curve.{CurveOf};
+
+use discount::{Curve, YearDivisor};
+use std::array;
 
 // 1,000,000 more than the rate of year k. A rate below zero is stored in two's complement, so the
 // sum is cut to 32 bits.
@@ -34,28 +37,23 @@ pub fn fraction_of(d: u64) -> u64
     1_000_000 * whole + 1_000_000 * rest / d
 }
 
-// The divisor of each year, and the fraction by which an amount goes a year back: the divisions,
-// made once for all groups and settings.
-#[derive(Clone, Copy)]
-pub struct Curve {
-    pub divisors: [u64; 50],
-    pub fractions: [u64; 50],
+// The divisor of year k, and its fraction: the divisions, made once for all groups and settings.
+fn year_divisor(book: &[u8], k: usize) -> YearDivisor
+    requires { (k < 50)
+        × ValidBook 1 book.now }
+    ensures { result.divisor ≡ divisor_of book.now k }
+{
+    let divisor = divisor_of(book, k);
+    YearDivisor {
+        divisor,
+        fraction: fraction_of(divisor),
+    }
 }
 
 // The curve of a book.
 pub fn curve_of(book: &[u8]) -> Curve
     requires { ValidBook 1 book.now }
-    ensures { CurveOf book.now result.divisors result.fractions }
+    ensures { CurveOf book.now result }
 {
-    let mut divisors = [0u64; 50];
-    let mut fractions = [0u64; 50];
-    for k in 0usize..50 {
-        let d = divisor_of(book, k);
-        divisors[k] = d;
-        fractions[k] = fraction_of(d);
-    }
-    Curve {
-        divisors,
-        fractions,
-    }
+    array::from_fn(|k| year_divisor(book, k))
 }

@@ -13,12 +13,12 @@ use Rattle.cell_projection.specs.Tables.{amount_by, added, year_more}
 use Rattle.cell_projection.proofs.Years.{two_added, amount_premium, amount_claims}
 use Rattle.cell_projection.proofs.Ends.{each_five}
 use Rattle.five_cells.specs.Five.{five_in, FiveReady, AllInForce, next_five, ten_more}
-use Rattle.five_cells.specs.declared.Five.{Five}
+use Rattle.five_cells.specs.Five.{FiveCells}
 
 module _ (t : List ℕ) (r n : ℕ) where
   -- the start
   pub five_start : (c : Cell) → c ≡ record { row = r; inforce = n * 1_000_000_000 }
-      → ◌≡◌ {A = Five} (record { base = c; mortality_up = c; mortality_down = c; lapse_up = c; lapse_down = c })
+      → ◌≡◌ {A = FiveCells} (record { base = c; mortality_up = c; mortality_down = c; lapse_up = c; lapse_down = c })
       (five_in t r n 0)
   unfolding five_in
   five_start c e =
@@ -38,16 +38,16 @@ module _ (t : List ℕ) (r n : ℕ) where
     )
 
     -- with something in force in all of them each goes on
-    pub all_on : k < 50 → (c : Five) → c ≡ five_in t r n k → AllInForce c → (s : ℕ) → s < 5
+    pub all_on : k < 50 → (c : FiveCells) → c ≡ five_in t r n k → AllInForce c → (s : ℕ) → s < 5
         → in_force rounded (cell_in t r n s) k ≡ 0 → ⊥
     unfolding five_in state_in
     all_on h c e a =
         each_five (λ s. in_force rounded (cell_in t r n s) k ≡ 0 → ⊥)
-        (λ z. omega (arith, a.base, ap (λ (x : Five). x.base.inforce) e, z))
-        (λ z. omega (arith, a.mortality_is_up, ap (λ (x : Five). x.mortality_up.inforce) e, z))
-        (λ z. omega (arith, a.mortality_is_down, ap (λ (x : Five). x.mortality_down.inforce) e, z))
-        (λ z. omega (arith, a.lapse_up, ap (λ (x : Five). x.lapse_up.inforce) e, z))
-        (λ z. omega (arith, a.lapse_down, ap (λ (x : Five). x.lapse_down.inforce) e, z))
+        (λ z. omega (arith, a.base, ap (λ (x : FiveCells). x.base.inforce) e, z))
+        (λ z. omega (arith, a.mortality_is_up, ap (λ (x : FiveCells). x.mortality_up.inforce) e, z))
+        (λ z. omega (arith, a.mortality_is_down, ap (λ (x : FiveCells). x.mortality_down.inforce) e, z))
+        (λ z. omega (arith, a.lapse_up, ap (λ (x : FiveCells). x.lapse_up.inforce) e, z))
+        (λ z. omega (arith, a.lapse_down, ap (λ (x : FiveCells). x.lapse_down.inforce) e, z))
 
     -- what a projection adds
     one_added : (s : ℕ) → s < 5 → (g : ℕ → ℕ) → ((j : ℕ) → 10 * k ≤ j → g j ≡ amount_by (cell_in t r n) j)

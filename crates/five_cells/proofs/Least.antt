@@ -14,7 +14,7 @@ use Rattle.valuation.specs.Steps.{Cell, in_force}
 use Rattle.rate_table.specs.Rows.{rate, RowOrdered}
 use Rattle.cell.specs.States.{cell_in, state_in, Projectable}
 use Rattle.five_cells.specs.Five.{five_in, LeastInForce, AllInForce}
-use Rattle.five_cells.specs.declared.Five.{Five}
+use Rattle.five_cells.specs.Five.{FiveCells}
 
 share_mono : (a b x y : ℕ) → a ≤ b → x ≤ y → a * x / 1_000_000_000 ≤ b * y / 1_000_000_000
 share_mono a b x y h g = omega (arith, mul-le-mul h g)
@@ -95,11 +95,11 @@ module _ (t : List ℕ) (r n : ℕ) (s : Projectable t r n) where
     in_force_le (cell_in t r n 0) (cell_in t r n 4) refl 50 (λ k h. (base_survives k h).1) (λ k h. (lapses k h).1),
   )
 
-  pub all_in_force : (k : ℕ) → k ≤ 50 → (c : Five) → c ≡ five_in t r n k → LeastInForce c → AllInForce c
+  pub all_in_force : (k : ℕ) → k ≤ 50 → (c : FiveCells) → c ≡ five_in t r n k → LeastInForce c → AllInForce c
   unfolding Most five_in state_in
   all_in_force k h c e l =
-      let base = ap (λ (x : Five). x.base.inforce) e in
-      let more = ap (λ (x : Five). x.mortality_up.inforce) e in
+      let base = ap (λ (x : FiveCells). x.base.inforce) e in
+      let more = ap (λ (x : FiveCells). x.mortality_up.inforce) e in
       record {
         base = omega (arith, l.mortality_is_up, ordered.0 k h, base, more);
         mortality_is_up = l.mortality_is_up;
@@ -110,7 +110,7 @@ module _ (t : List ℕ) (r n : ℕ) (s : Projectable t r n) where
               ordered.0 k h,
               ordered.1 k h,
               ap
-                  (λ (x : Five). x.mortality_down.inforce) e,
+                  (λ (x : FiveCells). x.mortality_down.inforce) e,
               more,
             );
         lapse_up = l.lapse_up;
@@ -119,7 +119,7 @@ module _ (t : List ℕ) (r n : ℕ) (s : Projectable t r n) where
           l.mortality_is_up,
           ordered.0 k h,
           ordered.2 k h,
-          ap (λ (x : Five). x.lapse_down.inforce) e,
+          ap (λ (x : FiveCells). x.lapse_down.inforce) e,
           more,
         );
       }

@@ -2,11 +2,16 @@
 -- too.
 use Rattle.std.specs.Prelude.{List, ℕ, ◌*◌, ◌<◌}
 use Rattle.cell.specs.States.{state_in, next_year, Ready}
-use Rattle.five_cells.specs.declared.Five.{Five}
+use Rattle.settings.specs.declared.Five.{Five}
+use Rattle.cell.specs.declared.Cell.{Cell}
 use Rattle.cell_projection.specs.Tables.{two_more, year_more}
 
+-- the states in one year of a cell
+abbrev pub FiveCells : Type 0
+FiveCells = Five Cell
+
 -- the states in year k of the cell that starts at row r of the table t with n contracts
-unfoldable pub five_in : List ℕ → ℕ → ℕ → ℕ → Five
+unfoldable pub five_in : List ℕ → ℕ → ℕ → ℕ → FiveCells
 five_in t r n k = record {
   base = state_in t r n 0 k;
   mortality_up = state_in t r n 1 k;
@@ -16,7 +21,7 @@ five_in t r n k = record {
 }
 
 -- its states in year 0: the same in all five
-abbrev pub start_of : ℕ → ℕ → Five
+abbrev pub start_of : ℕ → ℕ → FiveCells
 start_of r n = record {
   base = record { row = r; inforce = n * 1_000_000_000 };
   mortality_up = record { row = r; inforce = n * 1_000_000_000 };
@@ -26,7 +31,7 @@ start_of r n = record {
 }
 
 -- states that can go on
-pub record FiveReady (t : List ℕ) (c : Five) : Type 0 where
+pub record FiveReady (t : List ℕ) (c : FiveCells) : Type 0 where
   pub base : Ready t c.base
   pub mortality_is_up : Ready t c.mortality_up
   pub mortality_is_down : Ready t c.mortality_down
@@ -34,7 +39,7 @@ pub record FiveReady (t : List ℕ) (c : Five) : Type 0 where
   pub lapse_down : Ready t c.lapse_down
 
 -- the states a year after year k
-unfoldable pub next_five : List ℕ → ℕ → Five → Five
+unfoldable pub next_five : List ℕ → ℕ → FiveCells → FiveCells
 next_five t k c = record {
   base = next_year t 0 k c.base;
   mortality_up = next_year t 1 k c.mortality_up;
@@ -44,7 +49,7 @@ next_five t k c = record {
 }
 
 -- the same for all five
-unfoldable pub ten_more : List ℕ → ℕ → Five → List ℕ → List ℕ
+unfoldable pub ten_more : List ℕ → ℕ → FiveCells → List ℕ → List ℕ
 ten_more t k c u =
     year_more t 4 k c.lapse_down
     (year_more t 3 k c.lapse_up
@@ -55,12 +60,12 @@ unfoldable pub five_times_more : List ℕ → ℕ → ℕ → List ℕ
 five_times_more u x y = two_more (two_more (two_more (two_more (two_more u 0 x y) 2 x y) 4 x y) 6 x y) 8 x y
 
 -- something is in force with more deaths and with more lapses, which leave the least
-pub record LeastInForce (c : Five) : Type 0 where
+pub record LeastInForce (c : FiveCells) : Type 0 where
   pub mortality_is_up : 0 < c.mortality_up.inforce
   pub lapse_up : 0 < c.lapse_up.inforce
 
 -- something is in force in all five
-pub record AllInForce (c : Five) : Type 0 where
+pub record AllInForce (c : FiveCells) : Type 0 where
   pub base : 0 < c.base.inforce
   pub mortality_is_up : 0 < c.mortality_up.inforce
   pub mortality_is_down : 0 < c.mortality_down.inforce

@@ -12,27 +12,17 @@ ghost use Rattle.five_cells.specs.Five.{FiveReady, next_five, ten_more};
 use cell::Cell;
 use cell_projection::{YearSums, one_year};
 use rate_table::RateTable;
-use settings_columns::FiveColumns;
-
-// A cell in one year of the five projections: of the base, with more and fewer deaths, with more
-// and fewer lapses.
-#[derive(Clone, Copy)]
-pub struct Five {
-    pub base: Cell,
-    pub mortality_up: Cell,
-    pub mortality_down: Cell,
-    pub lapse_up: Cell,
-    pub lapse_down: Cell,
-}
+use settings::{ByPeriod, Five};
+use settings_columns::Columns;
 
 // One year of all five. None waits for another.
 pub fn year(
     rows: &RateTable,
-    cells: Five,
-    columns: FiveColumns,
+    cells: Five<Cell>,
+    columns: Five<ByPeriod<Columns>>,
     k: usize,
     sums: &mut YearSums,
-) -> Five
+) -> Five<Cell>
     requires { FiveReady rows.now cells
         × (k < year_count)
         × AtMost 3000000000000000 table_numbers sums.old

@@ -10,9 +10,8 @@ ghost use Rattle.five_cells.specs.Five.{start_of, next_five, ten_more, five_time
 
 use cell::Cell;
 use cell_projection::{ModelPoint, YearSums, add_at};
-use five_cells::Five;
 use rate_table::{CLAIMS, COLUMNS, PREMIUM, RATES, RateTable};
-use settings_columns::FiveColumns;
+use settings::Five;
 
 // Adds x to number j of the table, and y to the next.
 fn add_two(sums: &mut YearSums, j: usize, x: u64, y: u64)
@@ -42,7 +41,7 @@ fn add_year_0(sums: &mut YearSums, premium: u64, claims: u64)
 
 // Year 0 of all five. A whole number of contracts is in force, so premium and claims are so many
 // times those of one: no share of them is taken.
-pub fn year_0(rows: &RateTable, point: ModelPoint, sums: &mut YearSums) -> Five
+pub fn year_0(rows: &RateTable, point: ModelPoint, sums: &mut YearSums) -> Five<Cell>
     requires { Projectable rows.now point.row point.count
         × AtMost 2000000000000000 table_numbers sums.old }
     ensures { (result ≡ next_five rows.now 0 (start_of point.row point.count))
@@ -52,7 +51,7 @@ pub fn year_0(rows: &RateTable, point: ModelPoint, sums: &mut YearSums) -> Five
     let premium = point.count * rows[COLUMNS * point.row + PREMIUM + RATES];
     let claims = point.count * rows[COLUMNS * point.row + CLAIMS + RATES];
     add_year_0(sums, premium, claims);
-    let columns = FiveColumns::new();
+    let columns = settings_columns::five_columns();
     let cell = Cell::new(point.row, point.count);
     let base = cell.next_year(rows, columns.base, 0);
     let mortality_up = cell.next_year(rows, columns.mortality_up, 0);

@@ -3,10 +3,10 @@ use Rattle.std.specs.Prelude.{List, ◌≡◌, ℕ}
 use Rattle.cell.specs.States.{cell_in}
 use Rattle.cell_projection.specs.Tables.{table_numbers, added, amount_by}
 use Rattle.cell_projection.specs.Ends.{years_in_force}
-use Rattle.five_projections.specs.declared.Counts.{Counts}
+use Rattle.settings.specs.declared.Five.{Five}
 
 -- from year 0 on to the end of each: what the fifty years add, and the years of each projection
-pub record Projected (t : List ℕ) (r n : ℕ) (years : Counts) (u v : List ℕ) : Type 0 where
+pub record Projected (t : List ℕ) (r n : ℕ) (years : Five ℕ) (u v : List ℕ) : Type 0 where
   pub sums : v ≡ added (amount_by (cell_in t r n)) table_numbers u
   pub base_years : years.base ≡ years_in_force (cell_in t r n 0)
   pub mortality_up_years : years.mortality_up ≡ years_in_force (cell_in t r n 1)

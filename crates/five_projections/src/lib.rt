@@ -3,7 +3,7 @@
 // Internal: the functions ask for rows as `chain_rows` reads them from an accepted book.
 #![tactic(auto)]
 
-ghost use Rattle.std.specs.Prelude.{◌≡◌, ◌<◌, ◌≤◌};
+ghost use Rattle.std.specs.Prelude.{IfSome, ◌≡◌, ◌<◌, ◌≤◌};
 ghost use Rattle.lists.specs.AtMost.{AtMost};
 ghost use Rattle.settings_columns.specs.Columns.{columns_of};
 ghost use Rattle.cell.specs.States.{cell_in, Projectable};
@@ -13,29 +13,18 @@ ghost use Rattle.five_projections.specs.Projected.{Projected};
 use cell_projection::{CellInYear, ModelPoint, YearSums, alone, project_in};
 use five_side_by_side::side_by_side;
 use rate_table::RateTable;
-use settings_columns::{Columns, FiveColumns};
-
-// In place of a projection: all five.
-pub const ALL: usize = 5;
-
-// How many years each of the five has something in force.
-#[derive(Clone, Copy)]
-pub struct Counts {
-    pub base: usize,
-    pub mortality_up: usize,
-    pub mortality_down: usize,
-    pub lapse_up: usize,
-    pub lapse_down: usize,
-}
+use settings::{ByPeriod, Five};
+use settings_columns::Columns;
 
 // The projection of a model point: all five side by side, and then each alone.
-pub fn project(rows: &RateTable, point: ModelPoint, sums: &mut YearSums) -> Counts
+// Returns how many years each has something in force.
+pub fn project(rows: &RateTable, point: ModelPoint, sums: &mut YearSums) -> Five<usize>
     requires { Projectable rows.now point.row point.count
         × AtMost 2000000000000000 table_numbers sums.old }
     ensures { Projected rows.now point.row point.count result sums.old
         sums.new }
 {
-    let columns = FiveColumns::new();
+    let columns = settings_columns::five_columns();
     let stop = side_by_side(rows, point, sums);
     let k = stop.k;
     let cells = stop.cells;
@@ -77,7 +66,7 @@ pub fn project(rows: &RateTable, point: ModelPoint, sums: &mut YearSums) -> Coun
         CellInYear { k, cell },
         sums,
     );
-    Counts {
+    Five {
         base,
         mortality_up,
         mortality_down,
@@ -86,26 +75,26 @@ pub fn project(rows: &RateTable, point: ModelPoint, sums: &mut YearSums) -> Coun
     }
 }
 
-// A model point in one projection, or in all five.
+// A model point in one projection, which has these columns, or, where none is named, in all five.
 pub fn project_by(
     rows: &RateTable,
     point: ModelPoint,
-    one: Columns,
-    which: usize,
+    one: ByPeriod<Columns>,
+    which: Option<usize>,
     sums: &mut YearSums,
 )
     requires { Projectable rows.now point.row point.count
-        × (which ≤ 5)
+        × IfSome which (λ s. s < 5)
         × AtMost 2000000000000000 table_numbers sums.old
-        × (which < 5 → one ≡ columns_of which) }
+        × IfSome which (λ s. one ≡ columns_of s) }
     ensures { sums.new ≡ added
         (chosen which (amount_by (cell_in rows.now point.row point.count)))
         table_numbers
         sums.old }
 {
-    if which == ALL {
+    let Some(projection) = which else {
         project(rows, point, sums);
         return;
-    }
-    project_in(rows, point, one, which, sums);
+    };
+    project_in(rows, point, one, projection, sums);
 }

@@ -15,7 +15,7 @@ use Rattle.cell_projection.proofs.Years.{added_most, late_low, late_high, late_s
 use Rattle.cell_projection.proofs.Ends.{going_start, going_on}
 use Rattle.cell_projection.proofs.Single.{amount_le}
 use Rattle.five_cells.specs.Five.{start_of, FiveReady, AllInForce, next_five, ten_more}
-use Rattle.five_cells.specs.declared.Five.{Five}
+use Rattle.five_cells.specs.Five.{FiveCells}
 use Rattle.five_cells.proofs.Fives.{five_start, five_next, all_on, ten_added, five_ready}
 use Rattle.five_side_by_side.specs.SideBySide.{Reached, ProjectedTo}
 use Rattle.five_side_by_side.specs.declared.Stop.{Stop}
@@ -35,11 +35,11 @@ late_le f z a h j l = by (ltb j a) refl
     by false e = omega (arith, late_high a f j (ltb-false j a e), h j l)
 
 -- What a run over the years from m on keeps in year k: all five have come there, and the table u has become v.
-abbrev pub Run : List ℕ → ℕ → ℕ → ℕ → ℕ → Five → List ℕ → List ℕ → Type 0
+abbrev pub Run : List ℕ → ℕ → ℕ → ℕ → ℕ → FiveCells → List ℕ → List ℕ → Type 0
 Run t r n m k cells u v =
     (m ≤ k) × (k ≤ 50) × Reached t r n k cells × (v ≡ added (late (10 * m) (amount_by (cell_in t r n))) (10 * k) u)
 
-module _ (t : List ℕ) (r n m k : ℕ) (cells : Five) (u v : List ℕ) (run : Run t r n m k cells u v) where
+module _ (t : List ℕ) (r n m k : ℕ) (cells : FiveCells) (u v : List ℕ) (run : Run t r n m k cells u v) where
   -- the next year can be computed
   pub run_ready : Projectable t r n → k < 50 → FiveReady t cells
   run_ready s h = rw run.2.states (five_ready t r n s k h)
@@ -50,7 +50,7 @@ module _ (t : List ℕ) (r n m k : ℕ) (cells : Five) (u v : List ℕ) (run : R
       (λ i l. late_le _ _ (10 * m) (amount_le t r n s) i (omega (arith, run.1))) a)
 
   -- and it is then computed
-  pub run_more : k < 50 → AllInForce cells → (cells' : Five) (v' : List ℕ) → cells' ≡ next_five t k cells
+  pub run_more : k < 50 → AllInForce cells → (cells' : FiveCells) (v' : List ℕ) → cells' ≡ next_five t k cells
       → v' ≡ ten_more t k cells v → Run t r n m (k + 1) cells' u v'
   run_more h all cells' v' ec ev = (
     omega (arith, run.0),
@@ -75,14 +75,14 @@ module _ (t : List ℕ) (r n : ℕ) (some : 0 < n) where
     lapse_down = omega arith;
   }
 
-  pub first_run : (cells : Five) (u v : List ℕ) → cells ≡ next_five t 0 (start_of r n)
+  pub first_run : (cells : FiveCells) (u v : List ℕ) → cells ≡ next_five t 0 (start_of r n)
       → v ≡ ten_more t 0 (start_of r n) u → Run t r n 0 1 cells u v
   first_run cells u v ec ev =
       run_more t r n 0 0 (start_of r n) u u (omega arith, omega arith, reached_start t r n _ refl, late_start _ _ _)
       (omega arith) start_in_force cells v ec ev
 
 -- one run, and then what comes after it
-pub run_then : (t : List ℕ) (r n m to : ℕ) (cells : Five) (s : Stop) (u v w : List ℕ) → Run t r n 0 m cells u v
+pub run_then : (t : List ℕ) (r n m to : ℕ) (cells : FiveCells) (s : Stop) (u v w : List ℕ) → Run t r n 0 m cells u v
     → ProjectedTo t r n m to s v w → ProjectedTo t r n 0 to s u w
 run_then t r n m to cells s u v w run e = record {
   sums = joined _ m s.k u v w e.since run.3 e.sums;

@@ -3,12 +3,11 @@ use Rattle.std.specs.Prelude.{List, ◌≡◌, ℕ, ◌*◌, ◌<◌, ◌≤◌}
 use Rattle.cell.specs.States.{cell_in}
 use Rattle.cell_projection.specs.Tables.{a_year, added, late, amount_by}
 use Rattle.cell_projection.specs.Ends.{Going}
-use Rattle.five_cells.specs.Five.{five_in}
-use Rattle.five_cells.specs.declared.Five.{Five}
+use Rattle.five_cells.specs.Five.{FiveCells, five_in}
 use Rattle.five_side_by_side.specs.declared.Stop.{Stop}
 
 -- all five have come to year m
-pub record Reached (t : List ℕ) (r n m : ℕ) (cells : Five) : Type 0 where
+pub record Reached (t : List ℕ) (r n m : ℕ) (cells : FiveCells) : Type 0 where
   pub states : cells ≡ five_in t r n m
   pub going : (s : ℕ) → s < 5 → Going (cell_in t r n s) m
 

@@ -12,14 +12,14 @@ ghost use Rattle.five_side_by_side.specs.SideBySide.{Reached, ProjectedTo};
 
 use cell::Cell;
 use cell_projection::{FIRST_YEARS, ModelPoint, YEARS, YearSums};
-use five_cells::{Five, year};
+use five_cells::year;
 use five_cells_year_0::year_0;
 use rate_table::RateTable;
-use settings_columns::FiveColumns;
+use settings::Five;
 
 // Whether something is in force in the two that leave the least, with more deaths and with more
 // lapses: then it is in all.
-fn all(cells: Five) -> bool
+fn all(cells: Five<Cell>) -> bool
     ensures { result ≡ true → LeastInForce cells }
 {
     0 < cells.mortality_up.inforce && 0 < cells.lapse_up.inforce
@@ -29,7 +29,7 @@ fn all(cells: Five) -> bool
 #[derive(Clone, Copy)]
 pub struct Stop {
     pub k: usize,
-    pub cells: Five,
+    pub cells: Five<Cell>,
 }
 
 // The years of all five side by side, from one to before another, while all have something in
@@ -37,7 +37,7 @@ pub struct Stop {
 fn together(
     rows: &RateTable,
     point: ModelPoint,
-    start: Five,
+    start: Five<Cell>,
     from: usize,
     to: usize,
     sums: &mut YearSums,
@@ -50,9 +50,10 @@ fn together(
     ensures { ProjectedTo rows.now point.row point.count from to result
         sums.old sums.new }
 {
-    let columns = FiveColumns::new();
+    let columns = settings_columns::five_columns();
     let mut cells = start;
     let mut k = from;
+    // It may end before `to`: a `for` with a `break` would be no plainer.
     while k < to && all(cells) {
         cells = year(rows, cells, columns, k, sums);
         k += 1;

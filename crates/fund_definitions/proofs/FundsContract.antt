@@ -6,7 +6,7 @@ use Prim.Native.Nat.{ℕ, ◌+◌, ◌<◌, ◌≤◌}
 use lib.IntN.{ℤ, pos}
 use lib.ListN.{length, get_or}
 use Rattle.verdict.specs.Verdicts.{refusal_of, count_of}
-use Rattle.verdict.specs.declared.Verdict.TheVariants.{Accepted}
+use Rattle.std.specs.Prelude.{Ok}
 use Rattle.verdict.proofs.Verdicts.{then_left, then_right, ZeroAccepts}
 use Rattle.valuation.specs.Portfolio.{NoRateBelowZero}
 use Rattle.valuation.specs.Bounds.{Within}
@@ -21,7 +21,7 @@ use Rattle.fund_definitions.proofs.Joined.{arguments_good, zero_accepts_accepted
 use Rattle.fund_definitions.proofs.Halves.{half_totals, first_number, second_number, first_apart, second_apart}
 
 -- an accepted fund
-module _ (numbers : ℕ) (table fund : List ℕ) (n : ℕ) (accepted : fund_reply numbers table fund ≡ Accepted n) where
+module _ (numbers : ℕ) (table fund : List ℕ) (n : ℕ) (accepted : fund_reply numbers table fund ≡ Ok n) where
   accepted_capacity : 16 ≤ numbers
   unfolding fund_reply
   accepted_capacity = (arguments_good numbers table _ (then_left _ _ _ (then_left _ _ _ accepted))).0
@@ -60,12 +60,12 @@ module _ (table first second : List ℕ) (before after : List ℤ) (reply : Fund
   -- an accepted fund's numbers stand in its half
   module _ (setting : ℕ) (few : setting < 8) where
     first_accepted : refusal_of reply.first ≡ 0
-        → fund_reply (length before) table first ≡ Accepted (count_of reply.first)
+        → fund_reply (length before) table first ≡ Ok (count_of reply.first)
     unfolding ZeroAccepts funds_reply
     first_accepted none = rw reply_is (fund_told (length before) table first (rw reply_is at none))
 
     second_accepted : refusal_of reply.second ≡ 0
-        → fund_reply (length before) table second ≡ Accepted (count_of reply.second)
+        → fund_reply (length before) table second ≡ Ok (count_of reply.second)
     unfolding ZeroAccepts funds_reply
     second_accepted none = rw reply_is (fund_told (length before) table second (rw reply_is at none))
 

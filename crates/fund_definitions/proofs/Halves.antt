@@ -10,9 +10,9 @@ use borrow.Author.Tests.{lt-leb}
 use lib.IntN.{ℤ, pos}
 use lib.ListN.{length, get_or, take, drop, length-drop, get_or-append}
 use lib.Seq.{length-take-le, take_at, drop_at, drop-drop, get_or-drop}
-use Rattle.verdict.specs.Verdicts.{need, ◌and_then◌}
-use Rattle.verdict.specs.declared.Verdict.{Verdict}
-use Rattle.verdict.specs.declared.Verdict.TheVariants.{Accepted, Refused}
+use Rattle.verdict.specs.Verdicts.{need, first_refusal, Verdict, refused}
+use Rattle.std.specs.Prelude.{Ok, Err}
+use Rattle.verdict.specs.declared.Refusal.{Refusal}
 use Rattle.book.specs.Check.{check_book}
 use Rattle.valuation.specs.Totals.{totals_of, totals_for, totals_reply}
 use Rattle.buffer.proofs.Digits.{le_or_lt}
@@ -24,7 +24,7 @@ use Rattle.fund_definitions.specs.declared.FundsReply.{FundsReply}
 
 -- an accepted fund's half is its totals
 pub half_totals : (numbers : ℕ) (table fund : List ℕ) (n : ℕ) (half : List ℤ)
-    → fund_reply numbers table fund ≡ Accepted n
+    → fund_reply numbers table fund ≡ Ok n
     → fund_half numbers table fund half ≡ (totals_reply (joined_book table fund)).totals
 unfolding fund_half
 half_totals numbers table fund n half e = rw e
@@ -35,8 +35,8 @@ unfolding totals_reply
 totals_eight b = by (check_book 1 b) _ _
   where
     by : (v : Verdict) (n : ℕ) (ds : List ℤ) → length (totals_for v n (totals_of b) ds).totals ≡ 8
-    by (Accepted m) n ds = refl
-    by (Refused q p) n ds = refl
+    by (Ok m) n ds = refl
+    by (Err r) n ds = refl
 
 half_length : (numbers : ℕ) (table fund : List ℕ) (half : List ℤ) → length half ≡ 8
     → length (fund_half numbers table fund half) ≡ 8
@@ -44,8 +44,8 @@ unfolding fund_half
 half_length numbers table fund half eight = by (fund_reply numbers table fund)
   where
     by : (v : Verdict) → length (half_for v (totals_reply (joined_book table fund)).totals half) ≡ 8
-    by (Accepted n) = totals_eight (joined_book table fund)
-    by (Refused q p) = eight
+    by (Ok n) = totals_eight (joined_book table fund)
+    by (Err r) = eight
 
 -- lists of two halves and more, taken apart
 module _ (x y rest : List ℤ) (eight : length x ≡ 8) (eight' : length y ≡ 8) where
@@ -108,17 +108,17 @@ module _ (table : List ℕ) (before : List ℤ) where
     second_number = second_at first_after second_after (drop 16 before) first_eight second_eight
 
   -- where the buffer is too short nothing changes
-  short_reply : (fund : List ℕ) → length before < 16 → fund_reply (length before) table fund ≡ Refused 16 0
-  unfolding fund_reply check_lent need ◌and_then◌
+  short_reply : (fund : List ℕ) → length before < 16 → fund_reply (length before) table fund ≡ refused 16 0
+  unfolding fund_reply check_lent need first_refusal
   short_reply fund h = rw (lt-leb _ _ h)
 
-  pub both_refused : (first second : List ℕ) (q p : ℕ) → fund_reply (length before) table first ≡ Refused q p
-      → fund_reply (length before) table second ≡ Refused q p → funds_numbers table first second before ≡ before
+  pub both_refused : (first second : List ℕ) (r : Refusal) → fund_reply (length before) table first ≡ Err r
+      → fund_reply (length before) table second ≡ Err r → funds_numbers table first second before ≡ before
   unfolding funds_numbers fund_half
-  both_refused first second q p e f = rw (e, f) (put_back 8 before)
+  both_refused first second r e f = rw (e, f) (put_back 8 before)
 
   short_kept : (first second : List ℕ) → length before < 16 → funds_numbers table first second before ≡ before
-  short_kept first second h = both_refused first second 16 0 (short_reply first h) (short_reply second h)
+  short_kept first second h = both_refused first second _ (short_reply first h) (short_reply second h)
 
   -- Apart: the second fund's file bears neither on the first's reply nor on its half, and the other way round.
   pub first_apart : (first second other : List ℕ)

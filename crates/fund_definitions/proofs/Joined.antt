@@ -9,9 +9,9 @@ use borrow.Author.Tests.{leb-true, eqb-true, le-leb, lt-leb, eq-eqb, ne_eqb}
 use lib.Dec.{leb, eqb}
 use lib.ListN.{length, take, drop, length-append, length-drop, get_or-append}
 use lib.Seq.{length-take-le, get_or-take, take_all, take_at}
-use Rattle.verdict.specs.Verdicts.{need, ◌and_then◌, count_of}
-use Rattle.verdict.specs.declared.Verdict.{Verdict}
-use Rattle.verdict.specs.declared.Verdict.TheVariants.{Accepted, Refused}
+use Rattle.verdict.specs.Verdicts.{need, first_refusal, count_of, ◌and_then◌, Verdict, refused}
+use Rattle.std.specs.Prelude.{Ok, Err}
+use Rattle.verdict.specs.declared.Refusal.{Refusal}
 use Rattle.verdict.proofs.Verdicts.{need_true, then_left, then_right, ZeroAccepts, zero_accepts_need, zero_accepts_then}
 use Rattle.le_bytes.proofs.Same.{Same}
 use Rattle.book.specs.Layout.{most_size, last_class}
@@ -29,7 +29,7 @@ use Rattle.buffer.proofs.Digits.{from_start, kept}
 use Rattle.fund_definitions.specs.Fund.{front_size, table_size, joined_book, verdict_in, check_lent, fund_reply}
 
 -- a refusal is no acceptance
-pub never_accepted : {q p n : ℕ} → Refused q p ≡ Accepted n → ⊥
+pub never_accepted : {r : Refusal} {n : ℕ} → Err r ≡ Ok n → ⊥
 never_accepted e = let z : ◌≡◌ {A = ℕ} 0 1 = cc in omega arith
 
 module _ (table fund : List ℕ) (whole : front_size ≤ length fund) where
@@ -76,32 +76,32 @@ zero_accepts_checked b = by (check_book 1 b) refl
   where
     by : (v : Verdict) → check_book 1 b ≡ v
         → verdict_in (totals_for v (held_in_all b (last_class 1)) (totals_of b) (differences_of b)) ≡ v
-    by (Accepted n) e = ap Accepted (sym (accepted_held 1 b n e))
-    by (Refused q p) e =
-        rw (ne_eqb q 0 (λ z. never_accepted (sym e ∙ zero_accepted 1 b (rw e z))))
+    by (Ok n) e = ap Ok (sym (accepted_held 1 b n e))
+    by (Err r) e =
+        rw (ne_eqb r.number 0 (λ z. never_accepted (sym e ∙ zero_accepted 1 b (rw e z))))
 
 -- an accepted reply of Totals
-pub zero_accepts_accepted : (reply : TotalsReply) (n : ℕ) → verdict_in reply ≡ Accepted n → (reply.refusal ≡ 0)
+pub zero_accepts_accepted : (reply : TotalsReply) (n : ℕ) → verdict_in reply ≡ Ok n → (reply.refusal ≡ 0)
     × (reply.n ≡ n)
 zero_accepts_accepted reply n = by (eqb reply.refusal 0) refl
   where
     by : (t : Bool) → eqb reply.refusal 0 ≡ t
-        → cond t (Accepted reply.n) (Refused reply.refusal reply.place) ≡ Accepted n
+        → cond t (Ok reply.n) (refused reply.refusal reply.place) ≡ Ok n
         → (reply.refusal ≡ 0) × (reply.n ≡ n)
     by true e a = (eqb-true _ _ e, ap count_of a)
     by false e a = absurd (never_accepted a)
 
 -- what is tested for both funds
-pub arguments_good : (numbers : ℕ) (table : List ℕ) (m : ℕ) → check_lent numbers table ≡ Accepted m
+pub arguments_good : (numbers : ℕ) (table : List ℕ) (m : ℕ) → check_lent numbers table ≡ Ok m
     → (16 ≤ numbers) × (length table ≡ table_size)
 unfolding check_lent
 arguments_good numbers table m e =
     (leb-true _ _ (need_true _ _ _ _ (then_left _ _ _ e)), eqb-true _ _ (need_true _ _ _ _ (then_right _ _ _ e)))
 
-pub arguments_bad : (numbers : ℕ) (table fund : List ℕ) (q p : ℕ) → check_lent numbers table ≡ Refused q p
-    → fund_reply numbers table fund ≡ Refused q p
-unfolding fund_reply ◌and_then◌
-arguments_bad numbers table fund q p e = rw e
+pub arguments_bad : (numbers : ℕ) (table fund : List ℕ) (r : Refusal) → check_lent numbers table ≡ Err r
+    → fund_reply numbers table fund ≡ Err r
+unfolding fund_reply first_refusal
+arguments_bad numbers table fund r e = rw e
 
 -- As-checked: after the tests of its own, a fund's reply is what the check says of its joined book.
 pub as_checked : (numbers : ℕ) (table fund : List ℕ)
@@ -123,13 +123,13 @@ fund_told numbers table fund =
 
 -- a fund's reply where the buffer and the table file are as they should be
 module _ (numbers : ℕ) (table fund : List ℕ) (capacity : 16 ≤ numbers) (sized : length table ≡ table_size) where
-  pub reply_short : length fund < front_size → fund_reply numbers table fund ≡ Refused 1 (length fund)
-  unfolding fund_reply check_lent need ◌and_then◌
+  pub reply_short : length fund < front_size → fund_reply numbers table fund ≡ refused 1 (length fund)
+  unfolding fund_reply check_lent need first_refusal
   reply_short h = rw (le-leb _ _ capacity, eq-eqb _ _ sized, lt-leb _ _ h)
 
   pub reply_joined : front_size ≤ length fund
       → fund_reply numbers table fund ≡ verdict_in (totals_reply (joined_book table fund))
-  unfolding fund_reply check_lent need ◌and_then◌
+  unfolding fund_reply check_lent need first_refusal
   reply_joined h = rw (le-leb _ _ capacity, eq-eqb _ _ sized, le-leb _ _ h)
 
   -- a file that is longer than any book's is refused by the header that it begins with
@@ -140,7 +140,7 @@ module _ (numbers : ℕ) (table fund : List ℕ) (capacity : 16 ≤ numbers) (si
       (joined_long table fund h (omega arith))
 
   -- and is not accepted
-  pub never_long : most_size < length fund + table_size → (n : ℕ) → fund_reply numbers table fund ≡ Accepted n → ⊥
+  pub never_long : most_size < length fund + table_size → (n : ℕ) → fund_reply numbers table fund ≡ Ok n → ⊥
   never_long long n e =
       let b = joined_book table fund in
       let whole : front_size ≤ length fund = omega arith in

@@ -1,9 +1,7 @@
 -- One fund on the tables of a table file (W-208): the book that a fund file and the table file make together, the
 -- fund's reply and half. What is said of a joined book is what Totals says of it.
-use Rattle.std.specs.Prelude.{cond, ℕ, ◌-◌, List, ◌++◌, leb, eqb, ℤ, length, take, drop}
-use Rattle.verdict.specs.Verdicts.{need, ◌and_then◌}
-use Rattle.verdict.specs.declared.Verdict.{Verdict}
-use Rattle.verdict.specs.declared.Verdict.TheVariants.{Accepted, Refused}
+use Rattle.std.specs.Prelude.{cond, ℕ, ◌-◌, List, ◌++◌, leb, eqb, ℤ, length, take, drop, Ok, Err}
+use Rattle.verdict.specs.Verdicts.{need, ◌and_then◌, Verdict, refused}
 use Rattle.book.specs.Layout.{header_size, curve_place}
 use Rattle.valuation.specs.Totals.{totals_reply}
 use Rattle.valuation.specs.declared.TotalsReply.{TotalsReply}
@@ -21,7 +19,7 @@ joined_book table fund = take front_size fund ++ table ++ drop front_size fund
 
 -- what a reply of Totals says: n, or the refusal
 abbrev pub verdict_in : TotalsReply → Verdict
-verdict_in reply = cond (eqb reply.refusal 0) (Accepted reply.n) (Refused reply.refusal reply.place)
+verdict_in reply = cond (eqb reply.refusal 0) (Ok reply.n) (refused reply.refusal reply.place)
 
 -- for both funds, where so many numbers are passed: 16 under 16 of them, 24 a table file of another size
 unfoldable pub check_lent : ℕ → List ℕ → Verdict
@@ -39,8 +37,8 @@ fund_reply numbers table fund =
 
 -- a fund's half afterwards: the eight totals of its joined book; as it was where refused
 abbrev pub half_for : Verdict → List ℤ → List ℤ → List ℤ
-half_for (Accepted n) totals half = totals
-half_for (Refused number place) totals half = half
+half_for (Ok n) totals half = totals
+half_for (Err r) totals half = half
 
 unfoldable pub fund_half : ℕ → List ℕ → List ℕ → List ℤ → List ℤ
 fund_half numbers table fund half =

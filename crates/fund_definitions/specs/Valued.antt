@@ -1,6 +1,6 @@
 -- What valuing one fund gives: its reply, and the caller's numbers with its half from a place on.
 use Rattle.std.specs.Prelude.{ℕ, ◌+◌, ◌≡◌, List, ◌++◌, ℤ, length, take, drop}
-use Rattle.verdict.specs.declared.Verdict.{Verdict}
+use Rattle.verdict.specs.Verdicts.{Verdict}
 use Rattle.fund_definitions.specs.Fund.{fund_reply, fund_half}
 
 pub record FundValued (table fund : List ℕ) (at : ℕ) (before after : List ℤ) (reply : Verdict) : Type 0 where

@@ -13,7 +13,7 @@ use book::MOST_SIZE;
 use buffer::put_bytes;
 use fund_definitions::{FRONT_SIZE, TABLE_SIZE};
 use valuation::TotalsReply;
-use verdict::Verdict;
+use verdict::{Refusal, Verdict, need};
 
 // Writes a fund's joined book from the start of the caller's buffer, and answers its length.
 fn join(book: &mut [u8], table: &[u8], fund: &[u8]) -> usize
@@ -43,9 +43,7 @@ fn put_totals(numbers: &mut [i64], at: usize, totals: [i64; 8])
     ensures { let before = numbers.old in
         numbers.new ≡ take at before ++ totals ++ drop (at + 8) before }
 {
-    for setting in 0usize..8 {
-        numbers[at + setting] = totals[setting];
-    }
+    numbers[at..at + 8].copy_from_slice(&totals);
 }
 
 // One fund: its reply, and its half in the eight numbers from `at` on.
@@ -56,9 +54,7 @@ pub fn value_fund(table: &[u8], fund: &[u8], numbers: &mut [i64], at: usize) -> 
     ensures { FundValued table.now fund.now at numbers.old
         numbers.new result }
 {
-    if fund.len() < FRONT_SIZE {
-        return Verdict::Refused(1, fund.len());
-    }
+    need(FRONT_SIZE <= fund.len(), 1, fund.len())?;
     let size = fund.len() + TABLE_SIZE;
     // No book is so long: its header refuses it, and the fund file begins with the header.
     if MOST_SIZE < size {
@@ -68,7 +64,10 @@ pub fn value_fund(table: &[u8], fund: &[u8], numbers: &mut [i64], at: usize) -> 
     if reply.refusal == 0 {
         let totals = reply.totals;
         put_totals(numbers, at, totals);
-        return Verdict::Accepted(reply.n);
+        return Ok(reply.n);
     }
-    Verdict::Refused(reply.refusal, reply.place)
+    Err(Refusal {
+        number: reply.refusal,
+        place: reply.place,
+    })
 }

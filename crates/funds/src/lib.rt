@@ -7,7 +7,6 @@ ghost use Rattle.fund_definitions.specs.Funds.{FundsContract};
 use fund_arguments::check_arguments;
 use fund_definitions::FundsReply;
 use fund_totals::value_fund;
-use verdict::Verdict;
 
 // The first fund's totals come in numbers 0 to 7, the second's in 8 to 15; a refused fund's stay as
 // they were.
@@ -15,13 +14,12 @@ pub fn funds(table: &[u8], first: &[u8], second: &[u8], numbers: &mut [i64]) -> 
     ensures { FundsContract table.now first.now second.now
         numbers.old numbers.new result }
 {
-    let v = check_arguments(numbers.len(), table);
-    let Verdict::Accepted(_) = v else {
+    if let Err(refusal) = check_arguments(numbers.len(), table) {
         return FundsReply {
-            first: v,
-            second: v,
+            first: Err(refusal),
+            second: Err(refusal),
         };
-    };
+    }
     let first_reply = value_fund(table, first, numbers, 0);
     let second_reply = value_fund(table, second, numbers, 8);
     FundsReply {

@@ -21,21 +21,13 @@ fn xorshift(x: u64) -> u64
 }
 
 impl GeneratorState {
-    // Both words one draw on.
-    pub fn next(self) -> GeneratorState
-        ensures { result ≡ step self }
+    // Both words go one draw on, and the draw is their sum.
+    pub fn draw(&mut self) -> u64
+        ensures { (self.new ≡ step self.old)
+            × (result ≡ draw_of self.new) }
     {
-        let counter = std::num::wrapping_add_u64(self.counter, 362_437);
-        GeneratorState {
-            word: xorshift(self.word),
-            counter,
-        }
-    }
-
-    // The draw of both words as they stand.
-    pub fn draw(self) -> u64
-        ensures { result ≡ draw_of self }
-    {
-        std::num::wrapping_add_u64(self.word, self.counter)
+        self.word = xorshift(self.word);
+        self.counter = self.counter.wrapping_add(362_437);
+        self.word.wrapping_add(self.counter)
     }
 }

@@ -18,7 +18,7 @@ use Rattle.book.specs.Reading.{ChainFrom, Standing, ValidBook}
 use Rattle.book.proofs.Cells.{held_none}
 use Rattle.book.proofs.Links.{after_some}
 use Rattle.book.proofs.Valid.{chain_class, chain_next}
-use Rattle.settings_decrements.specs.declared.Decrements.{Decrements}
+use Rattle.settings_decrements.specs.Decrements.{Decrements}
 use Rattle.valuation.specs.Arithmetic.{rounded}
 use Rattle.valuation.specs.Steps.{held, sum_cells, premium_sum, claims_sum}
 use Rattle.valuation.specs.Portfolio.{row_at, links_from, chain_links, links_of, cells_of}

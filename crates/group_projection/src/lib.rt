@@ -4,7 +4,7 @@
 // check.
 #![tactic(auto)]
 
-ghost use Rattle.std.specs.Prelude.{◌≡◌, ◌+◌, ◌*◌, ◌<◌, ◌≤◌, replicate};
+ghost use Rattle.std.specs.Prelude.{IfSome, ◌≡◌, ◌+◌, ◌*◌, ◌<◌, ◌≤◌, replicate};
 ghost use Rattle.lists.specs.AtMost.{AtMost};
 ghost use Rattle.book.specs.Cells.{first_chain, chains_of};
 ghost use Rattle.book.specs.Reading.{Standing, ValidBook};
@@ -16,11 +16,9 @@ ghost use Rattle.group_projection.specs.Added.{CellsAdded, ChainAdded, SumsOf};
 
 use cell_projection::{ModelPoint, YearSums};
 use rate_table::RateTable;
+use settings::ByPeriod;
 use settings_columns::Columns;
 use settings_decrements::Shifts;
-
-// In place of a projection: all five.
-pub const ALL: usize = five_projections::ALL;
 
 // The first chain of a product group.
 fn first_chain(group: usize) -> usize
@@ -33,19 +31,16 @@ fn first_chain(group: usize) -> usize
     if group == 1 { 0 } else { 2 * group + 2 }
 }
 
-// The columns of one projection. Where all are asked for, none is: then, and for the base, the
-// compiler works these out.
-fn columns_in(which: usize) -> Columns
-    requires { which ≤ 5 }
-    ensures { which < 5 → result ≡ columns_of which }
+// The columns of a projection. Where none is named, all five are asked for: then, and for the base,
+// the compiler works these out.
+fn columns_in(which: Option<usize>) -> ByPeriod<Columns>
+    requires { IfSome which (λ s. s < 5) }
+    ensures { IfSome which (λ s. result ≡ columns_of s) }
 {
-    if which == ALL {
-        return Columns::new(0);
+    match which {
+        None | Some(0) => settings_columns::columns_of(0),
+        Some(projection) => settings_columns::columns_of(projection),
     }
-    if which == 0 {
-        return Columns::new(0);
-    }
-    Columns::new(which)
 }
 
 // Adds the cells of a chain, whose rows are read from its head on, to the table, and returns how
@@ -54,19 +49,20 @@ fn add_cells(
     book: &[u8],
     chain: usize,
     head: usize,
-    which: usize,
+    which: Option<usize>,
     rows: &RateTable,
     sums: &mut YearSums,
 ) -> u64
     requires { ValidBook 1 book.now
         × Standing book.now 120 chain head
         × RowsOf book.now chain head rows.now
-        × (which ≤ 5)
+        × IfSome which (λ s. s < 5)
         × AtMost 1000000000000000 table_numbers sums.old }
     ensures { CellsAdded book.now which head result sums.old
         sums.new }
 {
     let one = columns_in(which);
+    // It follows links to the last class: an iterator of them would be no plainer.
     let mut i = head;
     let mut row = 0usize;
     let mut above = book::LAST_CLASS - book::class_of(book, head);
@@ -90,14 +86,14 @@ fn add_chain(
     book: &[u8],
     w: Shifts,
     k: usize,
-    which: usize,
+    which: Option<usize>,
     rows: &mut RateTable,
     sums: &mut YearSums,
 ) -> u64
     requires { ShiftsOf book.now w
         × ValidBook 1 book.now
         × (k < 14)
-        × (which ≤ 5)
+        × IfSome which (λ s. s < 5)
         × AtMost 1000000000000000 table_numbers sums.old }
     ensures { ChainAdded book.now which k result sums.old sums.new }
 {
@@ -111,13 +107,13 @@ fn add_chain(
 
 // The year sums of a product group, over both sexes and, for PG1, its three subgroups: k = 0 to 49,
 // before weights, costs and the cap. They are added to a table of zeros: for each year ten numbers,
-// for each of the settings 0 to 4 premium and claims; those of one of them, or of all. Returns
-// the group's n. The rows are working space.
+// for each of the settings 0 to 4 premium and claims; those of one of them, or, where none
+// is named, of all. Returns the group's n. The rows are working space.
 pub fn group_sums(
     book: &[u8],
     w: Shifts,
     group: usize,
-    which: usize,
+    which: Option<usize>,
     rows: &mut RateTable,
     numbers: &mut YearSums,
 ) -> u64
@@ -125,7 +121,7 @@ pub fn group_sums(
         × ValidBook 1 book.now
         × (1 ≤ group)
         × (group ≤ 5)
-        × (which ≤ 5)
+        × IfSome which (λ s. s < 5)
         × (numbers.old ≡ replicate table_numbers 0) }
     ensures { SumsOf book.now which group result numbers.new }
 {

@@ -5,10 +5,10 @@ use Prim.Native.Nat.{ℕ, ◌<◌}
 use native.Mathlib.Nat.{pos_of_ne-zero}
 use borrow.Author.Tests.{eqb-false, eq-eqb, ne_eqb, not-true}
 use lib.ListN.{length, drop}
+use Rattle.verdict.specs.declared.Refusal.{Refusal}
 use Rattle.lists.proofs.Each.{each_length}
-use Rattle.verdict.specs.Verdicts.{need, ◌and_then◌, count_of}
-use Rattle.verdict.specs.declared.Verdict.{Verdict}
-use Rattle.verdict.specs.declared.Verdict.TheVariants.{Accepted, Refused}
+use Rattle.verdict.specs.Verdicts.{need, first_refusal, count_of, Verdict, refused}
+use Rattle.std.specs.Prelude.{Ok, Err}
 use Rattle.verdict.proofs.Verdicts.{need_true, then_left, then_right, ZeroAccepts, zero_accepts_need, zero_accepts_then}
 use Rattle.text_reply.specs.Replies.{buffer_for}
 use Rattle.book.specs.Check.{check_book}
@@ -24,31 +24,31 @@ use Rattle.in_force.specs.InForceRun.{in_force_check, in_force_run, in_force_num
 
 module _ (b : List ℕ) (setting code sex class numbers : ℕ) where
   -- the refusals in their order, and acceptance
-  pub by_asked : (q p : ℕ) → asked_check setting code sex numbers ≡ Refused q p
-      → in_force_check b setting code sex class numbers ≡ Refused q p
-  unfolding in_force_check ◌and_then◌
-  by_asked q p e = rw e
+  pub by_asked : (r : Refusal) → asked_check setting code sex numbers ≡ Err r
+      → in_force_check b setting code sex class numbers ≡ Err r
+  unfolding in_force_check first_refusal
+  by_asked r e = rw e
 
-  module _ (m : ℕ) (e : asked_check setting code sex numbers ≡ Accepted m) where
-    pub by_book : (q p : ℕ) → check_book 1 b ≡ Refused q p
-        → in_force_check b setting code sex class numbers ≡ Refused q p
-    unfolding in_force_check ◌and_then◌
-    by_book q p f = rw (e, f)
+  module _ (m : ℕ) (e : asked_check setting code sex numbers ≡ Ok m) where
+    pub by_book : (r : Refusal) → check_book 1 b ≡ Err r
+        → in_force_check b setting code sex class numbers ≡ Err r
+    unfolding in_force_check first_refusal
+    by_book r f = rw (e, f)
 
-    pub by_class : (n : ℕ) → check_book 1 b ≡ Accepted n → record_at_class b code sex class ≡ 0
-        → in_force_check b setting code sex class numbers ≡ Refused 26 0
-    unfolding in_force_check ◌and_then◌ need
+    pub by_class : (n : ℕ) → check_book 1 b ≡ Ok n → record_at_class b code sex class ≡ 0
+        → in_force_check b setting code sex class numbers ≡ refused 26 0
+    unfolding in_force_check first_refusal need
     by_class n f none = rw (e, f, eq-eqb _ _ none)
 
-    pub by_none : (n : ℕ) → check_book 1 b ≡ Accepted n → (record_at_class b code sex class ≡ 0 → ⊥)
-        → in_force_check b setting code sex class numbers ≡ Accepted 0
-    unfolding in_force_check ◌and_then◌ need
+    pub by_none : (n : ℕ) → check_book 1 b ≡ Ok n → (record_at_class b code sex class ≡ 0 → ⊥)
+        → in_force_check b setting code sex class numbers ≡ Ok 0
+    unfolding in_force_check first_refusal need
     by_none n f some = rw (e, f, ne_eqb _ _ some)
 
   -- what acceptance says: the caller's tests, the book, and that there is a record
-  module _ (n : ℕ) (e : in_force_check b setting code sex class numbers ≡ Accepted n) where
+  module _ (n : ℕ) (e : in_force_check b setting code sex class numbers ≡ Ok n) where
     pub accepted_asked : asked_check setting code sex numbers
-        ≡ Accepted (count_of (asked_check setting code sex numbers))
+        ≡ Ok (count_of (asked_check setting code sex numbers))
     unfolding in_force_check
     accepted_asked = then_left _ _ _ (then_left _ _ _ e)
 
@@ -98,14 +98,14 @@ module _ (b : List ℕ) (setting code sex class : ℕ) (before after : List ℕ)
         (in_force_told b setting code sex class (length before) (rw reply_is at none));
   }
 
-  pub refused : (q p : ℕ) → in_force_check b setting code sex class (length before) ≡ Refused q p → reply ≡ Refused q p
+  pub not_shown : (r : Refusal) → in_force_check b setting code sex class (length before) ≡ Err r → reply ≡ Err r
       → after ≡ before → InForceContract b setting code sex class before after reply
   unfolding in_force_numbers
-  refused q p e is same =
+  not_shown r e is same =
       let run = in_force_run b setting (record_at_class b code sex class) in
       promised (is ∙ sym e) (same ∙ sym (ap (λ (v : Verdict). buffer_for v run before) e))
 
-  pub shown : (m : ℕ) → in_force_check b setting code sex class (length before) ≡ Accepted m → reply ≡ Accepted m
+  pub shown : (m : ℕ) → in_force_check b setting code sex class (length before) ≡ Ok m → reply ≡ Ok m
       → after ≡ in_force_run b setting (record_at_class b code sex class) ++ drop 50 before
       → InForceContract b setting code sex class before after reply
   unfolding in_force_numbers in_force_run

@@ -5,8 +5,8 @@ use mathlib.Core.List.{List}
 use Prim.Native.Nat.{ℕ, ◌<◌}
 use native.Mathlib.Omega.{arith}
 use lib.ListN.{length}
-use Rattle.verdict.specs.declared.Verdict.{Verdict}
-use Rattle.verdict.specs.declared.Verdict.TheVariants.{Accepted, Refused}
+use Rattle.verdict.specs.Verdicts.{Verdict}
+use Rattle.std.specs.Prelude.{Ok, Err}
 use Rattle.text_reply.specs.Replies.{buffer_for}
 use Rattle.book.specs.Layout.{chains}
 use Rattle.book.specs.Rules.{SameButUnlinked}
@@ -28,15 +28,15 @@ module _ (b b' : List ℕ) (s : SameButUnlinked b b') (setting code sex class : 
     where
       by : (v : Verdict) → asked_check setting code sex numbers ≡ v
           → in_force_check b setting code sex class numbers ≡ in_force_check b' setting code sex class numbers
-      by (Accepted m) e =
+      by (Ok m) e =
           let codes = asked_code setting code sex numbers m e in
           let sexes = asked_sex setting code sex numbers m e in
           rw (unlinked_same b b' s 1, chain_same b b' s (chain_of code sex) (omega arith) class)
-      by (Refused q p) e =
-          by_asked b setting code sex class numbers q p e ∙ sym (by_asked b' setting code sex class numbers q p e)
+      by (Err r) e =
+          by_asked b setting code sex class numbers r e ∙ sym (by_asked b' setting code sex class numbers r e)
 
   -- the fifty numbers
-  run_same : (numbers n : ℕ) → in_force_check b setting code sex class numbers ≡ Accepted n
+  run_same : (numbers n : ℕ) → in_force_check b setting code sex class numbers ≡ Ok n
       → in_force_run b setting (record_at_class b code sex class)
       ≡ in_force_run b' setting (record_at_class b' code sex class)
   unfolding in_force_run record_at_class
@@ -63,5 +63,5 @@ module _ (b b' : List ℕ) (s : SameButUnlinked b b') (setting code sex class : 
       by : (v : Verdict) → in_force_check b setting code sex class (length before) ≡ v
           → buffer_for v (in_force_run b setting (record_at_class b code sex class)) before
           ≡ buffer_for v (in_force_run b' setting (record_at_class b' code sex class)) before
-      by (Accepted n) e = rw (run_same (length before) n e)
-      by (Refused q p) e = refl
+      by (Ok n) e = rw (run_same (length before) n e)
+      by (Err r) e = refl

@@ -1,8 +1,7 @@
 -- One cell on the screen: what is in force of the linked record of a subgroup code, sex and class in the fifty years.
 use Rattle.std.specs.Prelude.{ℕ, ◌≡◌, not, List, eqb, length}
 use Rattle.lists.specs.Each.{each}
-use Rattle.verdict.specs.Verdicts.{need, ◌and_then◌, refusal_of}
-use Rattle.verdict.specs.declared.Verdict.{Verdict}
+use Rattle.verdict.specs.Verdicts.{need, ◌and_then◌, refusal_of, Verdict}
 use Rattle.text_reply.specs.Replies.{buffer_for}
 use Rattle.book.specs.Check.{check_book}
 use Rattle.settings_decrements.specs.Decrements.{decrements_of}

@@ -5,7 +5,7 @@
 ghost use Rattle.in_force.specs.InForceRun.{InForceContract};
 
 use in_force_request::{chain_of, check_asked, record_of};
-use verdict::Verdict;
+use verdict::{Refusal, Verdict};
 
 // Refusal and place. Where accepted, the first fifty of the caller's numbers become what is in
 // force, in billionths of a contract; else nothing is written.
@@ -20,19 +20,13 @@ pub fn in_force(
     ensures { InForceContract book.now setting code sex class out.old
         out.new result }
 {
-    let asked = check_asked(setting, code, sex, out.len());
-    let Verdict::Accepted(_) = asked else {
-        return asked;
-    };
-    let v = book_check::check(book);
-    let Verdict::Accepted(_) = v else {
-        return v;
-    };
+    check_asked(setting, code, sex, out.len())?;
+    book_check::check(book)?;
     let chain = chain_of(code, sex);
-    let i = record_of(book, chain, class);
-    if i == 0 {
-        return Verdict::Refused(26, 0);
-    }
+    let i = record_of(book, chain, class).ok_or(Refusal {
+        number: 26,
+        place: 0,
+    })?;
     in_force_run::run(book, setting, chain, i, out);
-    Verdict::Accepted(0)
+    Ok(0)
 }

@@ -17,7 +17,8 @@ use Rattle.book.proofs.Exact.{empty_chain}
 use Rattle.valuation.specs.Portfolio.{links_from, chain_links}
 use Rattle.valuation.proofs.Rows.{chain_standing}
 use Rattle.valuation.proofs.Members.{counted, links_counted}
-use Rattle.in_force_request.specs.Request.{chain_of, of_class, record_at_class, OnlyOne}
+use Rattle.std.specs.Prelude.{Some, None}
+use Rattle.in_force_request.specs.Request.{chain_of, of_class, if_any, record_at_class, OnlyOne}
 
 module _ (b : List ℕ) (class : ℕ) where
   -- by the class of the first record
@@ -200,3 +201,12 @@ module _ (b : List ℕ) (v : ValidBook 1 b) (r : Rules 1 b) (code sex class : �
   pub none_linked : record_at_class b code sex class ≡ 0 → (k j : ℕ) → k < chains → 0 < link_at b k j
       → code_of b (link_at b k j) ≡ code → sex_of b (link_at b k j) ≡ sex → class_of b (link_at b k j) ≡ class → ⊥
   none_linked none k j few l e f g = absurd (omega (arith, asked_only k j few l e f g))
+
+-- a number of a record, or none
+pub if_some : (n i : ℕ) → if_any n ≡ Some i → (n ≡ i) × (0 < n)
+if_some zero i e = cc
+if_some (suc n) i e = (cc e, omega arith)
+
+pub if_none : (n : ℕ) → if_any n ≡ None → n ≡ 0
+if_none zero e = refl
+if_none (suc n) e = cc

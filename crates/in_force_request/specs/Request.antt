@@ -1,9 +1,9 @@
 -- What is asked for on the screen: what the caller alone decides, and the linked record of a subgroup code, sex and
 -- class.
-use Rattle.std.specs.Prelude.{ℕ, ◌+◌, ◌-◌, ◌*◌, ◌<◌, ◌≡◌, cond, List, [], ◌∷◌, leb, ltb, eqb}
-use Rattle.verdict.specs.Verdicts.{need, ◌and_then◌}
+use Rattle.std.specs.Prelude.{ℕ, zero, suc, ◌+◌, ◌-◌, ◌*◌, ◌<◌, ◌≡◌, cond, List, [], ◌∷◌, leb, ltb, eqb}
+use Rattle.std.specs.Prelude.{Option, Some, None}
+use Rattle.verdict.specs.Verdicts.{need, ◌and_then◌, Verdict}
 use Rattle.le_bytes.specs.Fields.{within}
-use Rattle.verdict.specs.declared.Verdict.{Verdict}
 use Rattle.book.specs.Layout.{chains, code_of, sex_of, class_of, link_at}
 use Rattle.valuation.specs.Portfolio.{chain_links}
 
@@ -15,6 +15,11 @@ chain_of code sex = 2 * (code - 1) + sex
 unfoldable pub of_class : List ℕ → ℕ → List ℕ → ℕ
 of_class b class [] = 0
 of_class b class (i ∷ links) = cond (eqb (class_of b i) class) i (of_class b class links)
+
+-- the number of a record, where it is not 0
+abbrev pub if_any : ℕ → Option ℕ
+if_any zero = None
+if_any (suc i) = Some (suc i)
 
 -- the record that is asked for: the linked one of that class in the chain, 0 where it has none
 unfoldable pub record_at_class : List ℕ → ℕ → ℕ → ℕ → ℕ

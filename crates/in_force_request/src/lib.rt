@@ -5,18 +5,19 @@
 ghost use Rattle.std.specs.Prelude.{◌≡◌, ◌<◌, ◌≤◌};
 ghost use Rattle.book.specs.Reading.{ValidBook};
 ghost use Rattle.valuation.specs.Portfolio.{chain_links};
-ghost use Rattle.in_force_request.specs.Request.{chain_of, of_class, asked_check};
+ghost use Rattle.in_force_request.specs.Request.{chain_of, of_class, if_any, asked_check};
 
-use verdict::Verdict;
+use verdict::{Verdict, need};
 
 // The refusals that the caller alone decides, in their order.
+#[tactic(auto, unfolding(crate::specs::Request::asked_check, verdict::specs::Verdicts::first_refusal))]
 pub fn check_asked(setting: usize, code: usize, sex: usize, numbers: usize) -> Verdict
     ensures { result ≡ asked_check setting code sex numbers }
 {
-    verdict::need(setting < 8, 14, 0)
-        .require(le_bytes::within(1, 7, code), 25, 0)
-        .require(sex <= 1, 25, 0)
-        .require(50 <= numbers, 25, 0)
+    need(setting < 8, 14, 0)?;
+    need(le_bytes::within(1, 7, code), 25, 0)?;
+    need(sex <= 1, 25, 0)?;
+    need(50 <= numbers, 25, 0)
 }
 
 // The chain of a subgroup code and a sex.
@@ -30,25 +31,26 @@ pub fn chain_of(code: usize, sex: usize) -> usize
     2 * (code - 1) + sex
 }
 
-// The linked record of a class in chain k, 0 where it has none.
-pub fn record_of(book: &[u8], k: usize, class: usize) -> usize
+// The linked record of a class in chain k.
+pub fn record_of(book: &[u8], k: usize, class: usize) -> Option<usize>
     requires { ValidBook 1 book.now
         × (k < 14) }
-    ensures { result ≡ of_class book.now class (chain_links book.now k) }
+    ensures { result ≡ if_any (of_class book.now class (chain_links book.now k)) }
 {
     let head = book::head_of(book, k);
     if head == 0 {
-        return 0;
+        return None;
     }
+    // It follows links to the last class: an iterator of them would be no plainer.
     let mut i = head;
     let mut above = book::LAST_CLASS - book::class_of(book, head);
     loop {
         let here = book::class_of(book, i);
         if here == class {
-            return i;
+            return Some(i);
         }
         if above == 0 {
-            return 0;
+            return None;
         }
         i = book::next_of(book, i);
         above -= 1;

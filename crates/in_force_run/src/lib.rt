@@ -14,12 +14,12 @@ ghost use Rattle.cell.specs.States.{Ready, next_by};
 
 use cell::Cell;
 use rate_table::{COLUMNS, ROWS, RateTable};
+use settings::ByPeriod;
 use settings_columns::Columns;
-use settings_decrements::Shifts;
 
 // The state a year after year k. Once nothing is in force nothing is computed further: there is
 // nothing in any later year.
-fn year_later(rows: &RateTable, cell: Cell, columns: Columns, k: usize) -> Cell
+fn year_later(rows: &RateTable, cell: Cell, columns: ByPeriod<Columns>, k: usize) -> Cell
     requires { Ready rows.now cell
         × (survives_in columns k ≤ 5)
         × (persists_in columns k ≤ 5) }
@@ -46,9 +46,10 @@ pub fn run(book: &[u8], setting: usize, chain: usize, i: usize, out: &mut [u64])
         (in_force rounded (cell_of book.now (decrements_of book.now setting) i))
         50 ++ drop 50 out.old }
 {
-    let columns = Columns::new(setting);
+    let columns = settings_columns::columns_of(setting);
     let mut rows = [0u64; ROWS * COLUMNS];
-    chain_rows::read_rows(book, Shifts::new(book), chain, i, &mut rows);
+    let w = settings_decrements::shifts_of(book);
+    chain_rows::read_rows(book, w, chain, i, &mut rows);
     let mut cell = Cell::new(0, book::field_of(book, i, book::COUNT_OFFSET));
     for k in 0usize..50 {
         let next = year_later(&rows, cell, columns, k);

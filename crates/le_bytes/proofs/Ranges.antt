@@ -10,7 +10,7 @@ use borrow.Author.Tests.{leb-true, leb-false, le-leb}
 use lib.Dec.{leb}
 use Rattle.le_bytes.specs.Bytes.{read_u32}
 use Rattle.le_bytes.specs.Fields.{within, raised, check_field, check_fields}
-use Rattle.verdict.specs.declared.Verdict.TheVariants.{Accepted}
+use Rattle.std.specs.Prelude.{Ok}
 use Rattle.verdict.proofs.Verdicts.{need_true, need_good, all_each, all_zero}
 
 within_parts : (t u : Bool) → cond t u false ≡ true → (t ≡ true) × (u ≡ true)
@@ -32,15 +32,15 @@ raised_is zero u h = omega arith
 raised_is (suc lift) u h = refl
 
 module _ (b : List ℕ) (number lift span : ℕ) where
-  pub field_bound : (at n : ℕ) → check_field b number lift span at ≡ Accepted n → raised lift (read_u32 b at) ≤ span
+  pub field_bound : (at n : ℕ) → check_field b number lift span at ≡ Ok n → raised lift (read_u32 b at) ≤ span
   unfolding check_field
   field_bound at n e = leb-true _ _ (need_true _ _ _ _ e)
 
-  pub field_good : (at : ℕ) → raised lift (read_u32 b at) ≤ span → check_field b number lift span at ≡ Accepted 0
+  pub field_good : (at : ℕ) → raised lift (read_u32 b at) ≤ span → check_field b number lift span at ≡ Ok 0
   unfolding check_field
   field_good at h = need_good _ _ _ (le-leb _ _ h)
 
-  pub fields_bound : (at count n j : ℕ) → check_fields b number lift span at count ≡ Accepted n → j < count
+  pub fields_bound : (at count n j : ℕ) → check_fields b number lift span at count ≡ Ok n → j < count
       → raised lift (read_u32 b (at + 4 * j)) ≤ span
   unfolding check_fields
   fields_bound at count n j e h =
@@ -48,7 +48,7 @@ module _ (b : List ℕ) (number lift span : ℕ) where
       (all_each (λ (i : ℕ). check_field b number lift span (at + 4 * i)) count 0 n j e zero-le (omega arith))
 
   pub fields_good : (at count : ℕ) → ((j : ℕ) → j < count → raised lift (read_u32 b (at + 4 * j)) ≤ span)
-      → check_fields b number lift span at count ≡ Accepted 0
+      → check_fields b number lift span at count ≡ Ok 0
   unfolding check_fields
   fields_good at count each = all_zero _ count 0 (λ j lo hi. field_good (at + 4 * j) (each j (omega arith)))
 

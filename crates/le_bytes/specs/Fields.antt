@@ -1,8 +1,7 @@
 -- Fields with a range, and the refusal of the first that is out of it.
 use Rattle.std.specs.Prelude.{ℕ, zero, suc, ◌+◌, ◌*◌, ◌%◌, List, Bool, false, cond, leb}
 use Rattle.le_bytes.specs.Bytes.{read_u32}
-use Rattle.verdict.specs.Verdicts.{need, join_all}
-use Rattle.verdict.specs.declared.Verdict.{Verdict}
+use Rattle.verdict.specs.Verdicts.{need, join_all, Verdict}
 
 -- from low to high, both allowed
 unfoldable pub within : ℕ → ℕ → ℕ → Bool

@@ -10,20 +10,12 @@ ghost use Rattle.le_bytes.specs.Fields.{within, check_field, check_fields};
 
 use verdict::{Verdict, need};
 
-// A byte as a wider number: its own function, so that no caller has to show that the byte fits.
-fn wide(x: u8) -> usize
-    ensures { (result ≡ x)
-        × (result < 256) }
-{
-    x as usize
-}
-
 pub fn read_u8(b: &[u8], at: usize) -> usize
     requires { at < length b.now }
     ensures { (result ≡ byte_at b.now at)
         × (result < 256) }
 {
-    wide(b[at])
+    usize::from(b[at])
 }
 
 pub fn read_u16(b: &[u8], at: usize) -> usize
@@ -45,10 +37,11 @@ pub fn read_u32(b: &[u8], at: usize) -> u64
 }
 
 // From low to high, both allowed.
+#[tactic(auto, unfolding(crate::specs::Fields::within))]
 pub fn within(low: usize, high: usize, x: usize) -> bool
     ensures { result ≡ within low high x }
 {
-    if low <= x { x <= high } else { false }
+    low <= x && x <= high
 }
 
 // A four-byte field, refused where the number stored, raised by lift in 32 bits, is above span.
@@ -66,13 +59,8 @@ pub fn check_fields(b: &[u8], number: u64, lift: u64, span: u64, at: usize, coun
         × (lift < 4294967296) }
     ensures { result ≡ check_fields b.now number lift span at count }
 {
-    let mut k = 0;
-    while k < count {
-        let v = check_field(b, number, lift, span, at + 4 * k);
-        let Verdict::Accepted(_) = v else {
-            return v;
-        };
-        k += 1;
+    for k in 0..count {
+        check_field(b, number, lift, span, at + 4 * k)?;
     }
-    Verdict::Accepted(0)
+    Ok(0)
 }

@@ -3,9 +3,8 @@ use mathlib.Core.Path.{◌≡◌, refl, sym, ◌∙◌}
 use mathlib.Core.List.{List}
 use Prim.Native.Nat.{ℕ}
 use lib.IntN.{ℤ}
-use Rattle.verdict.specs.Verdicts.{refusal_of, place_of, count_of}
-use Rattle.verdict.specs.declared.Verdict.{Verdict}
-use Rattle.verdict.specs.declared.Verdict.TheVariants.{Accepted, Refused}
+use Rattle.verdict.specs.Verdicts.{refusal_of, place_of, count_of, Verdict, refused}
+use Rattle.std.specs.Prelude.{Ok, Err}
 use Rattle.book.specs.Check.{check_book}
 use Rattle.book.proofs.Numbers.{zero_accepted}
 use Rattle.valuation.specs.Totals.{totals_for, totals_reply}
@@ -13,12 +12,12 @@ use Rattle.valuation.specs.declared.TotalsReply.{TotalsReply}
 
 refused_as : (v : Verdict) (n : ℕ) (ts ds : List ℤ)
     → ((totals_for v n ts ds).refusal ≡ refusal_of v) × ((totals_for v n ts ds).place ≡ place_of v)
-refused_as (Accepted m) n ts ds = (refl, refl)
-refused_as (Refused q p) n ts ds = (refl, refl)
+refused_as (Ok m) n ts ds = (refl, refl)
+refused_as (Err r) n ts ds = (refl, refl)
 
-not_accepted : (v : Verdict) → (refusal_of v ≡ 0 → ⊥) → v ≡ Refused (refusal_of v) (place_of v)
-not_accepted (Accepted n) h = absurd (h refl)
-not_accepted (Refused q p) h = refl
+not_accepted : (v : Verdict) → (refusal_of v ≡ 0 → ⊥) → v ≡ refused (refusal_of v) (place_of v)
+not_accepted (Ok n) h = absurd (h refl)
+not_accepted (Err r) h = refl
 
 module _ (b : List ℕ) (reply : TotalsReply) (is : reply ≡ totals_reply b) where
   refusal_is : reply.refusal ≡ refusal_of (check_book 1 b)
@@ -29,8 +28,8 @@ module _ (b : List ℕ) (reply : TotalsReply) (is : reply ≡ totals_reply b) wh
   unfolding totals_reply
   place_is = rw is (refused_as (check_book 1 b) _ _ _).1
 
-  pub totals_accepted : reply.refusal ≡ 0 → check_book 1 b ≡ Accepted (count_of (check_book 1 b))
+  pub totals_accepted : reply.refusal ≡ 0 → check_book 1 b ≡ Ok (count_of (check_book 1 b))
   totals_accepted z = zero_accepted 1 b (sym refusal_is ∙ z)
 
-  pub totals_refused : (reply.refusal ≡ 0 → ⊥) → check_book 1 b ≡ Refused reply.refusal reply.place
+  pub totals_refused : (reply.refusal ≡ 0 → ⊥) → check_book 1 b ≡ refused reply.refusal reply.place
   totals_refused h = rw (refusal_is, place_is) (not_accepted (check_book 1 b) (λ z. h (refusal_is ∙ z)))

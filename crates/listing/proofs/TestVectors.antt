@@ -5,12 +5,11 @@ use Prim.Native.Nat.{ℕ}
 use lib.Dec.{lit≤}
 use lib.IntN.{ℤ, negsuc}
 use lib.ListN.{replicate}
-use Rattle.verdict.specs.Verdicts.{◌and_then◌}
+use Rattle.verdict.specs.Verdicts.{first_refusal, refused}
 use Rattle.book.proofs.TestVectors.{t11}
 use Rattle.buffer.specs.Text.{spelled, decimal, signed, ended, signed_ended, refusal_text, joined}
 use Rattle.buffer.proofs.Digits.{decimal_one, decimal_thousands}
 use Rattle.text_reply.specs.Replies.{with_capacity, text_reply, text_buffer}
-use Rattle.text_reply.specs.declared.TextReply.TheVariants.{Refused as TextRefused}
 use Rattle.listing_text.specs.Lines.{listing_line, line_of, listing_text}
 use Rattle.listing.specs.Listing.{listing_reply, listing_buffer}
 
@@ -64,10 +63,10 @@ unfolding refusal_text ended decimal spelled
 refused_line = refl
 
 -- T11: 1,220 zero bytes are refused with 2 at 0, whatever the buffer, which stays as it was
-pub t11_reply : (capacity : ℕ) → listing_reply (replicate 1220 0) capacity ≡ TextRefused 2 0
-unfolding text_reply with_capacity ◌and_then◌
+pub t11_reply : (capacity : ℕ) → listing_reply (replicate 1220 0) capacity ≡ refused 2 0
+unfolding text_reply with_capacity first_refusal
 t11_reply capacity = rw t11
 
 pub t11_buffer : (before : List ℕ) → listing_buffer (replicate 1220 0) before ≡ before
-unfolding text_buffer with_capacity ◌and_then◌
+unfolding text_buffer with_capacity first_refusal
 t11_buffer before = rw t11

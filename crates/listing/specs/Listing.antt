@@ -2,8 +2,7 @@
 use Rattle.std.specs.Prelude.{List, ◌≡◌, ℕ, ◌≤◌, length}
 use Rattle.book.specs.Check.{check_book}
 use Rattle.valuation.specs.Totals.{totals_reply}
-use Rattle.text_reply.specs.Replies.{text_length, text_reply, text_buffer}
-use Rattle.text_reply.specs.declared.TextReply.{TextReply}
+use Rattle.text_reply.specs.Replies.{text_length, text_reply, text_buffer, TextReply}
 use Rattle.listing_text.specs.Lines.{listing_text}
 
 -- the listing of a book: the totals and the n are those that Totals replies

@@ -5,6 +5,7 @@ ghost use Rattle.listing.specs.Listing.{ListingContract};
 
 use listing_text::put_listing;
 use text_reply::TextReply;
+use verdict::{Refusal, need};
 
 // Writes the listing, from the book's bytes to the bytes to file, and replies its length. Where the
 // book is refused, or the buffer is shorter than the listing, it replies the refusal and writes
@@ -14,14 +15,15 @@ pub fn write_listing(book: &[u8], out: &mut [u8]) -> TextReply
 {
     let reply = totals::totals(book);
     if reply.refusal != 0 {
-        return TextReply::Refused(reply.refusal, reply.place);
+        return Err(Refusal {
+            number: reply.refusal,
+            place: reply.place,
+        });
     }
     let totals = reply.totals;
     // On an empty buffer a run of writers says the length of its text.
     let mut none = [0u8; 0];
     let length = put_listing(&mut none, totals, reply.n);
-    if out.len() < length {
-        return TextReply::Refused(20, 0);
-    }
-    TextReply::Bytes(put_listing(out, totals, reply.n))
+    need(length <= out.len(), 20, 0)?;
+    Ok(put_listing(out, totals, reply.n))
 }

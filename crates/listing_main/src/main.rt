@@ -2,19 +2,15 @@
 #![tactic(auto)]
 
 use std::io;
-use text_reply::TextReply;
 
 fn main(rt: HostRuntime) -> io::Result<()> {
     let mut space = book::input_buffer();
     let got = streams::read_full(&mut rt.stdin(), &mut space)?;
     // No listing is longer: so `short` of the call's contract says.
     let mut text = [0u8; 512];
-    let reply = listing::write_listing(&space[..got], &mut text);
-    match reply {
-        TextReply::Bytes(end) => rt.write_all(&text[..end]),
-        TextReply::Refused(number, place) => {
-            let end = buffer::put_refusal(&mut text, number, place as u64);
-            rt.write_all(&text[..end])
-        }
-    }
+    let end = match listing::write_listing(&space[..got], &mut text) {
+        Ok(end) => end,
+        Err(refusal) => buffer::put_refusal(&mut text, refusal.number, refusal.place as u64),
+    };
+    rt.write_all(&text[..end])
 }

@@ -5,7 +5,7 @@ ghost use Rattle.std.specs.Prelude.{◌+◌, ◌<◌, ◌≤◌, ◌^◌};
 ghost use Rattle.buffer.specs.Text.{Wrote};
 ghost use Rattle.listing_text.specs.Lines.{listing_line, listing_text};
 
-use buffer::{put_ended, put_signed_ended};
+use buffer::put_ended;
 
 fn put_line(out: &mut [u8], at: usize, setting: u64, total: i64, n: u64) -> usize
     requires { at + 65 < 2 ^ 64 }
@@ -13,7 +13,7 @@ fn put_line(out: &mut [u8], at: usize, setting: u64, total: i64, n: u64) -> usiz
         × (result ≤ at + 64) }
 {
     let total_at = put_ended(out, at, setting, b' ');
-    let n_at = put_signed_ended(out, total_at, total, b' ');
+    let n_at = put_ended(out, total_at, total, b' ');
     put_ended(out, n_at, n, b'\n')
 }
 
@@ -23,8 +23,8 @@ pub fn put_listing(out: &mut [u8], totals: [i64; 8], n: u64) -> usize
         × (result ≤ 512) }
 {
     let mut at = 0;
-    for setting in 0..8 {
-        at = put_line(out, at, setting as u64, totals[setting], n);
+    for (setting, total) in totals.iter().enumerate() {
+        at = put_line(out, at, setting as u64, *total, n);
     }
     at
 }

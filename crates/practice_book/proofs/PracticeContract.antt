@@ -7,11 +7,10 @@ use native.Mathlib.Omega.{arith}
 use borrow.Author.Tests.{leb-true}
 use lib.ListN.{length, take, drop}
 use lib.Seq.{take_at}
-use Rattle.verdict.specs.Verdicts.{count_of}
-use Rattle.verdict.specs.declared.Verdict.{Verdict}
-use Rattle.verdict.specs.declared.Verdict.TheVariants.{Accepted, Refused}
+use Rattle.verdict.specs.Verdicts.{count_of, Verdict}
+use Rattle.std.specs.Prelude.{Ok, Err}
 use Rattle.verdict.proofs.Verdicts.{need_true, then_left, ZeroAccepts, zero_accepts_need, zero_accepts_then}
-use Rattle.book_contents.specs.declared.WriteReply.{WriteReply}
+use Rattle.book_contents.specs.CallContracts.{WriteReply}
 use Rattle.book_contents.specs.Contents.{Contents}
 use Rattle.book_contents.specs.Written.{book_size}
 use Rattle.book_contents.specs.CallContracts.{write_refusal, write_length, write_reply_for, write_reply, WriteContract}
@@ -28,13 +27,13 @@ unfolding ZeroAccepts check_practice
 practice_told start capacity = zero_accepts_then _ _ (zero_accepts_need _ 15 0) (zero_accepts_need _ 31 0)
 
 zero_accepts_reply : (v : Verdict) (n : ℕ) → ZeroAccepts v → write_refusal (write_reply_for v n) ≡ 0
-    → (v ≡ Accepted (count_of v)) × (write_length (write_reply_for v n) ≡ n)
+    → (v ≡ Ok (count_of v)) × (write_length (write_reply_for v n) ≡ n)
 unfolding ZeroAccepts
-zero_accepts_reply (Accepted m) n told e = (refl, refl)
-zero_accepts_reply (Refused q p) n told e = let z : ◌≡◌ {A = ℕ} 0 1 = cc (told e) in absurd (omega arith)
+zero_accepts_reply (Ok m) n told e = (refl, refl)
+zero_accepts_reply (Err r) n told e = let z : ◌≡◌ {A = ℕ} 0 1 = cc (told e) in absurd (omega arith)
 
 -- what was asked for stands at the start of the caller's buffer
-front_is : (v : Verdict) (m : ℕ) (l entry : List ℕ) (n : ℕ) → v ≡ Accepted m → length l ≡ n
+front_is : (v : Verdict) (m : ℕ) (l entry : List ℕ) (n : ℕ) → v ≡ Ok m → length l ≡ n
     → take n (buffer_for v l entry) ≡ l
 front_is v m l entry n e size = rw e (take_at l (drop (length l) entry) n size)
 
@@ -65,7 +64,7 @@ of_same {u} {v} {entry} {exit} {r} e w = subst (λ (x : Contents). WriteContract
 
 -- what Write promises of the drawn contents is, with space and a start number above 0, what the call promises
 pub write_promised : (start n : ℕ) {entry exit : List ℕ} {r : WriteReply}
-    → check_practice start (length entry) ≡ Accepted n
+    → check_practice start (length entry) ≡ Ok n
     → WriteContract (practice_contents start) entry exit r → PracticeContract start entry exit r
 unfolding check_practice practice_reply write_reply
 write_promised start n {entry} {exit} {r} e w =

@@ -1,10 +1,8 @@
 -- What the call that writes a practice book promises (W-214).
 use Rattle.std.specs.Prelude.{ℕ, ◌≡◌, List, leb, ltb, length, take}
-use Rattle.verdict.specs.Verdicts.{need, ◌and_then◌, refusal_of, count_of}
-use Rattle.verdict.specs.declared.Verdict.{Verdict}
+use Rattle.verdict.specs.Verdicts.{need, ◌and_then◌, refusal_of, count_of, Verdict}
 use Rattle.book.specs.Check.{check_book}
-use Rattle.book_contents.specs.declared.WriteReply.{WriteReply}
-use Rattle.book_contents.specs.CallContracts.{write_refusal, write_length, write_reply_for, not_zero}
+use Rattle.book_contents.specs.CallContracts.{WriteReply, write_refusal, write_length, write_reply_for, not_zero}
 use Rattle.practice_contents.specs.Drawn.{practice_contents, practice_book, practice_size}
 use Rattle.text_reply.specs.Replies.{buffer_for}
 

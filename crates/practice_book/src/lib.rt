@@ -8,10 +8,10 @@ ghost use Rattle.practice_contents.specs.Drawn.{practice_contents};
 ghost use Rattle.practice_book.specs.Practice.{PracticeContract};
 
 use book::{MOST_RATE, MOST_RECORDS};
-use book_contents::{Values, WriteReply};
+use book_contents::{ByKind, Values, WriteReply};
 use generator::GeneratorState;
 use practice_draws::{fill_curve, fill_lists, fill_table};
-use verdict::{Verdict, need};
+use verdict::need;
 
 // How long every practice book is.
 const SIZE: usize = 41_876;
@@ -31,17 +31,13 @@ fn write_drawn(start: u64, out: &mut [u8]) -> WriteReply
     let curve_drawn = fill_curve(&mut curve, costs_drawn);
     let mut mortality = [0u64; 242];
     let tables_drawn = fill_table(&mut mortality, curve_drawn, MOST_RATE);
-    let mut counts = [0u64; MOST_RECORDS];
-    let mut lapses = [0u64; MOST_RECORDS];
-    let mut premiums = [0u64; MOST_RECORDS];
-    let mut claims = [0u64; MOST_RECORDS];
-    fill_lists(
-        &mut counts,
-        &mut lapses,
-        &mut premiums,
-        &mut claims,
-        tables_drawn,
-    );
+    let mut lists = ByKind {
+        counts: [0; MOST_RECORDS],
+        lapses: [0; MOST_RECORDS],
+        premiums: [0; MOST_RECORDS],
+        claims: [0; MOST_RECORDS],
+    };
+    fill_lists(&mut lists, tables_drawn);
     let values = Values {
         edition: 1,
         men: 0,
@@ -52,7 +48,14 @@ fn write_drawn(start: u64, out: &mut [u8]) -> WriteReply
         mortality,
         first: [0; 14],
     };
-    book_write::write(values, &counts, &lapses, &premiums, &claims, out)
+    book_write::write(
+        values,
+        &lists.counts,
+        &lists.lapses,
+        &lists.premiums,
+        &lists.claims,
+        out,
+    )
 }
 
 // Writes the practice book of a start number, and answers its length. Refused, with nothing
@@ -60,9 +63,7 @@ fn write_drawn(start: u64, out: &mut [u8]) -> WriteReply
 pub fn practice(start: u64, out: &mut [u8]) -> WriteReply
     ensures { PracticeContract start out.old out.new result }
 {
-    let v = need(SIZE <= out.len(), 16, 0).require(0 < start, 32, 0);
-    match v {
-        Verdict::Accepted(_) => write_drawn(start, out),
-        Verdict::Refused(number, place) => WriteReply::Refused(number, place),
-    }
+    need(SIZE <= out.len(), 16, 0)?;
+    need(0 < start, 32, 0)?;
+    write_drawn(start, out)
 }

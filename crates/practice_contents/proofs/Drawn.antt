@@ -11,7 +11,7 @@ use borrow.Author.Tests.{le-leb, lt-ltb, le-ltb}
 use lib.IntN.{ℤ, pos}
 use lib.ListN.{length, get_or, replicate, get_or-replicate, get_or-eq_default}
 use Rattle.lists.specs.Sums.{sum_by}
-use Rattle.verdict.specs.declared.Verdict.TheVariants.{Accepted}
+use Rattle.std.specs.Prelude.{Ok}
 use Rattle.book.specs.Layout.{chains, most_records, most_rate, most_count, most_amount}
 use Rattle.book.specs.Check.{check_book}
 use Rattle.buffer.proofs.Digits.{le_or_lt}
@@ -106,7 +106,7 @@ drawn_fit w =
 
 -- so the book of any start number is accepted, and of one length
 pub practice_accepted : (start : ℕ)
-    → check_book 1 (practice_book start) ≡ Accepted (not_zero (practice_contents start).counts)
+    → check_book 1 (practice_book start) ≡ Ok (not_zero (practice_contents start).counts)
 practice_accepted start = fit_accepted (practice_contents start) (drawn_fit _)
 
 pub drawn_size : (w : GeneratorState) → book_size (drawn_contents w).values.first ≡ practice_size

@@ -10,14 +10,15 @@ use Rattle.generator.proofs.DrawSequence.{after_more}
 use Rattle.lists.specs.Each.{each}
 use Rattle.lists.proofs.Each.{each_set, each_done}
 
--- words that are n draws on: their next draw, and the words after it
-module _ (w : GeneratorState) {words : GeneratorState} (n : ℕ) (e : words ≡ state_after w n) where
-  pub next_after : (m : ℕ) → n + 1 ≡ m → step words ≡ state_after w m
-  next_after m to = ap step e ∙ sym (after_more w n) ∙ ap (state_after w) to
+-- words that are n draws on: what a draw makes of them, and what it answers
+module _ (w : GeneratorState) {words after : GeneratorState} {draw : ℕ} (n : ℕ) (e : words ≡ state_after w n)
+    (h : (after ≡ step words) × (draw ≡ draw_of after)) where
+  pub after_draw : (m : ℕ) → n + 1 ≡ m → after ≡ state_after w m
+  after_draw m to = h.0 ∙ ap step e ∙ sym (after_more w n) ∙ ap (state_after w) to
 
-  pub next_draw : draw_of (step words) ≡ draw_at w n
+  pub draw_is : draw ≡ draw_at w n
   unfolding draw_at
-  next_draw = ap draw_of (next_after (n + 1) refl)
+  draw_is = h.1 ∙ ap draw_of (after_draw (n + 1) refl)
 
 -- a list of n whose first j are what f gives
 pub record Filled {A : Type 0} (f : ℕ → A) (n : ℕ) (l : List A) (j : ℕ) : Type 0 where

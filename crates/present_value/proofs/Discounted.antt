@@ -12,19 +12,20 @@ use Rattle.valuation.specs.Steps.{total_outgo, total_premium, liability}
 use Rattle.valuation.specs.Portfolio.{divisor_of, terms_of, group_cells}
 use Rattle.valuation.specs.Replies.{group_liability}
 use Rattle.cash_flow.specs.CashFlow.{InYears}
-use Rattle.discount.specs.Discount.{DiscountedIn}
+use Rattle.discount.specs.Discount.{divisors, DiscountedIn}
+use Rattle.discount.specs.declared.curve.YearDivisor.{YearDivisor}
 use Rattle.discount_curve.specs.Curve.{CurveOf}
 
 -- discounted each for its own number of years
-pub in_discounted : (b divisors fractions : List ℕ) (f g : ℕ → ℕ) (from j to : ℕ) (before after : List ℕ)
-    → CurveOf b divisors fractions
+pub in_discounted : (b : List ℕ) (curve : List YearDivisor) (f g : ℕ → ℕ) (from j to : ℕ) (before after : List ℕ)
+    → CurveOf b curve
     → ((k : ℕ) → g k ≡ discounted rounded (divisor_of b k) k (f k)) → j + 1 ≡ to → to ≤ 50
-    → InYears f 4_000_000_000_000_000 from to before → DiscountedIn divisors j to before after
+    → InYears f 4_000_000_000_000_000 from to before → DiscountedIn (divisors curve) j to before after
     → InYears g 9_000_000_000_000_000 from to after
-in_discounted b divisors fractions f g from j to before after c e last few u d = record {
+in_discounted b curve f g from j to before after c e last few u d = record {
   are = λ k h l.
       let z : min j k ≡ k = omega arith in
-      (d.each k h).is ∙ rw (z, c.divisors_are k (omega arith), u.are k h l) (sym (e k));
+      (d.each k h).is ∙ rw (z, c k (omega arith), u.are k h l) (sym (e k));
   most = record { each = λ k h. omega (arith, (d.each k h).most) };
 }
 

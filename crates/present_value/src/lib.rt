@@ -5,11 +5,10 @@
 ghost use Rattle.std.specs.Prelude.{◌≡◌, ◌++◌, ◌+◌, ◌*◌, ◌≤◌, length, take, drop};
 ghost use Rattle.book.specs.Reading.{ValidBook};
 ghost use Rattle.settings_columns.specs.Columns.{projection_of};
-ghost use Rattle.settings_outgo.specs.Outgoings.{SettingOf};
 ghost use Rattle.group_projection.specs.Added.{TableIn};
 ghost use Rattle.present_value.specs.Outcome.{four_of, GroupValued};
 
-use cash_flow::Span;
+use cash_flow::{Amounts, Span};
 use cell_projection::YearSums;
 use settings_outgo::Setting;
 
@@ -28,11 +27,12 @@ pub fn put_year(table: &mut [u64], k: usize, y: Year)
     ensures { table.new ≡ take (4 * k) table.old ++
         (four_of y ++ drop (4 * k + 4) table.old) }
 {
-    let at = 4 * k;
-    table[at] = y.premium;
-    table[at + 1] = y.outgo;
-    table[at + 2] = y.discounted_premium;
-    table[at + 3] = y.discounted_outgo;
+    table[4 * k..4 * k + 4].copy_from_slice(&[
+        y.premium,
+        y.outgo,
+        y.discounted_premium,
+        y.discounted_outgo,
+    ]);
 }
 
 // The liability of a product group from its year sums; the first 200 numbers of the table become
@@ -44,8 +44,7 @@ pub fn value_group(
     numbers: &YearSums,
     table: &mut [u64],
 ) -> i64
-    requires { SettingOf s
-        × (1 ≤ group)
+    requires { (1 ≤ group)
         × (group ≤ 5)
         × (200 ≤ length table.old)
         × ValidBook 1 book.now
@@ -54,27 +53,20 @@ pub fn value_group(
         table.new result }
 {
     let curve = discount_curve::curve_of(book);
-    let divisors = curve.divisors;
-    let fractions = curve.fractions;
     let setting = s.number;
     let years = cash_flow::undiscounted(book, s, group, numbers, Span { from: 0, to: 50 });
-    let due = years.premium;
-    let spent = years.outgo;
-    let mut premium = due;
-    let mut outgo = spent;
-    discount::discount(&divisors, &fractions, 49, 50, &mut premium, &mut outgo);
-    let mut paid: u64 = 0;
-    let mut earned: u64 = 0;
+    let mut back = years;
+    discount::discount(&curve, 49, 50, &mut back);
+    // By number: of a table's chunks, once lent to be written, a proof knows no element.
     for k in 0usize..50 {
         let y = Year {
-            premium: due[k],
-            outgo: spent[k],
-            discounted_premium: premium[k],
-            discounted_outgo: outgo[k],
+            premium: years[k].premium,
+            outgo: years[k].outgo,
+            discounted_premium: back[k].premium,
+            discounted_outgo: back[k].outgo,
         };
         put_year(table, k, y);
-        paid = paid + outgo[k];
-        earned = earned + premium[k];
     }
-    signed::less(paid, earned)
+    let total = Amounts::total(&back);
+    signed::less(total.outgo, total.premium)
 }

@@ -2,7 +2,7 @@
 use Rattle.std.specs.Prelude.{◌≡◌, List, ℕ, ◌+◌, ◌*◌, ◌<◌, ◌≤◌, get_or}
 use Rattle.lists.specs.Sums.{sum_below}
 use Rattle.present_value.specs.Outcome.{year_outgo, year_premium}
-use Rattle.present_value_span.specs.declared.Amounts.{Amounts}
+use Rattle.cash_flow.specs.declared.Amounts.{Amounts}
 
 -- of the years from `from` to before `to`, those from `end` on have neither premium nor outgo
 pub record NoneFrom (premium outgo : List ℕ) (from to end : ℕ) : Type 0 where

@@ -7,9 +7,8 @@ use mathlib.Core.Bool.{true}
 use borrow.Author.Tests.{le-leb}
 use lib.ListN.{length, take, drop}
 use denote.Ref.{Bor}
-use Rattle.verdict.specs.Verdicts.{refusal_of, place_of}
-use Rattle.verdict.specs.declared.Verdict.{Verdict}
-use Rattle.verdict.specs.declared.Verdict.TheVariants.{Accepted, Refused}
+use Rattle.verdict.specs.Verdicts.{refusal_of, place_of, Verdict}
+use Rattle.std.specs.Prelude.{Ok, Err}
 use Rattle.verdict.proofs.Verdicts.{need_true, then_left, then_right}
 use Rattle.le_bytes.proofs.Ranges.{within_means}
 use Rattle.book.specs.Layout.{record_size, records, record_at}
@@ -19,7 +18,7 @@ use Rattle.record_view.specs.RecordView.{check_record, located_at, located_in, b
 use Rattle.record_view.specs.RecordView.{PartOf, Shows}
 use Rattle.record_view.specs.declared.Located.{Located}
 
-module _ (b : List ℕ) (number m : ℕ) (e : check_record b number ≡ Accepted m) where
+module _ (b : List ℕ) (number m : ℕ) (e : check_record b number ≡ Ok m) where
   pub record_valid : ValidBook 1 b
   unfolding check_record
   record_valid = valid 1 b _ (then_left _ _ _ e)
@@ -35,24 +34,24 @@ module _ (b : List ℕ) (number : ℕ) where
 
   located_lies : (v : Verdict) → check_record b number ≡ v → lies_in b (at v).start (at v).len ≡ true
   unfolding lies_in
-  located_lies (Accepted m) e =
+  located_lies (Ok m) e =
       let h : record_at number + 24 ≤ length b =
       omega (arith, (record_valid b number m e).header.size, record_number b number m e) in
       rw (le-leb (record_at number) (length b) (omega arith), le-leb 24 (length b - record_at number) (omega arith))
-  located_lies (Refused q p) e = rw (le-leb 0 (length b) zero-le, le-leb 0 (length b - 0) zero-le)
+  located_lies (Err r) e = rw (le-leb 0 (length b) zero-le, le-leb 0 (length b - 0) zero-le)
 
   located_bytes : (v : Verdict)
       → take (at v).len (drop (at v).start b) ≡ bytes_of v (take record_size (drop (record_at number) b))
-  located_bytes (Accepted m) = refl
-  located_bytes (Refused q p) = refl
+  located_bytes (Ok m) = refl
+  located_bytes (Err r) = refl
 
   located_refusal : (v : Verdict) → (at v).refusal ≡ refusal_of v
-  located_refusal (Accepted m) = refl
-  located_refusal (Refused q p) = refl
+  located_refusal (Ok m) = refl
+  located_refusal (Err r) = refl
 
   located_place : (v : Verdict) → (at v).place ≡ place_of v
-  located_place (Accepted m) = refl
-  located_place (Refused q p) = refl
+  located_place (Ok m) = refl
+  located_place (Err r) = refl
 
 -- what is located, with the part that stands there, is what the record view shows
 pub shown : (book : Bor (List ℕ)) (number : ℕ) (r : Located) (t : Bor (List ℕ)) → r ≡ located_in book.now number

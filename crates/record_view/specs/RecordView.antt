@@ -1,10 +1,8 @@
 -- The record view: the 24 bytes of one record of an accepted book, linked or not.
-use Rattle.std.specs.Prelude.{ℕ, ◌+◌, ◌-◌, ◌≡◌, List, [], Bool, false, cond, length, take, drop, leb}
+use Rattle.std.specs.Prelude.{ℕ, ◌+◌, ◌-◌, ◌≡◌, List, [], Bool, false, cond, length, take, drop, leb, Ok, Err}
 use Rattle.std.specs.Borrow.{Bor}
-use Rattle.verdict.specs.Verdicts.{need, ◌and_then◌, refusal_of, place_of}
+use Rattle.verdict.specs.Verdicts.{need, ◌and_then◌, refusal_of, place_of, Verdict}
 use Rattle.le_bytes.specs.Fields.{within}
-use Rattle.verdict.specs.declared.Verdict.{Verdict}
-use Rattle.verdict.specs.declared.Verdict.TheVariants.{Accepted, Refused}
 use Rattle.book.specs.Layout.{record_size, records, record_at}
 use Rattle.book.specs.Check.{check_book}
 use Rattle.record_view.specs.declared.Located.{Located}
@@ -16,16 +14,16 @@ check_record b number = check_book 1 b and_then need (within 1 (records b) numbe
 
 -- where the record stands in the book; a part of no bytes where refused
 abbrev pub located_at : Verdict → ℕ → Located
-located_at (Accepted n) at = record { refusal = 0; place = 0; start = at; len = record_size }
-located_at (Refused refusal place) at = record { refusal = refusal; place = place; start = 0; len = 0 }
+located_at (Ok n) at = record { refusal = 0; place = 0; start = at; len = record_size }
+located_at (Err r) at = record { refusal = r.number; place = r.place; start = 0; len = 0 }
 
 unfoldable pub located_in : List ℕ → ℕ → Located
 located_in b number = located_at (check_record b number) (record_at number)
 
 -- the record's bytes; none where refused
 abbrev pub bytes_of : Verdict → List ℕ → List ℕ
-bytes_of (Accepted n) bytes = bytes
-bytes_of (Refused refusal place) bytes = []
+bytes_of (Ok n) bytes = bytes
+bytes_of (Err r) bytes = []
 
 unfoldable pub record_bytes : List ℕ → ℕ → List ℕ
 record_bytes b number = bytes_of (check_record b number) (take record_size (drop (record_at number) b))

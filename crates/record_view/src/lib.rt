@@ -6,10 +6,10 @@
 ghost use Rattle.std.specs.Prelude.{◌≡◌};
 ghost use Rattle.record_view.specs.RecordView.{check_record, located_in, PartOf, Shows};
 
-use verdict::Verdict;
+use verdict::{Verdict, need};
 
 // The refusal and its place, 0 and 0 where there is none, and where the record's bytes stand, 0 and
-// 0 where refused.
+// 0 where refused. C has this struct as it is, so it is no `Result`.
 #[repr(C)]
 #[derive(Clone, Copy)]
 pub struct Located {
@@ -19,7 +19,8 @@ pub struct Located {
     pub len: usize,
 }
 
-// The same with the bytes themselves, none where refused.
+// The same with the bytes themselves, none where refused. No `Result`: `Shows` says of a refused
+// view too where its empty part stands.
 #[derive(Clone, Copy)]
 pub struct Shown<'a> {
     pub refusal: u64,
@@ -28,33 +29,30 @@ pub struct Shown<'a> {
 }
 
 // The book's own refusals, then 9 where there is no record of that number.
+#[tactic(auto, unfolding(crate::specs::RecordView::check_record, verdict::specs::Verdicts::first_refusal))]
 fn check_record(book: &[u8], number: usize) -> Verdict
     ensures { result ≡ check_record book.now number }
 {
-    let v = book_check::check(book);
-    let Verdict::Accepted(_) = v else {
-        return v;
-    };
-    verdict::need(le_bytes::within(1, book::records(book), number), 9, 0)
+    book_check::check(book)?;
+    need(le_bytes::within(1, book::records(book), number), 9, 0)
 }
 
 // Where a record stands in the book.
 pub fn locate(book: &[u8], number: usize) -> Located
     ensures { result ≡ located_in book.now number }
 {
-    let v = check_record(book, number);
-    match v {
-        Verdict::Refused(refusal, place) => Located {
-            refusal,
-            place,
-            start: 0,
-            len: 0,
-        },
-        Verdict::Accepted(_) => Located {
+    match check_record(book, number) {
+        Ok(_) => Located {
             refusal: 0,
             place: 0,
             start: book::record_at(number),
             len: book::RECORD_SIZE,
+        },
+        Err(refusal) => Located {
+            refusal: refusal.number,
+            place: refusal.place,
+            start: 0,
+            len: 0,
         },
     }
 }

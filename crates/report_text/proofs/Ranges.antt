@@ -12,7 +12,7 @@ use Rattle.lists.proofs.AtMost.{most_higher, most_replicate}
 use Rattle.book.specs.Cells.{first_chain, chains_of}
 use Rattle.book.specs.Reading.{ValidBook}
 use Rattle.settings_decrements.specs.Decrements.{decrements_of}
-use Rattle.settings_decrements.specs.declared.Decrements.{Decrements}
+use Rattle.settings_decrements.specs.Decrements.{Decrements}
 use Rattle.settings.proofs.Weights.{pick_le}
 use Rattle.valuation.specs.Arithmetic.{rounded}
 use Rattle.valuation.specs.Steps.{Cell, Terms, premium_sum, claims_sum, outgo, capped_if, capped, counted_premium}

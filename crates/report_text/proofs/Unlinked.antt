@@ -7,9 +7,9 @@ use native.Mathlib.Omega.{arith}
 use borrow.Author.Tests.{lt-ltb, le-leb}
 use lib.Dec.{leb}
 use lib.ListN.{length, get_or, drop, replicate, length-replicate}
-use Rattle.verdict.specs.Verdicts.{need, ◌and_then◌}
-use Rattle.verdict.specs.declared.Verdict.{Verdict}
-use Rattle.verdict.specs.declared.Verdict.TheVariants.{Accepted, Refused}
+use Rattle.verdict.specs.Verdicts.{need, first_refusal, ◌and_then◌, Verdict, refused}
+use Rattle.std.specs.Prelude.{Ok, Err}
+use Rattle.verdict.specs.declared.Refusal.{Refusal}
 use Rattle.verdict.proofs.Verdicts.{need_good, then_good, then_right}
 use Rattle.le_bytes.proofs.Ranges.{within_good}
 use Rattle.book.specs.Check.{check_book}
@@ -33,9 +33,9 @@ abbrev blank : List ℕ
 blank = replicate 200 0
 
 -- The figures of an accepted book are those of Group's table.
-module _ (b : List ℕ) (setting g n : ℕ) (accepted : check_book 1 b ≡ Accepted n) (few : setting < 8)
+module _ (b : List ℕ) (setting g n : ℕ) (accepted : check_book 1 b ≡ Ok n) (few : setting < 8)
     (lo : 1 ≤ g) (hi : g ≤ 5) where
-  group_accepted : group_check b setting g (length blank) ≡ Accepted n
+  group_accepted : group_check b setting g (length blank) ≡ Ok n
   unfolding group_check
   group_accepted =
       let setting-good = need_good _ 14 0 (lt-ltb setting 8 few) in
@@ -62,8 +62,8 @@ module _ (b b' : List ℕ) (s : SameButUnlinked b b') (setting : ℕ) where
   unfolding report_check
   check_same = rw (unlinked_same b b' s 1)
 
-  module _ (n : ℕ) (e : report_check b setting ≡ Accepted n) where
-    book_accepted : check_book 1 b ≡ Accepted n
+  module _ (n : ℕ) (e : report_check b setting ≡ Ok n) where
+    book_accepted : check_book 1 b ≡ Ok n
     unfolding report_check
     book_accepted = then_right _ _ _ e
 
@@ -91,26 +91,26 @@ module _ (b b' : List ℕ) (s : SameButUnlinked b b') (setting : ℕ) where
 
   -- what goes by the verdict, and by the text where it accepts
   by_verdict : {X : Type 0} (f : Verdict → List ℕ → X)
-      → ((q p : ℕ) (x y : List ℕ) → f (Refused q p) x ≡ f (Refused q p) y)
+      → ((r : Refusal) (x y : List ℕ) → f (Err r) x ≡ f (Err r) y)
       → f (report_check b setting) (report_text b setting) ≡ f (report_check b' setting) (report_text b' setting)
   by_verdict f refused = rw (← check_same) (cases (report_check b setting) refl)
     where
       cases : (v : Verdict) → report_check b setting ≡ v → f v (report_text b setting) ≡ f v (report_text b' setting)
-      cases (Accepted n) e = ap (f (Accepted n)) (text_same n e)
-      cases (Refused q p) e = refused q p _ _
+      cases (Ok n) e = ap (f (Ok n)) (text_same n e)
+      cases (Err r) e = refused r _ _
 
   pub reply_same : (capacity : ℕ) → report_reply b setting capacity ≡ report_reply b' setting capacity
-  unfolding text_reply with_capacity ◌and_then◌
+  unfolding text_reply with_capacity first_refusal
   reply_same capacity =
       by_verdict (λ v text. length_for (v and_then need (leb (length text) capacity) 20 0) (length text))
-      (λ q p x y. refl)
+      (λ r x y. refl)
 
   pub buffer_same : (before : List ℕ) → report_buffer b setting before ≡ report_buffer b' setting before
-  unfolding text_buffer with_capacity ◌and_then◌
+  unfolding text_buffer with_capacity first_refusal
   buffer_same before =
       by_verdict (λ v text. buffer_for (v and_then need (leb (length text) (length before)) 20 0) text before)
-      (λ q p x y. refl)
+      (λ r x y. refl)
 
   pub capacity_same : report_length_reply b setting ≡ report_length_reply b' setting
   unfolding report_length_reply report_length
-  capacity_same = by_verdict (λ v text. length_for v (length text)) (λ q p x y. refl)
+  capacity_same = by_verdict (λ v text. length_for v (length text)) (λ r x y. refl)

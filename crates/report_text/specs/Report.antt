@@ -1,7 +1,6 @@
 -- The year report of a book in a setting: its text in bytes, its refusals, what the two calls answer and promise.
 use Rattle.std.specs.Prelude.{List, [], ◌∷◌, ◌++◌, ◌≡◌, ℕ, ◌+◌, ◌≤◌, ltb, length}
-use Rattle.verdict.specs.Verdicts.{need, ◌and_then◌}
-use Rattle.verdict.specs.declared.Verdict.{Verdict}
+use Rattle.verdict.specs.Verdicts.{need, ◌and_then◌, Verdict}
 use Rattle.book.specs.Check.{check_book}
 use Rattle.settings_decrements.specs.Decrements.{decrements_of}
 use Rattle.valuation.specs.Arithmetic.{rounded}
@@ -9,7 +8,7 @@ use Rattle.valuation.specs.Steps.{outgo, counted_premium}
 use Rattle.valuation.specs.Portfolio.{group_cells, terms_of}
 use Rattle.buffer.specs.Text.{joined}
 use Rattle.text_reply.specs.Replies.{text_refusal, text_length, length_for, text_reply, text_buffer, TextContract}
-use Rattle.text_reply.specs.declared.TextReply.{TextReply}
+use Rattle.text_reply.specs.Replies.{TextReply}
 use Rattle.report_lines.specs.Sheet.{sheet_line}
 
 -- `group,year,premium,outgo` and the line's end

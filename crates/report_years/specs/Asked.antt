@@ -2,13 +2,10 @@
 use Rattle.std.specs.Prelude.{List, ℕ, ◌≤◌}
 use Rattle.book.specs.Reading.{ValidBook}
 use Rattle.settings_decrements.specs.Decrements.{ShiftsOf}
-use Rattle.settings_decrements.specs.declared.Shifts.{Shifts}
-use Rattle.settings_outgo.specs.Outgoings.{SettingOf}
-use Rattle.settings_outgo.specs.declared.Setting.{Setting}
+use Rattle.settings_decrements.specs.Decrements.{Shifts}
 
 -- what valuing one product group of an accepted book asks: the weights w are the book's
-pub record Asked (b : List ℕ) (s : Setting) (w : Shifts) (g : ℕ) : Type 0 where
-  pub setting_is : SettingOf s
+pub record Asked (b : List ℕ) (w : Shifts) (g : ℕ) : Type 0 where
   pub lo : 1 ≤ g
   pub hi : g ≤ 5
   pub book : ValidBook 1 b

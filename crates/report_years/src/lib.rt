@@ -16,15 +16,15 @@ use settings_outgo::Setting;
 
 // Nothing is discounted: the report has the amounts as they fall due.
 fn year_table(book: &[u8], s: Setting, w: Shifts, group: usize) -> YearTable
-    requires { Asked book.now s w group }
-    ensures { Years book.now s.number group result.numbers }
+    requires { Asked book.now w group }
+    ensures { Years book.now s.number group result.years }
 {
     let mut rows = [0u64; ROWS * COLUMNS];
     let mut sums = [0u64; YEARS * A_YEAR];
-    group_projection::group_sums(book, w, group, s.projection, &mut rows, &mut sums);
+    group_projection::group_sums(book, w, group, Some(s.projection), &mut rows, &mut sums);
     let years = cash_flow::undiscounted(book, s, group, &sums, Span { from: 0, to: 50 });
-    let premium = years.premium;
-    let outgo = years.outgo;
+    let premium = years.map(|y| y.premium);
+    let outgo = years.map(|y| y.outgo);
     report_text::placed(&premium, &outgo)
 }
 
@@ -35,15 +35,14 @@ pub fn measured_years(book: &[u8], setting: usize) -> Measured
     ensures { Measures book.now setting result }
 {
     let s = Setting::new(setting);
-    let w = Shifts::new(book);
+    let w = settings_decrements::shifts_of(book);
     let mut years = Measured {
-        tables: [YearTable { numbers: [0; 200] }; 5],
+        tables: [YearTable::EMPTY; 5],
         bytes: 25,
     };
     for j in 0usize..5 {
         let table = year_table(book, s, w, j + 1);
-        let numbers = table.numbers;
-        years.bytes = years.bytes + report_lines::lines_length(j as u64 + 1, numbers);
+        years.bytes = years.bytes + report_lines::lines_length(j as u64 + 1, table.years);
         years.tables[j] = table;
     }
     years

@@ -5,8 +5,8 @@ use mathlib.Core.List.{List}
 use Prim.Native.Nat.{◌≤◌}
 use native.Mathlib.Omega.{arith}
 use lib.IntN.{ℤ, nat_abs}
-use Rattle.verdict.specs.Verdicts.{need, ◌and_then◌, refusal_of}
-use Rattle.verdict.specs.declared.Verdict.TheVariants.{Accepted, Refused}
+use Rattle.verdict.specs.Verdicts.{need, first_refusal, refusal_of, ◌and_then◌, refused}
+use Rattle.std.specs.Prelude.{Ok}
 use Rattle.signed.specs.Signs.{is_negative}
 use Rattle.risk_model.specs.declared.RiskModel.{RiskModel}
 use Rattle.risk_model.specs.Model.{model_valid}
@@ -27,32 +27,32 @@ pub record Passed (differences : List ℤ) (m : RiskModel) : Type 0 where
   pub form : is_negative (form_for differences m) ≡ false
 
 module _ (differences : List ℤ) (m : RiskModel) where
-  pub replied_29 : model_valid m ≡ false → factors_reply differences m ≡ deviation_reply_for (Refused 29 0) 0
-  unfolding factors_reply check_factors need ◌and_then◌
+  pub replied_29 : model_valid m ≡ false → factors_reply differences m ≡ deviation_reply_for (refused 29 0) 0
+  unfolding factors_reply check_factors need first_refusal
   replied_29 model = rw model
 
   pub replied_30 : model_valid m ≡ true → factors_small (factors_of differences m.coefficients) ≡ false
-      → factors_reply differences m ≡ deviation_reply_for (Refused 30 0) 0
-  unfolding factors_reply check_factors need ◌and_then◌
+      → factors_reply differences m ≡ deviation_reply_for (refused 30 0) 0
+  unfolding factors_reply check_factors need first_refusal
   replied_30 model small = rw (model, small)
 
   pub replied_31 : model_valid m ≡ true → factors_small (factors_of differences m.coefficients) ≡ true
-      → is_negative (form_for differences m) ≡ true → factors_reply differences m ≡ deviation_reply_for (Refused 31 0) 0
-  unfolding factors_reply check_factors need ◌and_then◌
+      → is_negative (form_for differences m) ≡ true → factors_reply differences m ≡ deviation_reply_for (refused 31 0) 0
+  unfolding factors_reply check_factors need first_refusal
   replied_31 model small form = rw (model, small, form)
 
-  pub passed_accepted : Passed differences m → check_factors differences m ≡ Accepted 0
-  unfolding check_factors need ◌and_then◌
+  pub passed_accepted : Passed differences m → check_factors differences m ≡ Ok 0
+  unfolding check_factors need first_refusal
   passed_accepted p = rw (p.model, p.small, p.form)
 
   pub replied_root : Passed differences m
-      → factors_reply differences m ≡ deviation_reply_for (Accepted 0) (deviation_for differences m)
+      → factors_reply differences m ≡ deviation_reply_for (Ok 0) (deviation_for differences m)
   unfolding factors_reply
   replied_root p = rw (passed_accepted p)
 
   -- and so where the refusal is 0
   pub passed : refusal_of (check_factors differences m) ≡ 0 → Passed differences m
-  unfolding check_factors need ◌and_then◌
+  unfolding check_factors need first_refusal
   passed z = by _ _ _ refl refl refl z
     where
       by : (t s n : Bool) → model_valid m ≡ t → factors_small (factors_of differences m.coefficients) ≡ s

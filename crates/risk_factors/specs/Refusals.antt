@@ -1,7 +1,6 @@
 -- What is refused of a risk model and of its factors: 29 first, 30 next, 31 last. None names a place.
 use Rattle.std.specs.Prelude.{not, List, ℤ}
-use Rattle.verdict.specs.Verdicts.{need, ◌and_then◌}
-use Rattle.verdict.specs.declared.Verdict.{Verdict}
+use Rattle.verdict.specs.Verdicts.{need, ◌and_then◌, Verdict}
 use Rattle.signed.specs.Signs.{is_negative}
 use Rattle.risk_model.specs.Model.{model_valid}
 use Rattle.risk_model.specs.declared.RiskModel.{RiskModel}

@@ -1,7 +1,6 @@
 -- What four differences and a risk model give: the whole root of their form, or the refusal.
-use Rattle.std.specs.Prelude.{ℕ, List, ℤ}
-use Rattle.verdict.specs.declared.Verdict.{Verdict}
-use Rattle.verdict.specs.declared.Verdict.TheVariants.{Accepted, Refused}
+use Rattle.std.specs.Prelude.{ℕ, List, ℤ, Ok, Err}
+use Rattle.verdict.specs.Verdicts.{Verdict}
 use Rattle.risk_model.specs.declared.RiskModel.{RiskModel}
 use Rattle.risk_form.specs.Root.{root_of}
 use Rattle.risk_factors.specs.declared.DeviationReply.{DeviationReply}
@@ -14,8 +13,8 @@ deviation_for differences m = root_of (form_over_thousand (form_for differences 
 
 -- the deviation, or the refusal and 0 in the other field
 abbrev pub deviation_reply_for : Verdict → ℕ → DeviationReply
-deviation_reply_for (Accepted n) deviation = record { refusal = 0; place = 0; deviation = deviation }
-deviation_reply_for (Refused number place) deviation = record { refusal = number; place = place; deviation = 0 }
+deviation_reply_for (Ok n) deviation = record { refusal = 0; place = 0; deviation = deviation }
+deviation_reply_for (Err r) deviation = record { refusal = r.number; place = r.place; deviation = 0 }
 
 -- the reply to four differences and a model
 unfoldable pub factors_reply : List ℤ → RiskModel → DeviationReply

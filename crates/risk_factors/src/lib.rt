@@ -2,13 +2,14 @@
 #![tactic(auto)]
 
 ghost use Rattle.std.specs.Prelude.{◌≡◌};
-ghost use Rattle.verdict.specs.declared.Verdict.TheVariants.{Refused};
+ghost use Rattle.verdict.specs.Verdicts.{refused};
 ghost use Rattle.risk_factors.specs.Replies.{deviation_reply_for, factors_reply};
 
 use risk_model::RiskModel;
 use risk_scaling::{factors, factors_small};
 
-// Refusal and place are 0 where accepted; the deviation, in thousand francs, is 0 where refused.
+// Refusal and place are 0 where accepted; the deviation, in thousand francs, is 0 where refused. C
+// has this struct as it is, so it is no `Result`.
 #[repr(C)]
 #[derive(Clone, Copy)]
 pub struct DeviationReply {
@@ -17,8 +18,9 @@ pub struct DeviationReply {
     pub deviation: u64,
 }
 
+// A refusal, in the struct that C has.
 fn refused(number: u64) -> DeviationReply
-    ensures { result ≡ deviation_reply_for (Refused number 0) 0 }
+    ensures { result ≡ deviation_reply_for (refused number 0) 0 }
 {
     DeviationReply {
         refusal: number,
@@ -35,13 +37,11 @@ pub fn of_differences(differences: &[i64; 4], model: RiskModel) -> DeviationRepl
     if !risk_model::model_valid(model) {
         return refused(29);
     }
-    let coefficients = model.coefficients;
-    let f = factors(differences, &coefficients);
+    let f = factors(differences, &model.coefficients);
     if !factors_small(&f) {
         return refused(30);
     }
-    let correlation = model.correlation;
-    let sum = risk_form::form(&correlation, &f);
+    let sum = risk_form::form(&model.correlation, &f);
     if sum.negative() {
         return refused(31);
     }

@@ -7,57 +7,64 @@ ghost use Rattle.signed.specs.Signs.{SizesTo};
 ghost use Rattle.risk_form.specs.Form.{term_of, form_of};
 ghost use Rattle.risk_form.specs.Root.{IntegerSquareRoot};
 
-use signed::{Signed, of_four, of_sixteen};
+use signed::Signed;
 
-// Factor i times correlation i j times factor j.
-fn term(correlation: &[i64; 16], f: &[i64; 4], i: usize, j: usize) -> Signed
-    requires { (i < 4) × (j < 4) × SizesTo 1000 16 correlation.now × SizesTo 1000000 4 f.now }
-    ensures { result.number ≡ term_of correlation.now f.now i j }
-{
-    of_four(f, i)
-        .times(of_sixteen(correlation, 4 * i + j))
-        .times(of_four(f, j))
+// Four factors and their correlation, in the ranges that 29 and 30 leave: no step of the form
+// passes 64 bits.
+#[derive(Clone, Copy)]
+struct CorrelatedFactors {
+    correlation: [i64; 16],
+    factors: [i64; 4],
+    ghost known: { SizesTo 1000 16 correlation },
+    ghost small: { SizesTo 1000000 4 factors },
 }
 
-// The terms of row i.
-fn row(correlation: &[i64; 16], f: &[i64; 4], i: usize) -> Signed
-    requires { (i < 4)
-        × SizesTo 1000 16 correlation.now
-        × SizesTo 1000000 4 f.now }
-    ensures { result.number ≡ signed_sum_below (term_of correlation.now f.now i) 4 }
-{
-    let mut sum = Signed { number: 0 };
-    for j in 0usize..4 {
-        sum = sum.plus(term(correlation, f, i, j));
+impl CorrelatedFactors {
+    // Factor i times correlation i j times factor j.
+    fn term(&self, i: usize, j: usize) -> Signed
+        requires { (i < 4)
+            × (j < 4) }
+        ensures { result.number ≡ term_of self.now.correlation self.now.factors i j }
+    {
+        Signed::at(&self.factors, i)
+            .times(Signed::at(&self.correlation, 4 * i + j))
+            .times(Signed::at(&self.factors, j))
     }
-    sum
+
+    // The terms of row i, added. No fold: what each sum asks for is the loop's invariant.
+    fn row(&self, i: usize) -> Signed
+        requires { i < 4 }
+        ensures { result.number
+            ≡ signed_sum_below (term_of self.now.correlation self.now.factors i) 4 }
+    {
+        let mut sum = Signed { number: 0 };
+        for j in 0usize..4 {
+            sum = sum.plus(self.term(i, j));
+        }
+        sum
+    }
 }
 
-pub fn form(correlation: &[i64; 16], f: &[i64; 4]) -> Signed
+// The rows, added.
+pub fn form(correlation: &[i64; 16], factors: &[i64; 4]) -> Signed
     requires { SizesTo 1000 16 correlation.now
-        × SizesTo 1000000 4 f.now }
-    ensures { result.number ≡ form_of correlation.now f.now }
+        × SizesTo 1000000 4 factors.now }
+    ensures { result.number ≡ form_of correlation.now factors.now }
 {
+    let correlated = CorrelatedFactors {
+        correlation: *correlation,
+        factors: *factors,
+    };
     let mut sum = Signed { number: 0 };
     for i in 0usize..4 {
-        sum = sum.plus(row(correlation, f, i));
+        sum = sum.plus(correlated.row(i));
     }
     sum
 }
 
-// The whole root, by halving.
+// The whole root.
 pub fn root(q: u64) -> u64
     ensures { IntegerSquareRoot q result }
 {
-    let mut low: u64 = 0;
-    let mut high: u64 = 4_294_967_296;
-    while low + 1 < high {
-        let middle = (low + high) / 2;
-        if middle * middle <= q {
-            low = middle;
-        } else {
-            high = middle;
-        }
-    }
-    low // high is the next number, whose square is above q
+    q.isqrt()
 }

@@ -12,7 +12,7 @@ use lib.ListN.{get_or}
 use Rattle.conditions.proofs.Joined.{and_left, and_right}
 use Rattle.conditions.proofs.Every.{every_holds, every_good}
 use Rattle.signed.specs.Signs.{same, SizesTo}
-use Rattle.signed.proofs.Same.{same_means, same_good}
+use Rattle.std.proofs.lemmas.Bool.Decides.{Decides-int_eq}
 use Rattle.risk_model.specs.declared.RiskModel.{RiskModel}
 use Rattle.risk_model.specs.Model.{coefficients_right, correlation_at, right_at, correlation_right, model_valid}
 use Rattle.risk_model.specs.Model.{CorrelationRules}
@@ -43,10 +43,11 @@ module _ (r : List ℤ) (e : correlation_right r ≡ true) where
   correlation_rules =
       record {
         range = λ i j hi hj. leb-true _ _ (and_left (ranged i j) (mirrored i j) (in_front i j hi hj));
-        symmetric = λ i j hi hj. same_means _ _ (and_right (ranged i j) (mirrored i j) (in_front i j hi hj));
+        symmetric = λ i j hi hj. (Decides-int_eq _ _).0 (and_right (ranged i j) (mirrored i j) (in_front i j hi hj));
         diagonal =
             λ i hi.
-            same_means _ _ (rw (eq-eqb i i refl) at (and_right (front i i) (diagonal i i) (right_each i i hi hi)));
+            let one = and_right (front i i) (diagonal i i) (right_each i i hi hi) in
+            (Decides-int_eq _ _).0 (rw (eq-eqb i i refl) at one);
       }
     where
       ranged : ℕ → ℕ → Bool
@@ -73,10 +74,10 @@ module _ (r : List ℤ) (h : CorrelationRules r) where
   right_good : (i j : ℕ) → i < 4 → j < 4 → right_at r i j ≡ true
   unfolding right_at
   right_good i j hi hj =
-      rw (le-leb _ _ (h.range i j hi hj), same_good _ _ (h.symmetric i j hi hj)) (by (eqb i j) refl)
+      rw (le-leb _ _ (h.range i j hi hj), (Decides-int_eq _ _).1 (h.symmetric i j hi hj)) (by (eqb i j) refl)
     where
       by : (t : Bool) → eqb i j ≡ t → (not t || same (correlation_at r i j) (pos 1000)) ≡ true
-      by true e = same_good (correlation_at r i j) (pos 1000) (rw (← (eqb-true i j e)) (h.diagonal i hi))
+      by true e = (Decides-int_eq (correlation_at r i j) (pos 1000)).1 (rw (← (eqb-true i j e)) (h.diagonal i hi))
       by false e = refl
 
   pub rules_right : correlation_right r ≡ true

@@ -6,8 +6,6 @@ ghost use Rattle.std.specs.Prelude.{◌≡◌, ◌<◌};
 ghost use Rattle.risk_model.specs.Model.{coefficients_right, right_at, correlation_right};
 ghost use Rattle.risk_model.specs.Model.{model_valid};
 
-use signed::{Signed, of_sixteen};
-
 // The coefficients of variation of mortality, lapse, costs and claims in millionths, and their
 // correlation in thousandths, row by row: that of factors i and j, 0 to 3, stands at 4 i + j.
 #[repr(C)]
@@ -24,10 +22,9 @@ const MOST_CORRELATION: u64 = 1000;
 fn coefficients_valid(coefficients: &[u64; 4]) -> bool
     ensures { result ≡ coefficients_right coefficients.now }
 {
-    (coefficients[0] <= MOST_COEFFICIENT)
-        & (coefficients[1] <= MOST_COEFFICIENT)
-        & (coefficients[2] <= MOST_COEFFICIENT)
-        & (coefficients[3] <= MOST_COEFFICIENT)
+    coefficients
+        .iter()
+        .all(|coefficient| *coefficient <= MOST_COEFFICIENT)
 }
 
 fn valid_at(correlation: &[i64; 16], i: usize, j: usize) -> bool
@@ -35,27 +32,20 @@ fn valid_at(correlation: &[i64; 16], i: usize, j: usize) -> bool
         × (j < 4) }
     ensures { result ≡ right_at correlation.now i j }
 {
-    let x = of_sixteen(correlation, 4 * i + j);
-    let mirrored = of_sixteen(correlation, 4 * j + i);
-    let one = Signed { number: 1000 };
-    (x.size() <= MOST_CORRELATION) & x.same(mirrored) & (!(i == j) | x.same(one))
+    let x = correlation[4 * i + j];
+    let mirrored = correlation[4 * j + i];
+    (x.unsigned_abs() <= MOST_CORRELATION) & (x == mirrored) & ((i != j) | (x == 1000))
 }
 
 fn correlation_valid(correlation: &[i64; 16]) -> bool
     ensures { result ≡ correlation_right correlation.now }
 {
-    let mut right = true;
-    for k in 0usize..16 {
-        right = right & valid_at(correlation, k / 4, k % 4);
-    }
-    right
+    (0usize..16).all(|k| valid_at(correlation, k / 4, k % 4))
 }
 
 // 29 looks at the whole model.
 pub fn model_valid(model: RiskModel) -> bool
     ensures { result ≡ model_valid model }
 {
-    let coefficients = model.coefficients;
-    let correlation = model.correlation;
-    coefficients_valid(&coefficients) & correlation_valid(&correlation)
+    coefficients_valid(&model.coefficients) & correlation_valid(&model.correlation)
 }

@@ -5,7 +5,7 @@ ghost use Rattle.std.specs.Prelude.{◌≡◌, true, ◌≤◌};
 ghost use Rattle.risk_model.specs.Model.{coefficients_right};
 ghost use Rattle.risk_scaling.specs.Factors.{scaled_of, factors_of, factors_small};
 
-use signed::{Signed, of_four};
+use signed::Signed;
 
 const MOST_FACTOR: u64 = 1_000_000;
 
@@ -25,10 +25,10 @@ pub fn factors(differences: &[i64; 4], coefficients: &[u64; 4]) -> [i64; 4]
     requires { coefficients_right coefficients.now ≡ true }
     ensures { result ≡ factors_of differences.now coefficients.now }
 {
-    let mortality = scaled(of_four(differences, 0), coefficients[0], 400);
-    let lapse = scaled(of_four(differences, 1), coefficients[1], 600);
-    let costs = scaled(of_four(differences, 2), coefficients[2], 400);
-    let claims = scaled(of_four(differences, 3), coefficients[3], 50);
+    let mortality = scaled(Signed::at(differences, 0), coefficients[0], 400);
+    let lapse = scaled(Signed::at(differences, 1), coefficients[1], 600);
+    let costs = scaled(Signed::at(differences, 2), coefficients[2], 400);
+    let claims = scaled(Signed::at(differences, 3), coefficients[3], 50);
     [mortality.number, lapse.number, costs.number, claims.number]
 }
 
@@ -36,8 +36,5 @@ pub fn factors(differences: &[i64; 4], coefficients: &[u64; 4]) -> [i64; 4]
 pub fn factors_small(f: &[i64; 4]) -> bool
     ensures { result ≡ factors_small f.now }
 {
-    (of_four(f, 0).size() <= MOST_FACTOR)
-        & (of_four(f, 1).size() <= MOST_FACTOR)
-        & (of_four(f, 2).size() <= MOST_FACTOR)
-        & (of_four(f, 3).size() <= MOST_FACTOR)
+    f.iter().all(|factor| factor.unsigned_abs() <= MOST_FACTOR)
 }

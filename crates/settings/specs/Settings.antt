@@ -3,6 +3,18 @@
 -- Kinds: 0 mortality of men, 1 mortality of women, 2 lapse, 3 costs, 4 claims. A weight of mortality is so much for
 -- each percent of it.
 use Rattle.std.specs.Prelude.{Bool, cond, ℕ, ◌*◌, ◌/◌, ltb, eqb}
+use Rattle.settings.specs.declared.ByPeriod.{ByPeriod}
+use Rattle.settings.specs.declared.Five.{Five}
+use Rattle.settings.specs.declared.Kind.{Kind}
+use Rattle.settings.specs.declared.Kind.TheVariants.{Men, Women, Lapse, Costs, Claims}
+
+-- the number of a kind
+abbrev pub number_of : Kind → ℕ
+number_of Men = 0
+number_of Women = 1
+number_of Lapse = 2
+number_of Costs = 3
+number_of Claims = 4
 
 -- the base, setting 0: for mortality ten for each percent
 abbrev pub base_weight : ℕ → ℕ
@@ -27,3 +39,14 @@ weight_in early setting kind = base_weight kind * shift_in early setting kind / 
 -- the weight of a kind in the year k
 unfoldable pub weight_of : ℕ → ℕ → ℕ → ℕ
 weight_of setting kind k = weight_in (ltb k 5) setting kind
+
+-- what holds in the year k
+abbrev pub in_period : {A : Type 0} → ByPeriod A → ℕ → A
+in_period p k = cond (ltb k 5) p.first p.later
+
+-- of five, the one of setting 0 to 4
+abbrev pub of_five : {A : Type 0} → Five A → ℕ → A
+of_five x setting =
+    cond (eqb setting 1) x.mortality_up
+    (cond (eqb setting 2) x.mortality_down
+    (cond (eqb setting 3) x.lapse_up (cond (eqb setting 4) x.lapse_down x.base)))

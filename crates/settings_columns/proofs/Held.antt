@@ -6,7 +6,8 @@ use Prim.Native.Nat.{ℕ, ◌<◌, ◌≤◌}
 use native.Mathlib.Omega.{arith}
 use lib.Dec.{ltb, eqb}
 use Rattle.settings.specs.Settings.{weight_in, weight_of}
-use Rattle.settings_columns.specs.Columns.{same_mortality, survival_column, persistency_column, columns_of}
+use Rattle.settings_columns.specs.Columns.{same_mortality, survival_column, persistency_column, columns_at}
+use Rattle.settings_columns.specs.Columns.{columns_of}
 use Rattle.settings_columns.specs.Columns.{survives_in, persists_in, same_columns, projection_of}
 use Rattle.settings.proofs.Weights.{pick_le}
 
@@ -32,7 +33,7 @@ module _ (setting k : ℕ) where
       of : Bool → ℕ
       of t = cond (same t 10) 0 (cond (same t 12) 1 2)
 
-      by : (t : Bool) → cond t (of true) (of false) ≡ of t
+      by : (t : Bool) → (cond t (columns_at setting 0) (columns_at setting 5)).survival ≡ of t
       by true = refl
       by false = refl
 
@@ -43,7 +44,7 @@ module _ (setting k : ℕ) where
       of : Bool → ℕ
       of t = cond (eqb (weight_in t setting 2) 1000) 3 (cond (eqb (weight_in t setting 2) 1300) 4 5)
 
-      by : (t : Bool) → cond t (of true) (of false) ≡ of t
+      by : (t : Bool) → (cond t (columns_at setting 0) (columns_at setting 5)).persistency ≡ of t
       by true = refl
       by false = refl
 

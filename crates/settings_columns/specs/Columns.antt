@@ -1,8 +1,10 @@
 -- Which columns of a chain's rows a setting takes, and which of the five projections serves it. Assumes nothing.
-use Rattle.std.specs.Prelude.{Bool, ◌&&◌, cond, ℕ, ltb, eqb}
+use Rattle.std.specs.Prelude.{Bool, ◌&&◌, cond, ℕ, eqb}
 use Rattle.settings.specs.Settings.{weight_of}
+use Rattle.settings.specs.Settings.{in_period}
+use Rattle.settings.specs.declared.ByPeriod.{ByPeriod}
+use Rattle.settings.specs.declared.Five.{Five}
 use Rattle.settings_columns.specs.declared.Columns.{Columns}
-use Rattle.settings_columns.specs.declared.FiveColumns.{FiveColumns}
 
 -- in year k of a setting the weights of mortality, of men and of women, are those of year 0 of another
 unfoldable pub same_mortality : ℕ → ℕ → ℕ → Bool
@@ -18,22 +20,27 @@ unfoldable pub persistency_column : ℕ → ℕ → ℕ
 persistency_column setting k =
     cond (eqb (weight_of setting 2 k) (weight_of 0 2 0)) 3 (cond (eqb (weight_of setting 2 k) (weight_of 3 2 0)) 4 5)
 
--- both for the first five years and for the later ones
-unfoldable pub columns_of : ℕ → Columns
-columns_of setting = record {
-  firstlives = survival_column setting 0;
-  firststays = persistency_column setting 0;
-  laterlives = survival_column setting 5;
-  laterstays = persistency_column setting 5;
+-- both in the year k
+abbrev pub columns_at : ℕ → ℕ → Columns
+columns_at setting k = record {
+  survival = survival_column setting k;
+  persistency = persistency_column setting k;
 }
 
-abbrev pub survives_in : Columns → ℕ → ℕ
-survives_in c k = cond (ltb k 5) c.firstlives c.laterlives
+-- both for the first five years and for the later ones
+unfoldable pub columns_of : ℕ → ByPeriod Columns
+columns_of setting = record { first = columns_at setting 0; later = columns_at setting 5 }
 
-abbrev pub persists_in : Columns → ℕ → ℕ
-persists_in c k = cond (ltb k 5) c.firststays c.laterstays
+abbrev pub survives_in : ByPeriod Columns → ℕ → ℕ
+survives_in c k = (in_period c k).survival
+
+abbrev pub persists_in : ByPeriod Columns → ℕ → ℕ
+persists_in c k = (in_period c k).persistency
 
 -- those of the five settings that serve all
+abbrev pub FiveColumns : Type 0
+FiveColumns = Five (ByPeriod Columns)
+
 unfoldable pub five_columns : FiveColumns
 five_columns = record {
   base = columns_of 0;
@@ -44,12 +51,12 @@ five_columns = record {
 }
 
 -- the columns of a setting, in first and later years, are those of another
-unfoldable pub same_columns : Columns → Columns → Bool
+abbrev pub same_columns : ByPeriod Columns → ByPeriod Columns → Bool
 same_columns c d =
-    eqb c.firstlives d.firstlives
-    && eqb c.firststays d.firststays
-    && eqb c.laterlives d.laterlives
-    && eqb c.laterstays d.laterstays
+    eqb c.first.survival d.first.survival
+    && eqb c.first.persistency d.first.persistency
+    && eqb c.later.survival d.later.survival
+    && eqb c.later.persistency d.later.persistency
 
 -- of the five projections, those of the settings 0 to 4, the first that serves a setting: it has the setting's columns
 unfoldable pub projection_of : ℕ → ℕ

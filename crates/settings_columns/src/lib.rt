@@ -4,25 +4,27 @@
 
 ghost use Rattle.std.specs.Prelude.{◌≡◌, ◌<◌};
 ghost use Rattle.settings_columns.specs.Columns.{same_mortality, survival_column};
-ghost use Rattle.settings_columns.specs.Columns.{persistency_column, columns_of, survives_in};
-ghost use Rattle.settings_columns.specs.Columns.{persists_in, five_columns, same_columns};
+ghost use Rattle.settings_columns.specs.Columns.{persistency_column, columns_at};
+ghost use Rattle.settings_columns.specs.Columns.{columns_of, five_columns};
 ghost use Rattle.settings_columns.specs.Columns.{projection_of};
 
-use settings::{LAPSE, MEN, WOMEN};
+use settings::{ByPeriod, Five, Kind};
 
 // Whether in year k of a setting the weights of mortality, of men and of women, are those of year 0
 // of another.
+#[tactic(auto, unfolding(crate::specs::Columns::same_mortality))]
 fn same_mortality(setting: usize, k: usize, other: usize) -> bool
     requires { (setting < 8)
         × (other < 8) }
     ensures { result ≡ same_mortality setting k other }
 {
-    (settings::weight(setting, MEN, k) == settings::weight(other, MEN, 0))
-        & (settings::weight(setting, WOMEN, k) == settings::weight(other, WOMEN, 0))
+    (settings::weight(setting, Kind::Men, k) == settings::weight(other, Kind::Men, 0))
+        & (settings::weight(setting, Kind::Women, k) == settings::weight(other, Kind::Women, 0))
 }
 
 // Of the columns of a chain's rows, the one of what lives on in year k of a setting: that of the
 // weights which hold, 0 the base's, 1 of more deaths, 2 of fewer.
+#[tactic(auto, unfolding(crate::specs::Columns::survival_column))]
 fn survival_column(setting: usize, k: usize) -> usize
     requires { setting < 8 }
     ensures { result ≡ survival_column setting k }
@@ -34,120 +36,83 @@ fn survival_column(setting: usize, k: usize) -> usize
 }
 
 // The one of what stays: 3 the base's, 4 of more lapses, 5 of fewer.
+#[tactic(auto, unfolding(crate::specs::Columns::persistency_column))]
 fn persistency_column(setting: usize, k: usize) -> usize
     requires { setting < 8 }
     ensures { result ≡ persistency_column setting k }
 {
-    let held = settings::weight(setting, LAPSE, k);
-    let base = settings::weight(0, LAPSE, 0);
-    let more = settings::weight(3, LAPSE, 0);
+    let held = settings::weight(setting, Kind::Lapse, k);
+    let base = settings::weight(0, Kind::Lapse, 0);
+    let more = settings::weight(3, Kind::Lapse, 0);
     if held == base {
         return 3;
     }
     if held == more { 4 } else { 5 }
 }
 
-// The columns of a setting, of what lives on and of what stays: in the years k = 0 to 4, and in the
-// later ones.
-#[derive(Clone, Copy)]
+// The columns of what lives on and of what stays.
+#[derive(Clone, Copy, PartialEq, Eq)]
 pub struct Columns {
-    pub firstlives: usize,
-    pub firststays: usize,
-    pub laterlives: usize,
-    pub laterstays: usize,
+    pub survival: usize,
+    pub persistency: usize,
 }
 
 impl Columns {
-    pub fn new(setting: usize) -> Columns
+    // Those of a setting in year k.
+    fn new(setting: usize, k: usize) -> Columns
         requires { setting < 8 }
-        ensures { result ≡ columns_of setting }
+        ensures { result ≡ columns_at setting k }
     {
         Columns {
-            firstlives: survival_column(setting, 0),
-            firststays: persistency_column(setting, 0),
-            laterlives: survival_column(setting, 5),
-            laterstays: persistency_column(setting, 5),
+            survival: survival_column(setting, k),
+            persistency: persistency_column(setting, k),
         }
     }
+}
 
-    // The column of what lives on in the year k.
-    pub fn survives(self, k: usize) -> usize
-        ensures { result ≡ survives_in self k }
-    {
-        if k < 5 {
-            self.firstlives
-        } else {
-            self.laterlives
-        }
-    }
-
-    // The column of what stays in the year k.
-    pub fn persists(self, k: usize) -> usize
-        ensures { result ≡ persists_in self k }
-    {
-        if k < 5 {
-            self.firststays
-        } else {
-            self.laterstays
-        }
-    }
-
-    // Whether these are the same columns as others.
-    fn same_as(self, other: Columns) -> bool
-        ensures { result ≡ same_columns self other }
-    {
-        (self.firstlives == other.firstlives)
-            & (self.firststays == other.firststays)
-            & (self.laterlives == other.laterlives)
-            & (self.laterstays == other.laterstays)
+// The columns of a setting.
+#[tactic(auto, unfolding(crate::specs::Columns::columns_of))]
+pub fn columns_of(setting: usize) -> ByPeriod<Columns>
+    requires { setting < 8 }
+    ensures { result ≡ columns_of setting }
+{
+    ByPeriod {
+        first: Columns::new(setting, 0),
+        later: Columns::new(setting, 5),
     }
 }
 
 // Those of the five settings whose projections serve all.
-#[derive(Clone, Copy)]
-pub struct FiveColumns {
-    pub base: Columns,
-    pub mortality_up: Columns,
-    pub mortality_down: Columns,
-    pub lapse_up: Columns,
-    pub lapse_down: Columns,
-}
-
-impl FiveColumns {
-    pub fn new() -> FiveColumns
-        ensures { result ≡ five_columns }
-    {
-        let base = Columns::new(0);
-        let mortality_up = Columns::new(1);
-        let mortality_down = Columns::new(2);
-        let lapse_up = Columns::new(3);
-        let lapse_down = Columns::new(4);
-        FiveColumns {
-            base,
-            mortality_up,
-            mortality_down,
-            lapse_up,
-            lapse_down,
-        }
+#[tactic(auto, unfolding(crate::specs::Columns::five_columns))]
+pub fn five_columns() -> Five<ByPeriod<Columns>>
+    ensures { result ≡ five_columns }
+{
+    Five {
+        base: columns_of(0),
+        mortality_up: columns_of(1),
+        mortality_down: columns_of(2),
+        lapse_up: columns_of(3),
+        lapse_down: columns_of(4),
     }
 }
 
 // Of the five projections, those of the settings 0 to 4, the one that serves a setting: it has the
 // setting's columns. Those of the five are constants, made at no cost.
+#[tactic(auto, unfolding(crate::specs::Columns::projection_of))]
 pub fn projection_of(setting: usize) -> usize
     requires { setting < 8 }
     ensures { (result ≡ projection_of setting)
         × (result < 5) }
 {
-    let own = Columns::new(setting);
-    if own.same_as(Columns::new(0)) {
+    let own = columns_of(setting);
+    if own == columns_of(0) {
         return 0;
     }
-    if own.same_as(Columns::new(1)) {
+    if own == columns_of(1) {
         return 1;
     }
-    if own.same_as(Columns::new(2)) {
+    if own == columns_of(2) {
         return 2;
     }
-    if own.same_as(Columns::new(3)) { 3 } else { 4 }
+    if own == columns_of(3) { 3 } else { 4 }
 }

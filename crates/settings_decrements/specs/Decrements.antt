@@ -1,10 +1,10 @@
 -- The weights of mortality and lapse of a book, in thousandths (paper, section Settings). Assumes nothing.
-use Rattle.std.specs.Prelude.{cond, List, ◌≡◌, ℕ, ◌*◌, ◌≤◌, ltb, eqb}
+use Rattle.std.specs.Prelude.{cond, List, ◌≡◌, ℕ, ◌*◌, ◌≤◌, eqb}
 use Rattle.book.specs.Layout.{edition, percent_at}
-use Rattle.settings.specs.Settings.{weight_of}
+use Rattle.settings.specs.Settings.{in_period, weight_of}
+use Rattle.settings.specs.declared.ByPeriod.{ByPeriod}
+use Rattle.settings.specs.declared.Five.{Five}
 use Rattle.settings_decrements.specs.declared.DecrementWeights.{DecrementWeights}
-use Rattle.settings_decrements.specs.declared.Decrements.{Decrements}
-use Rattle.settings_decrements.specs.declared.Shifts.{Shifts}
 
 -- the mortality percentage of a sex, 0 men, 1 women: 87 and 86 (FINMA 4.4.3), unless the book is of edition 2 and
 -- carries its own
@@ -25,6 +25,14 @@ decrements_at b setting k =
       lapse = weight_of setting 2 k;
     }
 
+-- the weights of the first five years and of the later ones
+abbrev pub Decrements : Type 0
+Decrements = ByPeriod DecrementWeights
+
+-- the weights of the base and of the four settings that shift mortality or lapse
+abbrev pub Shifts : Type 0
+Shifts = Five DecrementWeights
+
 -- the same for the first five years, which are as year 0, and for the later ones, which are as year 5
 unfoldable pub decrements_of : List ℕ → ℕ → Decrements
 decrements_of b setting = record { first = decrements_at b setting 0; later = decrements_at b setting 5 }
@@ -36,11 +44,11 @@ of_sex sex w = cond (eqb sex 0) w.men w.women
 
 -- the weight of the mortality of a sex in the year k
 abbrev pub mortality_in : Decrements → ℕ → ℕ → ℕ
-mortality_in w sex k = cond (ltb k 5) (of_sex sex w.first) (of_sex sex w.later)
+mortality_in w sex k = of_sex sex (in_period w k)
 
 -- the weight of the lapse in the year k
 abbrev pub lapse_in : Decrements → ℕ → ℕ
-lapse_in w k = cond (ltb k 5) w.first.lapse w.later.lapse
+lapse_in w k = (in_period w k).lapse
 
 -- w are the weights of mortality and lapse of a setting in year 0, none of them above 1,300 thousandths
 pub record WeightsOf (b : List ℕ) (setting : ℕ) (w : DecrementWeights) : Type 0 where

@@ -5,10 +5,11 @@
 
 ghost use Rattle.std.specs.Prelude.{◌≡◌, ◌<◌, ◌≤◌};
 ghost use Rattle.book.specs.Reading.{ValidBook};
+ghost use Rattle.settings.specs.Settings.{number_of};
 ghost use Rattle.settings_decrements.specs.Decrements.{percent_of, mortality_weight};
 ghost use Rattle.settings_decrements.specs.Decrements.{decrements_at, of_sex, ShiftsOf};
 
-use settings::LAPSE;
+use settings::{Five, Kind};
 
 // The mortality percentage of a sex: 0 men, 1 women. Edition 2 of the book carries its own.
 fn percent_of(book: &[u8], sex: usize) -> u64
@@ -23,6 +24,13 @@ fn percent_of(book: &[u8], sex: usize) -> u64
     if sex == 0 { 87 } else { 86 }
 }
 
+// The kind of weight of the mortality of a sex. A sex has its number in the book's lists.
+fn mortality_kind(sex: usize) -> Kind
+    ensures { sex ≤ 1 → number_of result ≡ sex }
+{
+    if sex == 0 { Kind::Men } else { Kind::Women }
+}
+
 // The weight of the mortality of a sex: 0 men, 1 women.
 fn mortality_weight(book: &[u8], setting: usize, sex: usize, k: usize) -> u64
     requires { (setting < 8)
@@ -31,7 +39,7 @@ fn mortality_weight(book: &[u8], setting: usize, sex: usize, k: usize) -> u64
     ensures { (result ≡ mortality_weight book.now setting sex k)
         × (result ≤ 1300) }
 {
-    percent_of(book, sex) * settings::weight(setting, sex, k)
+    percent_of(book, sex) * settings::weight(setting, mortality_kind(sex), k)
 }
 
 // The weights of mortality and lapse in one year.
@@ -54,7 +62,7 @@ impl DecrementWeights {
         DecrementWeights {
             men: mortality_weight(book, setting, 0, k),
             women: mortality_weight(book, setting, 1, k),
-            lapse: settings::weight(setting, LAPSE, k),
+            lapse: settings::weight(setting, Kind::Lapse, k),
         }
     }
 
@@ -66,41 +74,19 @@ impl DecrementWeights {
     }
 }
 
-// The weights of mortality and lapse of a setting: in the years k = 0 to 4, and in the later ones.
-// The definitions speak of them.
-#[derive(Clone, Copy)]
-pub struct Decrements {
-    pub first: DecrementWeights,
-    pub later: DecrementWeights,
-}
-
 // The weights of mortality and lapse in year 0, of the base and of the four settings that shift
 // them: no other weights hold in any year of any setting.
-#[derive(Clone, Copy)]
-pub struct Shifts {
-    pub base: DecrementWeights,
-    pub mortality_up: DecrementWeights,
-    pub mortality_down: DecrementWeights,
-    pub lapse_up: DecrementWeights,
-    pub lapse_down: DecrementWeights,
-}
+pub type Shifts = Five<DecrementWeights>;
 
-impl Shifts {
-    pub fn new(book: &[u8]) -> Shifts
-        requires { ValidBook 1 book.now }
-        ensures { ShiftsOf book.now result }
-    {
-        let base = DecrementWeights::new(book, 0, 0);
-        let mortality_up = DecrementWeights::new(book, 1, 0);
-        let mortality_down = DecrementWeights::new(book, 2, 0);
-        let lapse_up = DecrementWeights::new(book, 3, 0);
-        let lapse_down = DecrementWeights::new(book, 4, 0);
-        Shifts {
-            base,
-            mortality_up,
-            mortality_down,
-            lapse_up,
-            lapse_down,
-        }
+pub fn shifts_of(book: &[u8]) -> Shifts
+    requires { ValidBook 1 book.now }
+    ensures { ShiftsOf book.now result }
+{
+    Five {
+        base: DecrementWeights::new(book, 0, 0),
+        mortality_up: DecrementWeights::new(book, 1, 0),
+        mortality_down: DecrementWeights::new(book, 2, 0),
+        lapse_up: DecrementWeights::new(book, 3, 0),
+        lapse_down: DecrementWeights::new(book, 4, 0),
     }
 }

@@ -1,2 +1,3 @@
 pub mod Outgoings
+pub mod Later
 pub mod BookWeights

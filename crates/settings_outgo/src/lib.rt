@@ -2,15 +2,14 @@
 // it: structs by value, read outside the loops.
 #![tactic(auto)]
 
-ghost use Rattle.std.specs.Prelude.{◌≡◌, ◌<◌, ◌≤◌};
-ghost use Rattle.settings_outgo.specs.Outgoings.{outgo_at, outgoings_of, costs_in};
-ghost use Rattle.settings_outgo.specs.Outgoings.{claims_weight_in, OutgoWeighed, SettingOf};
-ghost use Rattle.settings_outgo.specs.Outgoings.{later_as};
+ghost use Rattle.std.specs.Prelude.{◌≡◌, ◌<◌};
+ghost use Rattle.settings_columns.specs.Columns.{projection_of};
+ghost use Rattle.settings_outgo.specs.Outgoings.{outgo_at, outgoings_of};
 
-use settings::{CLAIMS, COSTS};
+use settings::{ByPeriod, Kind};
 
 // The weights of costs and claims in one year.
-#[derive(Clone, Copy)]
+#[derive(Clone, Copy, PartialEq, Eq)]
 pub struct OutgoWeights {
     pub costs: u64,
     pub claims: u64,
@@ -19,59 +18,26 @@ pub struct OutgoWeights {
 impl OutgoWeights {
     fn new(setting: usize, k: usize) -> OutgoWeights
         requires { setting < 8 }
-        ensures { (result ≡ outgo_at setting k)
-            × (result.costs ≤ 1200)
-            × (result.claims ≤ 1050) }
+        ensures { result ≡ outgo_at setting k }
     {
         OutgoWeights {
-            costs: settings::weight(setting, COSTS, k),
-            claims: settings::weight(setting, CLAIMS, k),
+            costs: settings::weight(setting, Kind::Costs, k),
+            claims: settings::weight(setting, Kind::Claims, k),
         }
     }
 }
 
-// The weights of costs and claims of a setting: in the years k = 0 to 4, and in the later ones.
-#[derive(Clone, Copy)]
-pub struct Outgoings {
-    pub first: OutgoWeights,
-    pub later: OutgoWeights,
-}
+// The weights of costs and claims of a setting.
+pub type Outgoings = ByPeriod<OutgoWeights>;
 
-impl Outgoings {
-    pub fn new(setting: usize) -> Outgoings
-        requires { setting < 8 }
-        ensures { (result ≡ outgoings_of setting)
-            × OutgoWeighed result }
-    {
-        let first = OutgoWeights::new(setting, 0);
-        let later = OutgoWeights::new(setting, 5);
-        Outgoings { first, later }
-    }
-
-    // The weight of the costs in the year k.
-    pub fn cost_weight(self, k: usize) -> u64
-        requires { OutgoWeighed self }
-        ensures { (result ≡ costs_in self k)
-            × (result ≤ 1200) }
-    {
-        if k < 5 {
-            self.first.costs
-        } else {
-            self.later.costs
-        }
-    }
-
-    // The weight of the claims in the year k.
-    pub fn claims_weight(self, k: usize) -> u64
-        requires { OutgoWeighed self }
-        ensures { (result ≡ claims_weight_in self k)
-            × (result ≤ 1050) }
-    {
-        if k < 5 {
-            self.first.claims
-        } else {
-            self.later.claims
-        }
+#[tactic(auto, unfolding(crate::specs::Outgoings::outgoings_of))]
+fn outgoings_of(setting: usize) -> Outgoings
+    requires { setting < 8 }
+    ensures { result ≡ outgoings_of setting }
+{
+    ByPeriod {
+        first: OutgoWeights::new(setting, 0),
+        later: OutgoWeights::new(setting, 5),
     }
 }
 
@@ -82,16 +48,20 @@ pub struct Setting {
     pub number: usize,
     pub projection: usize,
     pub outgo: Outgoings,
+    pub ghost known: { number < 8 },
+    pub ghost projection_is: { projection ≡ projection_of number },
+    pub ghost outgo_is: { outgo ≡ outgoings_of number },
 }
 
 impl Setting {
+    ghost use Rattle.settings_outgo.specs.Later.{later_as};
+
     pub fn new(number: usize) -> Setting
         requires { number < 8 }
-        ensures { (result.number ≡ number)
-            × SettingOf result }
+        ensures { result.number ≡ number }
     {
         let projection = settings_columns::projection_of(number);
-        let outgo = Outgoings::new(number);
+        let outgo = outgoings_of(number);
         Setting {
             number,
             projection,
@@ -104,8 +74,6 @@ impl Setting {
     pub fn later_as(self, other: Setting) -> bool
         ensures { result ≡ later_as self other }
     {
-        (self.projection == other.projection)
-            & (self.outgo.later.costs == other.outgo.later.costs)
-            & (self.outgo.later.claims == other.outgo.later.claims)
+        (self.projection == other.projection) & (self.outgo.later == other.outgo.later)
     }
 }

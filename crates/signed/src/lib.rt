@@ -1,11 +1,12 @@
 // Numbers with a sign: sums, differences, products, size and sign, and one of an array.
 #![tactic(auto)]
 
-ghost use Rattle.std.specs.Prelude.{◌≡◌, ◌+◌, ◌*◌, ◌≤◌, ◌<◌, pos, nat_abs, ◌+ℤ◌, ◌-ℤ◌, ◌*ℤ◌, ◌<ℤ◌};
+ghost use Rattle.std.specs.Prelude.{◌≡◌, ◌+◌, ◌*◌, ◌≤◌, ◌<◌, pos, nat_abs, ◌+ℤ◌, ◌-ℤ◌, ◌*ℤ◌};
 ghost use Rattle.std.specs.Int.Signed.{mag};
-ghost use Rattle.signed.specs.Signs.{number_at, is_negative, same, with_sign};
+ghost use Rattle.signed.specs.Signs.{number_at, is_negative, with_sign};
 
-// Sum and difference of two numbers with a sign.
+// Sum and difference of two bare numbers, beside those of `Signed`: totals are bare, as C has them,
+// and `mag` bounds each sum of eight.
 pub fn plus(a: i64, b: i64) -> i64
     requires { mag a + mag b < 9223372036854775807 }
     ensures { (result ≡ a +ℤ b)
@@ -30,22 +31,22 @@ pub fn less(a: u64, b: u64) -> i64
     (a as i64) - (b as i64)
 }
 
-// The size of a number below 0. It is turned round one step off, since the lowest has no opposite.
-pub fn size_below(v: i64) -> u64
-    requires { v <ℤ pos 0 }
-    ensures { result ≡ nat_abs v }
-{
-    (-1 - v) as u64 + 1
-}
-
 // A number with a sign in a struct of its own: what a call returns is passed on whole, and a
 // caller's facts are about the number itself.
-#[derive(Clone, Copy)]
+#[derive(Clone, Copy, PartialEq)]
 pub struct Signed {
     pub number: i64,
 }
 
 impl Signed {
+    // Number i of an array.
+    pub fn at<const N: usize>(xs: &[i64; N], i: usize) -> Signed
+        requires { i < N }
+        ensures { result.number ≡ number_at xs.now i }
+    {
+        Signed { number: xs[i] }
+    }
+
     pub fn plus(self, y: Signed) -> Signed
         requires { nat_abs self.number + nat_abs y.number < 9223372036854775808 }
         ensures { result.number ≡ self.number +ℤ y.number }
@@ -69,8 +70,7 @@ impl Signed {
         ensures { (result ≡ nat_abs self.number)
             × (result ≤ 9223372036854775808) }
     {
-        let x = self.number;
-        if x < 0 { size_below(x) } else { x as u64 }
+        self.number.unsigned_abs()
     }
 
     // A size with the number's sign.
@@ -93,25 +93,4 @@ impl Signed {
     {
         self.number < 0
     }
-
-    pub fn same(self, y: Signed) -> bool
-        ensures { result ≡ same self.number y.number }
-    {
-        (self.number <= y.number) & (y.number <= self.number)
-    }
-}
-
-// Number i of four, and of sixteen.
-pub fn of_four(xs: &[i64; 4], i: usize) -> Signed
-    requires { i < 4 }
-    ensures { result.number ≡ number_at xs.now i }
-{
-    Signed { number: xs[i] }
-}
-
-pub fn of_sixteen(xs: &[i64; 16], i: usize) -> Signed
-    requires { i < 16 }
-    ensures { result.number ≡ number_at xs.now i }
-{
-    Signed { number: xs[i] }
 }

@@ -1,7 +1,6 @@
 -- What the call answers of a book and a risk model, and what is promised of it.
 use Rattle.std.specs.Prelude.{ℕ, ◌≤◌, ◌≡◌, false, List}
-use Rattle.verdict.specs.Verdicts.{◌and_then◌}
-use Rattle.verdict.specs.declared.Verdict.{Verdict}
+use Rattle.verdict.specs.Verdicts.{◌and_then◌, Verdict}
 use Rattle.book.specs.Check.{check_book}
 use Rattle.valuation.specs.Totals.{differences_of}
 use Rattle.signed.specs.Signs.{is_negative}

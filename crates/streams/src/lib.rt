@@ -10,7 +10,8 @@ use std::io::Read;
 
 // Reads until the buffer is full or the input ends, and answers how many bytes came, which stand at
 // the buffer's start. The first read that fails ends it, with that read's error and no other: what
-// was read before it stands at the buffer's start.
+// was read before it stands at the buffer's start. The loop is this crate's own, since the
+// library's `read_exact` says little of what a failed read leaves.
 pub fn read_full<R: Read>(reader: &mut R, buffer: &mut [u8]) -> io::Result<usize>
     ensures bound { ReadsAtMost result buffer.new }
     ensures bytes { IfOk result (λ n. Consumes (R.remaining reader.old) (R.remaining reader.new)

@@ -4,71 +4,40 @@
 // where there is no such cell.
 #![tactic(auto)]
 
-ghost use Rattle.std.specs.Prelude.{◌<◌};
-
 use cell_projection::{A_YEAR, ModelPoint, YEARS};
-use five_projections::Counts;
 use rate_table::{COLUMNS, ROWS};
-use settings_decrements::Shifts;
 use std::io;
 use std::io::Read;
-use verdict::Verdict;
-
-#[derive(Clone, Copy)]
-pub enum Years {
-    Computed(usize),
-    NoCell,
-}
-
-// The years of the projection that serves a setting.
-fn years_of(counts: Counts, setting: usize) -> usize
-    requires { setting < 8 }
-{
-    let projection = settings_columns::projection_of(setting);
-    if projection == 1 {
-        return counts.mortality_up;
-    }
-    if projection == 2 {
-        return counts.mortality_down;
-    }
-    if projection == 3 {
-        return counts.lapse_up;
-    }
-    if projection == 4 {
-        return counts.lapse_down;
-    }
-    counts.base
-}
 
 // The projection of the first cell of a chain of an accepted book.
-fn first_projection(book: &[u8], setting: usize, chain: usize) -> Years {
+fn first_projection(book: &[u8], setting: usize, chain: usize) -> Option<usize> {
     if 7 < setting {
-        return Years::NoCell;
+        return None;
     }
     if 13 < chain {
-        return Years::NoCell;
+        return None;
     }
-    let v = book_check::check(book);
-    let Verdict::Accepted(_) = v else {
-        return Years::NoCell;
+    let Ok(_) = book_check::check(book) else {
+        return None;
     };
     let head = book::head_of(book, chain);
     if head == 0 {
-        return Years::NoCell;
+        return None;
     }
     let mut rows = [0u64; ROWS * COLUMNS];
     let mut sums = [0u64; YEARS * A_YEAR];
-    chain_rows::read_rows(book, Shifts::new(book), chain, head, &mut rows);
+    let w = settings_decrements::shifts_of(book);
+    chain_rows::read_rows(book, w, chain, head, &mut rows);
     let count = book::field_of(book, head, book::COUNT_OFFSET);
     let point = ModelPoint { row: 0, count };
     let counts = five_projections::project(&rows, point, &mut sums);
-    Years::Computed(years_of(counts, setting))
+    Some(counts.of(settings_columns::projection_of(setting)))
 }
 
-fn write_years(rt: &impl Print, years: Years) -> io::Result<()> {
+fn write_years(rt: &impl Print, years: Option<usize>) -> io::Result<()> {
     match years {
-        Years::Computed(n) => println!(rt; "{n}"),
-        Years::NoCell => println!(rt; "none"),
+        Some(n) => println!(rt; "{n}"),
+        None => println!(rt; "none"),
     }
 }
 

@@ -4,19 +4,18 @@
 
 use std::io;
 use std::io::Read;
-use test_stream::Next;
 use verdict::Verdict;
 
 fn write_verdict(rt: &impl Print, v: Verdict) -> io::Result<()> {
     match v {
-        Verdict::Accepted(n) => println!(rt; "accepted {n}"),
-        Verdict::Refused(number, place) => println!(rt; "refused {number} {place}"),
+        Ok(n) => println!(rt; "accepted {n}"),
+        Err(refusal) => println!(rt; "refused {} {}", refusal.number, refusal.place),
     }
 }
 
 // One book; false where the stream has ended.
 fn next_verdict<R: Read>(rt: &impl Print, books: &mut R) -> io::Result<bool> {
-    let Next::Number(size) = test_stream::next_u32(books)? else {
+    let Some(size) = test_stream::next_u32(books)? else {
         return Ok(false);
     };
     let mut space = test_stream::book_buffer();

@@ -8,7 +8,6 @@ ghost use Rattle.std.specs.Prelude.{◌≡◌, ◌≤◌, length};
 
 use std::io;
 use std::io::Read;
-use valuation::GroupReply;
 
 // What number k of the table holds before the call is this and k.
 const MARK: u64 = 9_000_000_000_000_000_000;
@@ -50,14 +49,12 @@ fn write_years(rt: &impl Print, numbers: &[u64]) -> io::Result<()> {
 fn write_kept(rt: &impl Print, numbers: &[u64], from: usize) -> io::Result<()>
     requires { length numbers.now ≤ 300 }
 {
-    let mut kept: u64 = 0;
-    let mut k = from;
-    while k < numbers.len() {
-        if numbers[k] == MARK + k as u64 {
-            kept += 1;
-        }
-        k += 1;
-    }
+    let kept = numbers
+        .iter()
+        .enumerate()
+        .skip(from)
+        .filter(|(k, number)| **number == MARK + *k as u64)
+        .count();
     println!(rt; "{kept}")
 }
 
@@ -73,16 +70,16 @@ fn write_reply(
     mark(numbers);
     let reply = group_liability::group(book, setting, group, numbers);
     match reply {
-        GroupReply::Valued(liability, n) => {
+        Ok(valued) => {
             print!(rt; "0 0 ")?;
-            write_signed(rt, liability)?;
-            write_number(rt, n)?;
+            write_signed(rt, valued.liability)?;
+            write_number(rt, valued.n)?;
             write_years(rt, numbers)?;
             write_kept(rt, numbers, 200)
         }
-        GroupReply::Refused(number, place) => {
-            write_number(rt, number)?;
-            write_number(rt, place as u64)?;
+        Err(refusal) => {
+            write_number(rt, refusal.number)?;
+            write_number(rt, refusal.place as u64)?;
             print!(rt; "0 0 ")?;
             write_kept(rt, numbers, 0)
         }

@@ -5,8 +5,6 @@
 
 use std::io;
 use std::io::Read;
-use test_stream::Next;
-use text_reply::TextReply;
 use valuation::TotalsReply;
 
 // A blank, and the number after it.
@@ -36,19 +34,16 @@ fn write_values(rt: &impl Print, reply: TotalsReply) -> io::Result<()> {
 // The listing, or the line of a refusal.
 fn write_listing(rt: &impl Print, book: &[u8]) -> io::Result<()> {
     let mut text = [0u8; 512];
-    let reply = listing::write_listing(book, &mut text);
-    match reply {
-        TextReply::Bytes(end) => rt.write_all(&text[..end]),
-        TextReply::Refused(number, place) => {
-            let end = buffer::put_refusal(&mut text, number, place as u64);
-            rt.write_all(&text[..end])
-        }
-    }
+    let end = match listing::write_listing(book, &mut text) {
+        Ok(end) => end,
+        Err(refusal) => buffer::put_refusal(&mut text, refusal.number, refusal.place as u64),
+    };
+    rt.write_all(&text[..end])
 }
 
 // One book; false where the stream has ended.
 fn next_listing<R: Read>(rt: &impl Print, books: &mut R) -> io::Result<bool> {
-    let Next::Number(size) = test_stream::next_u32(books)? else {
+    let Some(size) = test_stream::next_u32(books)? else {
         return Ok(false);
     };
     let mut space = test_stream::book_buffer();

@@ -5,7 +5,6 @@
 
 use std::io;
 use std::io::Read;
-use test_stream::Next;
 
 fn write_number(rt: &impl Print, n: u64) -> io::Result<()> {
     print!(rt; "{n} ")
@@ -36,10 +35,10 @@ fn write_record(rt: &impl Print, book: &[u8], number: usize) -> io::Result<()> {
 
 // One entry; false where the stream has ended.
 fn next_record<R: Read>(rt: &impl Print, entries: &mut R) -> io::Result<bool> {
-    let Next::Number(number) = test_stream::next_u64(entries)? else {
+    let Some(number) = test_stream::next_u64(entries)? else {
         return Ok(false);
     };
-    let Next::Number(size) = test_stream::next_u32(entries)? else {
+    let Some(size) = test_stream::next_u32(entries)? else {
         return Ok(false);
     };
     let mut space = test_stream::book_buffer();

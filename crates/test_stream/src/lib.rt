@@ -9,14 +9,6 @@ ghost use Rattle.le_bytes.specs.Bytes.{read_u64};
 use std::io;
 use std::io::Read;
 
-// The next number, or none where the input has ended. The functions that read it, of four bytes and
-// of eight, answer the error of a read that fails, and no other.
-#[derive(Clone, Copy)]
-pub enum Next {
-    Number(u64),
-    Ended,
-}
-
 // Zeros, more than the longest book of a stream has bytes.
 pub fn book_buffer() -> [u8; 65_536]
     ensures { 65_536 ≡ length result }
@@ -24,12 +16,25 @@ pub fn book_buffer() -> [u8; 65_536]
     [0; 65_536]
 }
 
-pub fn next_u32<R: Read>(reader: &mut R) -> io::Result<Next> {
-    let mut bytes = [0u8; 4];
-    if streams::read_full(reader, &mut bytes)? < 4 {
-        return Ok(Next::Ended);
+// The next bytes, or none where the input has ended. A read that fails is answered with its error,
+// and no other, here and by the two below.
+fn next_array<R: Read, const N: usize>(reader: &mut R) -> io::Result<Option<[u8; N]>> {
+    let mut bytes = [0u8; N];
+    if streams::read_full(reader, &mut bytes)? < N {
+        return Ok(None);
     }
-    Ok(Next::Number(le_bytes::read_u32(&bytes, 0)))
+    Ok(Some(bytes))
+}
+
+// The next number of four bytes, and of eight.
+pub fn next_u32<R: Read>(reader: &mut R) -> io::Result<Option<u64>> {
+    let bytes = next_array::<R, 4>(reader)?;
+    Ok(bytes.map(|b| u64::from(u32::from_le_bytes(b))))
+}
+
+pub fn next_u64<R: Read>(reader: &mut R) -> io::Result<Option<u64>> {
+    let bytes = next_array::<R, 8>(reader)?;
+    Ok(bytes.map(u64::from_le_bytes))
 }
 
 // The number of eight bytes at a place.
@@ -38,14 +43,6 @@ pub fn read_u64(b: &[u8], at: usize) -> u64
     ensures { result ≡ read_u64 b.now at }
 {
     le_bytes::read_u32(b, at) + 4_294_967_296 * le_bytes::read_u32(b, at + 4)
-}
-
-pub fn next_u64<R: Read>(reader: &mut R) -> io::Result<Next> {
-    let mut bytes = [0u8; 8];
-    if streams::read_full(reader, &mut bytes)? < 8 {
-        return Ok(Next::Ended);
-    }
-    Ok(Next::Number(read_u64(&bytes, 0)))
 }
 
 // Reads so many bytes to the start of a buffer, and answers how many came: none where the buffer is

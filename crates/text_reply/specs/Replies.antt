@@ -1,33 +1,34 @@
 -- A call that writes a text into a passed buffer: what it replies, the buffer afterwards, and what is promised of both.
-use Rattle.std.specs.Prelude.{List, ◌++◌, ◌≡◌, ℕ, ◌≤◌, leb, length, drop}
-use Rattle.verdict.specs.Verdicts.{need, ◌and_then◌}
-use Rattle.verdict.specs.declared.Verdict.{Verdict}
-use Rattle.verdict.specs.declared.Verdict.TheVariants.{Accepted, Refused}
-use Rattle.text_reply.specs.declared.TextReply.{TextReply}
-use Rattle.text_reply.specs.declared.TextReply.TheVariants.{Bytes, Refused as TextRefused}
+use Rattle.std.specs.Prelude.{List, ◌++◌, ◌≡◌, ℕ, ◌≤◌, leb, length, drop, Result, Ok, Err}
+use Rattle.verdict.specs.Verdicts.{need, ◌and_then◌, Verdict}
+use Rattle.verdict.specs.declared.Refusal.{Refusal}
+
+-- the text's length, or the refusal
+abbrev pub TextReply : Type 0
+TextReply = Result ℕ Refusal
 
 -- The paper's values of a reply: the refusal's number and place, 0 and 0 where accepted; the length, 0 where refused.
 abbrev pub text_refusal : TextReply → ℕ
-text_refusal (Bytes n) = 0
-text_refusal (TextRefused number place) = number
+text_refusal (Ok n) = 0
+text_refusal (Err r) = r.number
 
 abbrev pub text_place : TextReply → ℕ
-text_place (Bytes n) = 0
-text_place (TextRefused number place) = place
+text_place (Ok n) = 0
+text_place (Err r) = r.place
 
 abbrev pub text_length : TextReply → ℕ
-text_length (Bytes n) = n
-text_length (TextRefused number place) = 0
+text_length (Ok n) = n
+text_length (Err r) = 0
 
 -- the reply by a verdict: a length, or the refusal
 abbrev pub length_for : Verdict → ℕ → TextReply
-length_for (Accepted m) n = Bytes n
-length_for (Refused number place) n = TextRefused number place
+length_for (Ok m) n = Ok n
+length_for (Err r) n = Err r
 
 -- the buffer afterwards by a verdict: the text, then what stood there; as it was where refused
 abbrev pub buffer_for : Verdict → List ℕ → List ℕ → List ℕ
-buffer_for (Accepted m) text before = text ++ drop (length text) before
-buffer_for (Refused number place) text before = before
+buffer_for (Ok m) text before = text ++ drop (length text) before
+buffer_for (Err r) text before = before
 
 -- the refusals of the call: v, those before it writes; then 20 where a buffer of `capacity` bytes is shorter than the
 -- text

@@ -3,9 +3,7 @@
 
 #![tactic(auto)]
 
-// The text's length, or the refusal and its place.
-#[derive(Clone, Copy)]
-pub enum TextReply {
-    Bytes(usize),
-    Refused(u64, usize),
-}
+use verdict::Refusal;
+
+// The text's length, or the refusal.
+pub type TextReply = Result<usize, Refusal>;

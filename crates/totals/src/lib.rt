@@ -1,8 +1,7 @@
 // The call Totals: the eight totals of a book, n over all groups, and four differences.
 #![tactic(auto)]
 
-ghost use Rattle.std.specs.Prelude.{◌≡◌, []};
-ghost use Rattle.verdict.specs.declared.Verdict.TheVariants.{Accepted, Refused};
+ghost use Rattle.std.specs.Prelude.{◌≡◌, [], Ok, Err};
 ghost use Rattle.book.specs.Reading.{ValidBook};
 ghost use Rattle.valuation.specs.Totals.{totals_of, differences_of, totals_for};
 ghost use Rattle.valuation.specs.Totals.{TotalsContract};
@@ -11,25 +10,17 @@ ghost use Rattle.totals.specs.Sizes.{Sizes};
 
 use cell_projection::{A_YEAR, YEARS};
 use rate_table::{COLUMNS, ROWS};
-use settings_decrements::Shifts;
 use settings_outgo::Setting;
+use std::array;
+use totals_group::Group;
 use valuation::TotalsReply;
-use verdict::Verdict;
+use verdict::Refusal;
 
 // The eight settings. Each is made from a number, so that the compiler works them out.
 fn eight_settings() -> [Setting; 8]
     ensures { EightSettings result }
 {
-    [
-        Setting::new(0),
-        Setting::new(1),
-        Setting::new(2),
-        Setting::new(3),
-        Setting::new(4),
-        Setting::new(5),
-        Setting::new(6),
-        Setting::new(7),
-    ]
+    array::from_fn(Setting::new)
 }
 
 // The eight totals, group by group. The curve and the weights are read once for all groups, which
@@ -40,21 +31,20 @@ fn all_totals(book: &[u8]) -> [i64; 8]
         × Sizes result }
 {
     let curve = discount_curve::curve_of(book);
-    let w = Shifts::new(book);
+    let w = settings_decrements::shifts_of(book);
     let settings = eight_settings();
     let mut rows = [0u64; ROWS * COLUMNS];
     let mut totals = [0i64; 8];
     for group in 1usize..6 {
         let mut numbers = [0u64; YEARS * A_YEAR];
-        group_projection::group_sums(
+        group_projection::group_sums(book, w, group, None, &mut rows, &mut numbers);
+        let valued = Group {
             book,
-            w,
-            group,
-            group_projection::ALL,
-            &mut rows,
-            &mut numbers,
-        );
-        totals_group::add_group(book, curve, settings, group, &numbers, &mut totals);
+            curve: &curve,
+            number: group,
+            sums: &numbers,
+        };
+        valued.add_to(settings, &mut totals);
     }
     totals
 }
@@ -62,7 +52,7 @@ fn all_totals(book: &[u8]) -> [i64; 8]
 // The reply of an accepted book.
 fn computed(book: &[u8], n: u64) -> TotalsReply
     requires { ValidBook 1 book.now }
-    ensures { result ≡ totals_for (Accepted n) n (totals_of book.now)
+    ensures { result ≡ totals_for (Ok n) n (totals_of book.now)
         (differences_of book.now) }
 {
     let totals = all_totals(book);
@@ -80,13 +70,13 @@ fn computed(book: &[u8], n: u64) -> TotalsReply
     }
 }
 
-// The reply of a refused book.
-fn refused(number: u64, place: usize) -> TotalsReply
-    ensures { result ≡ totals_for (Refused number place) 0 [] [] }
+// The reply of a refused book, in the struct that C has.
+fn refused(refusal: Refusal) -> TotalsReply
+    ensures { result ≡ totals_for (Err refusal) 0 [] [] }
 {
     TotalsReply {
-        refusal: number,
-        place,
+        refusal: refusal.number,
+        place: refusal.place,
         n: 0,
         totals: [0; 8],
         differences: [0; 4],
@@ -97,9 +87,8 @@ fn refused(number: u64, place: usize) -> TotalsReply
 pub fn totals(book: &[u8]) -> TotalsReply
     ensures { TotalsContract book.now result }
 {
-    let v = book_check::check(book);
-    match v {
-        Verdict::Accepted(n) => computed(book, n),
-        Verdict::Refused(number, place) => refused(number, place),
+    match book_check::check(book) {
+        Ok(n) => computed(book, n),
+        Err(refusal) => refused(refusal),
     }
 }

@@ -17,7 +17,7 @@ use Rattle.lists.specs.Sums.{sum_by, sum_below}
 use Rattle.lists.proofs.Sums.{sum_same, sum_more, sum_split}
 use Rattle.settings_decrements.specs.Decrements.{decrements_of}
 use Rattle.settings_outgo.specs.Outgoings.{outgoings_of}
-use Rattle.present_value_span.specs.declared.Amounts.{Amounts}
+use Rattle.cash_flow.specs.declared.Amounts.{Amounts}
 use Rattle.signed.proofs.Sizes.{signed_roundtrip, less_mag}
 use Rattle.present_value.specs.Outcome.{year_outgo, year_premium}
 use Rattle.present_value.proofs.Discounted.{liability_is}

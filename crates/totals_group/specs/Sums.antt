@@ -2,8 +2,6 @@
 use Rattle.std.specs.Prelude.{List, ◌≡◌, ℕ, ◌*◌, ◌<◌, ◌≤◌, ℤ, pos, length, get_or}
 use Rattle.std.specs.Int.Signed.{mag}
 use Rattle.book.specs.Reading.{ValidBook}
-use Rattle.settings_outgo.specs.Outgoings.{SettingOf}
-use Rattle.settings_outgo.specs.declared.OutgoWeights.{OutgoWeights}
 use Rattle.settings_outgo.specs.declared.Setting.{Setting}
 use Rattle.valuation.specs.Totals.{total_of_groups}
 use Rattle.group_projection.specs.Added.{TableOf}
@@ -16,19 +14,8 @@ pub record GroupTable (b : List ℕ) (g : ℕ) (t : List ℕ) : Type 0 where
   pub table : TableOf b g t
 
 -- the setting of number j stands at place j
-abbrev none : OutgoWeights
-none = record { costs = 0; claims = 0 }
-
-abbrev pub numbered : List Setting → ℕ → Setting
-numbered settings j =
-    get_or settings j (record { number = 0; projection = 0; outgo = record { first = none; later = none } })
-
-pub record Numbered (settings : List Setting) (j : ℕ) : Type 0 where
-  pub number_is : (numbered settings j).number ≡ j
-  pub setting_is : SettingOf (numbered settings j)
-
 abbrev pub EightSettings : List Setting → Type 0
-EightSettings settings = (j : ℕ) → j < 8 → Numbered settings j
+EightSettings settings = (j : ℕ) → j < 8 → (d : Setting) → (get_or settings j d).number ≡ j
 
 -- z is the sum of the first n product groups' liabilities in a setting, and not too large
 pub record Sum (b : List ℕ) (setting n : ℕ) (z : ℤ) : Type 0 where

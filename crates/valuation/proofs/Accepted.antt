@@ -8,14 +8,14 @@ use native.Mathlib.Omega.{arith}
 use borrow.Author.Tests.{eqb-true, eqb-false, ne_eqb, ltb-true, leb-true}
 use lib.Dec.{eqb}
 use Rattle.le_bytes.specs.Bytes.{read_u32}
-use Rattle.verdict.specs.declared.Verdict.TheVariants.{Accepted}
+use Rattle.std.specs.Prelude.{Ok}
 use Rattle.verdict.proofs.Verdicts.{need_true, then_left, then_right}
 use Rattle.le_bytes.proofs.Ranges.{within_means}
 use Rattle.book.specs.Layout.{last_class, chains, head_of, next_of, curve_place, mortality_place, most_rate}
 use Rattle.book.specs.Cells.{first_chain, chains_of}
 use Rattle.book.specs.Reading.{ChainFrom, Standing, ValidBook}
 use Rattle.book.proofs.Valid.{valid, chain_next}
-use Rattle.settings_decrements.specs.declared.Decrements.{Decrements}
+use Rattle.settings_decrements.specs.Decrements.{Decrements}
 use Rattle.settings_outgo.proofs.Weights.{costs_most, claims_most}
 use Rattle.valuation.specs.Steps.{Cell}
 use Rattle.valuation.specs.Bounds.{GoodCell, GoodCells, GoodTerms}
@@ -25,7 +25,7 @@ use Rattle.valuation.specs.Replies.{group_check}
 use Rattle.valuation.proofs.Rows.{chain_standing, row_standing}
 use Rattle.valuation.proofs.Members.{counted, links_counted, cells_append}
 
-module _ (b : List ℕ) (setting g numbers n : ℕ) (e : group_check b setting g numbers ≡ Accepted n) where
+module _ (b : List ℕ) (setting g numbers n : ℕ) (e : group_check b setting g numbers ≡ Ok n) where
   pub group_setting : setting < 8
   unfolding group_check
   group_setting = ltb-true _ _ (need_true _ _ _ _ (then_left _ _ _ (then_left _ _ _ (then_left _ _ _ e))))

@@ -9,9 +9,8 @@ use borrow.Author.Tests.{le-leb}
 use lib.IntN.{ℤ}
 use lib.ListN.{length, get_or, length-append, get_or-append}
 use lib.Seq.{get_or-append-add}
-use Rattle.verdict.specs.Verdicts.{count_of}
-use Rattle.verdict.specs.declared.Verdict.{Verdict}
-use Rattle.verdict.specs.declared.Verdict.TheVariants.{Accepted, Refused}
+use Rattle.verdict.specs.Verdicts.{count_of, Verdict}
+use Rattle.std.specs.Prelude.{Ok, Err}
 use Rattle.verdict.proofs.Verdicts.{ZeroAccepts, zero_accepts_need, zero_accepts_then}
 use Rattle.book.specs.Layout.{last_class}
 use Rattle.book.specs.Cells.{held_of_group}
@@ -25,8 +24,7 @@ use Rattle.valuation.specs.Bounds.{Within}
 use Rattle.valuation.specs.CallContracts.{GroupPromise, each_cell, each_group, distance_of, half_cell, half_group}
 use Rattle.valuation.specs.CallContracts.{half_distance_of}
 use Rattle.valuation.specs.Replies.{group_check, group_liability, exact_group_liability, refusal_in, reply_of}
-use Rattle.valuation.specs.Replies.{group_reply, year_numbers, year_table, group_table, GroupContract}
-use Rattle.valuation.specs.declared.GroupReply.{GroupReply}
+use Rattle.valuation.specs.Replies.{group_reply, year_numbers, year_table, group_table, GroupContract, GroupReply}
 use Rattle.valuation.proofs.Distance.{distance, half_distance}
 use Rattle.valuation.proofs.Members.{held_group}
 use Rattle.valuation.proofs.Accepted.{group_range, group_valid, divisor_low, divisor_ordinary, good_terms}
@@ -73,10 +71,10 @@ module _ (t : Terms) (cs : List Cell) where
 
 -- refusal 0 is acceptance, of Group too
 zero_accepts_reply : (v : Verdict) (l : ℤ) (n : ℕ) → ZeroAccepts v → refusal_in (reply_of v l n) ≡ 0
-    → v ≡ Accepted (count_of v)
+    → v ≡ Ok (count_of v)
 unfolding ZeroAccepts
-zero_accepts_reply (Accepted m) l n told e = refl
-zero_accepts_reply (Refused q p) l n told e = told e
+zero_accepts_reply (Ok m) l n told e = refl
+zero_accepts_reply (Err r) l n told e = told e
 
 module _ (b : List ℕ) (setting g numbers : ℕ) where
   group_told : ZeroAccepts (group_check b setting g numbers)
@@ -86,7 +84,7 @@ module _ (b : List ℕ) (setting g numbers : ℕ) where
       (zero_accepts_need _ 15 0)) (zero_accepted 1 b)
 
   accepts : refusal_in (group_reply b setting g numbers) ≡ 0
-      → group_check b setting g numbers ≡ Accepted (count_of (group_check b setting g numbers))
+      → group_check b setting g numbers ≡ Ok (count_of (group_check b setting g numbers))
   unfolding group_reply
   accepts = zero_accepts_reply (group_check b setting g numbers) (group_liability b setting g)
       (held_of_group b (last_class 1) g) group_told
@@ -116,7 +114,7 @@ module _ (b : List ℕ) (setting g : ℕ) (v : ValidBook 1 b) (range : (1 ≤ g)
 
 -- where Group accepts
 module _ (b : List ℕ) (setting g : ℕ) (before : List ℕ) (n : ℕ)
-    (e : group_check b setting g (length before) ≡ Accepted n) where
+    (e : group_check b setting g (length before) ≡ Ok n) where
   accepted_distance : Within (distance_of (held_of_group b (last_class 1) g)) (group_liability b setting g)
       (exact_group_liability b setting g)
   accepted_distance =

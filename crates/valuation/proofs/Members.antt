@@ -14,7 +14,7 @@ use Rattle.book.specs.Cells.{holds, held_from, held_in, held_of_group, first_cha
 use Rattle.book.specs.Reading.{ChainFrom}
 use Rattle.book.proofs.Cells.{held_none}
 use Rattle.book.proofs.Valid.{chain_here, chain_end, chain_next}
-use Rattle.settings_decrements.specs.declared.Decrements.{Decrements}
+use Rattle.settings_decrements.specs.Decrements.{Decrements}
 use Rattle.valuation.specs.Steps.{Cell, held, one_unless}
 use Rattle.valuation.specs.Portfolio.{cell_of, links_from, chain_links, links_of, cells_of, group_cells}
 

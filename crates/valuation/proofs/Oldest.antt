@@ -12,7 +12,7 @@ use Rattle.book.specs.Layout.{last_class, sex_of, class_of, next_of, field_of, l
 use Rattle.book.specs.Layout.{claims_offset}
 use Rattle.book.specs.Reading.{Standing}
 use Rattle.settings_decrements.specs.Decrements.{mortality_in, lapse_in}
-use Rattle.settings_decrements.specs.declared.Decrements.{Decrements}
+use Rattle.settings_decrements.specs.Decrements.{Decrements}
 use Rattle.valuation.specs.Portfolio.{mortality_of, one_less, onward, row_at, cell_of}
 use Rattle.valuation.proofs.Rows.{row_standing, row_class}
 

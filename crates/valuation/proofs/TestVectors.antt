@@ -1,5 +1,6 @@
 -- The trial figures T1 to T12 hold, all together. Assumes nothing.
-use mathlib.Core.Path.{◌≡◌, refl, ◌∙◌}
+use mathlib.Core.Path.{◌≡◌, refl, ◌∙◌, ap}
+use mathlib.Core.Bool.{Bool, cond}
 use mathlib.Core.List.{List}
 use Prim.Native.Nat.{ℕ, zero, suc, ◌*◌, ◌/◌, ◌<◌}
 use native.Mathlib.Nat.{zero-mul}
@@ -9,7 +10,7 @@ use Rattle.book.specs.Layout.{last_class, class_of}
 use Rattle.book.proofs.TestVectors.{t11, t12}
 use Rattle.settings.specs.Settings.{weight_of}
 use Rattle.settings_decrements.specs.Decrements.{percent_of, mortality_weight, decrements_of}
-use Rattle.settings_decrements.specs.declared.Decrements.{Decrements}
+use Rattle.settings_decrements.specs.Decrements.{Decrements}
 use Rattle.valuation.specs.Arithmetic.{rounded}
 use Rattle.valuation.specs.Steps.{in_force, capped_if, capped, discounted}
 use Rattle.valuation.specs.Portfolio.{divisor_of, one_less, row_at, cell_of}
@@ -32,7 +33,9 @@ module _ (b : List ℕ) (i mortality lapse : ℕ) (o : OneMan b i mortality laps
 
   persistency_is : (k : ℕ) → k < 2 → (cell_of b w i).persistency k ≡ one_less lapse w.first.lapse
   unfolding cell_of
-  persistency_is k two = rw (o.leaves k, lt-ltb k 5 (omega arith))
+  persistency_is k two =
+      rw (o.leaves k)
+      (ap (λ (t : Bool). one_less lapse (cond t w.first w.later).lapse) (lt-ltb k 5 (omega arith)))
 
   year : (k f : ℕ) → k < 2 → in_force rounded (cell_of b w i) k ≡ f
       → in_force rounded (cell_of b w i) (suc k) ≡ f * one_less mortality w.first.men / 1_000_000_000 * one_less lapse

@@ -9,9 +9,8 @@ use native.Mathlib.Omega.{arith}
 use lib.IntN.{ℤ, pos, ◌+ℤ◌, ◌-ℤ◌, ◌*ℤ◌}
 use lib.ListN.{get_or}
 use Rattle.lists.specs.Sums.{sum_by, sum_below, signed_sum_below}
-use Rattle.verdict.specs.Verdicts.{refusal_of, count_of}
-use Rattle.verdict.specs.declared.Verdict.{Verdict}
-use Rattle.verdict.specs.declared.Verdict.TheVariants.{Accepted, Refused}
+use Rattle.verdict.specs.Verdicts.{refusal_of, count_of, Verdict}
+use Rattle.std.specs.Prelude.{Ok, Err}
 use Rattle.book.specs.Layout.{last_class}
 use Rattle.book.specs.Check.{check_book}
 use Rattle.book.specs.Cells.{held_of_group, held_in_all}
@@ -111,12 +110,12 @@ module _ (b : List ℕ) where
   each_total (suc (suc (suc (suc (suc (suc (suc (suc more)))))))) h = absurd (omega arith)
 
   refusal_told : (v : Verdict) (n : ℕ) (ts ds : List ℤ) → (totals_for v n ts ds).refusal ≡ refusal_of v
-  refusal_told (Accepted m) n ts ds = refl
-  refusal_told (Refused q p) n ts ds = refl
+  refusal_told (Ok m) n ts ds = refl
+  refusal_told (Err r) n ts ds = refl
 
   -- a reply without a refusal is that of an accepted book
   accepted : (reply : TotalsReply) → reply ≡ totals_reply b → reply.refusal ≡ 0
-      → check_book 1 b ≡ Accepted (count_of (check_book 1 b))
+      → check_book 1 b ≡ Ok (count_of (check_book 1 b))
   unfolding totals_reply
   accepted reply reply_is e =
       zero_accepted 1 b

@@ -11,8 +11,8 @@ use borrow.Author.Tests.{ltb-true, eqb-false}
 use lib.Dec.{eqb, ltb}
 use lib.ListN.{length}
 use Rattle.lists.proofs.Sums.{sum_same}
-use Rattle.verdict.specs.declared.Verdict.{Verdict}
-use Rattle.verdict.specs.declared.Verdict.TheVariants.{Accepted, Refused}
+use Rattle.verdict.specs.Verdicts.{Verdict}
+use Rattle.std.specs.Prelude.{Ok, Err}
 use Rattle.le_bytes.proofs.Same.{u32_same}
 use Rattle.text_reply.specs.Replies.{buffer_for}
 use Rattle.book.specs.Layout.{record_size, last_class, chains, head_of, sex_of, class_of, next_of, field_of}
@@ -29,14 +29,13 @@ use Rattle.book.proofs.Valid.{valid}
 use Rattle.book.proofs.Exact.{accepted_held}
 use Rattle.book.proofs.Unlinked.{unlinked_same}
 use Rattle.settings_decrements.specs.Decrements.{percent_of, mortality_weight, decrements_of, lapse_in}
-use Rattle.settings_decrements.specs.declared.Decrements.{Decrements}
+use Rattle.settings_decrements.specs.Decrements.{Decrements}
 use Rattle.valuation.specs.Arithmetic.{rounded}
 use Rattle.valuation.specs.Steps.{Cell, Terms, held, outgo, counted_premium, discounted_outgo, discounted_premium}
 use Rattle.valuation.specs.Steps.{total_outgo, total_premium, liability}
 use Rattle.valuation.specs.Portfolio.{mortality_of, cost_rate_of, divisor_of, one_less, onward, row_at, cell_of}
 use Rattle.valuation.specs.Portfolio.{links_from, chain_links, links_of, cells_of, group_cells, terms_of}
-use Rattle.valuation.specs.Replies.{group_check, group_liability, reply_of, group_reply, year_table}
-use Rattle.valuation.specs.Replies.{group_table}
+use Rattle.valuation.specs.Replies.{group_check, group_liability, reply_of, group_reply, year_table, group_table}
 use Rattle.valuation.specs.Totals.{total_of, totals_of, differences_of, totals_for, totals_reply}
 use Rattle.valuation.proofs.Rows.{chain_standing, next_standing}
 use Rattle.valuation.proofs.Members.{cells_append, held_group}
@@ -266,11 +265,11 @@ module _ (b b' : List ℕ) (s : SameButUnlinked b b') (setting g numbers : ℕ) 
       by_verdict : (v : Verdict) → group_check b setting g numbers ≡ v
           → reply_of v (group_liability b setting g) (held_of_group b (last_class 1) g) ≡ reply_of v
           (group_liability b' setting g) (held_of_group b' (last_class 1) g)
-      by_verdict (Accepted n) e =
+      by_verdict (Ok n) e =
           let v = group_valid b setting g numbers n e in
           let range = group_range b setting g numbers n e in
           rw (group_liability_same b b' s setting g v range, group_held_same b b' s setting g v range)
-      by_verdict (Refused q p) e = refl
+      by_verdict (Err r) e = refl
 
 pub table_same : (b b' : List ℕ) → SameButUnlinked b b' → (setting g : ℕ) (before : List ℕ)
     → group_table b setting g before ≡ group_table b' setting g before
@@ -283,10 +282,10 @@ table_same b b' s setting g before =
 
     by_verdict : (v : Verdict) → group_check b setting g (length before) ≡ v
         → buffer_for v (years b) before ≡ buffer_for v (years b') before
-    by_verdict (Accepted n) e =
+    by_verdict (Ok n) e =
         rw (group_years_same b b' s setting g (group_valid b setting g (length before) n e)
         (group_range b setting g (length before) n e))
-    by_verdict (Refused q p) e = refl
+    by_verdict (Err r) e = refl
 
 -- Totals' reply.
 module _ (b b' : List ℕ) (s : SameButUnlinked b b') where
@@ -302,7 +301,7 @@ module _ (b b' : List ℕ) (s : SameButUnlinked b b') where
       by_verdict : (v : Verdict) → check_book 1 b ≡ v
           → totals_for v (held_in_all b (last_class 1)) (totals_of b) (differences_of b) ≡ totals_for v
           (held_in_all b' (last_class 1)) (totals_of b') (differences_of b')
-      by_verdict (Accepted n) e =
+      by_verdict (Ok n) e =
           let t = total_same (valid 1 b n e) in
           rw (
             ← (accepted_held 1 b n e),
@@ -316,4 +315,4 @@ module _ (b b' : List ℕ) (s : SameButUnlinked b b') where
             t 6,
             t 7,
           )
-      by_verdict (Refused q p) e = refl
+      by_verdict (Err r) e = refl

@@ -5,7 +5,7 @@ use Rattle.book.specs.Layout.{last_class, head_of, sex_of, class_of, next_of, fi
 use Rattle.book.specs.Layout.{premium_offset, claims_offset, cost_place, curve_place, mortality_place, mortality_size}
 use Rattle.book.specs.Cells.{first_chain, chains_of}
 use Rattle.settings_decrements.specs.Decrements.{mortality_in, lapse_in}
-use Rattle.settings_decrements.specs.declared.Decrements.{Decrements}
+use Rattle.settings_decrements.specs.Decrements.{Decrements}
 use Rattle.settings_outgo.specs.Outgoings.{outgoings_of, costs_in, claims_weight_in}
 use Rattle.valuation.specs.Steps.{Cell, Terms}
 

@@ -1,10 +1,10 @@
 -- What Group answers, what its year table then holds, and what is promised of both.
 use Rattle.std.specs.Prelude.{ℕ, zero, suc, ◌+◌, ◌*◌, ◌<◌, ◌≤◌, ◌≡◌, List, [], ◌∷◌, ◌++◌, leb, ltb, ℤ, pos, length}
 use Rattle.std.specs.Prelude.{get_or}
-use Rattle.verdict.specs.Verdicts.{need, ◌and_then◌}
+use Rattle.verdict.specs.Verdicts.{Verdict, need, ◌and_then◌}
 use Rattle.le_bytes.specs.Fields.{within}
-use Rattle.verdict.specs.declared.Verdict.{Verdict}
-use Rattle.verdict.specs.declared.Verdict.TheVariants.{Accepted, Refused}
+use Rattle.verdict.specs.declared.Refusal.{Refusal}
+use Rattle.std.specs.Prelude.{Result, Ok, Err}
 use Rattle.text_reply.specs.Replies.{buffer_for}
 use Rattle.book.specs.Layout.{last_class}
 use Rattle.book.specs.Cells.{held_of_group}
@@ -16,8 +16,7 @@ use Rattle.valuation.specs.Steps.{discounted_premium, liability, exact_liability
 use Rattle.valuation.specs.Portfolio.{NoRateBelowZero, group_cells, terms_of}
 use Rattle.valuation.specs.Bounds.{Within}
 use Rattle.valuation.specs.CallContracts.{distance_of, half_distance_of}
-use Rattle.valuation.specs.declared.GroupReply.{GroupReply}
-use Rattle.valuation.specs.declared.GroupReply.TheVariants.{Valued, Refused as GroupRefused}
+use Rattle.valuation.specs.declared.Valued.{Valued}
 
 -- 14 setting, 15 product group, 16 a table of under 200 numbers; then the book's own refusals
 unfoldable pub group_check : List ℕ → ℕ → ℕ → ℕ → Verdict
@@ -34,28 +33,32 @@ group_liability b setting g = liability (terms_of b setting g) (group_cells b (d
 unfoldable pub exact_group_liability : List ℕ → ℕ → ℕ → SignedFraction
 exact_group_liability b setting g = exact_liability (terms_of b setting g) (group_cells b (decrements_of b setting) g)
 
+-- liability and n, or the refusal
+abbrev pub GroupReply : Type 0
+GroupReply = Result Valued Refusal
+
 -- The paper's values of a reply: the refusal's number and its place, 0 and 0 where there is none; liability and n, 0
 -- and 0 where refused.
 abbrev pub refusal_in : GroupReply → ℕ
-refusal_in (Valued l n) = 0
-refusal_in (GroupRefused number place) = number
+refusal_in (Ok v) = 0
+refusal_in (Err r) = r.number
 
 abbrev pub place_in : GroupReply → ℕ
-place_in (Valued l n) = 0
-place_in (GroupRefused number place) = place
+place_in (Ok v) = 0
+place_in (Err r) = r.place
 
 abbrev pub liability_in : GroupReply → ℤ
-liability_in (Valued l n) = l
-liability_in (GroupRefused number place) = pos 0
+liability_in (Ok v) = v.liability
+liability_in (Err r) = pos 0
 
 abbrev pub count_in : GroupReply → ℕ
-count_in (Valued l n) = n
-count_in (GroupRefused number place) = 0
+count_in (Ok v) = v.n
+count_in (Err r) = 0
 
 -- the reply: liability and n, or the first refusal
 abbrev pub reply_of : Verdict → ℤ → ℕ → GroupReply
-reply_of (Accepted m) l n = Valued l n
-reply_of (Refused number place) l n = GroupRefused number place
+reply_of (Ok m) l n = Ok (record { liability = l; n = n })
+reply_of (Err r) l n = Err r
 
 unfoldable pub group_reply : List ℕ → ℕ → ℕ → ℕ → GroupReply
 group_reply b setting g numbers =

@@ -1,6 +1,6 @@
 -- The trial figures T1 to T12 of the paper, as one proposition on the definitions that the calls meet.
 use Rattle.std.specs.Prelude.{◌≡◌, List, ℕ, ◌+◌, ◌<◌, ◌≤◌, length, replicate}
-use Rattle.verdict.specs.declared.Verdict.TheVariants.{Refused}
+use Rattle.verdict.specs.Verdicts.{refused}
 use Rattle.le_bytes.specs.Bytes.{read_u32}
 use Rattle.book.specs.Layout.{edition, curve_place, last_class, sex_of, class_of, next_of, field_of, count_offset}
 use Rattle.book.specs.Layout.{lapse_offset}
@@ -39,5 +39,5 @@ pub record TestVectors : Type 0 where
   pub t10 : (b : List ℕ) (i : ℕ) → OneMan b i 0 333_333 → (in_force_after b 0 i 1 ≡ 666_667_000)
       × (in_force_after b 0 i 2 ≡ 444_444_888)
   -- 1,220 zero bytes, and any 1,219 bytes
-  pub t11 : check_book 1 (replicate 1220 0) ≡ Refused 2 0
-  pub t12 : (b : List ℕ) → length b ≡ 1219 → check_book 1 b ≡ Refused 1 1219
+  pub t11 : check_book 1 (replicate 1220 0) ≡ refused 2 0
+  pub t12 : (b : List ℕ) → length b ≡ 1219 → check_book 1 b ≡ refused 1 1219

@@ -1,8 +1,8 @@
 -- What Totals answers: the eight totals, n over all groups and four differences. And what is promised of a total.
 use Rattle.std.specs.Prelude.{ℕ, zero, suc, ◌+◌, ◌*◌, ◌<◌, ◌≡◌, List, [], ◌∷◌, ℤ, pos, ◌+ℤ◌, ◌-ℤ◌, ◌*ℤ◌, get_or}
 use Rattle.lists.specs.Sums.{sum_by, signed_sum_below}
-use Rattle.verdict.specs.declared.Verdict.{Verdict}
-use Rattle.verdict.specs.declared.Verdict.TheVariants.{Accepted, Refused}
+use Rattle.verdict.specs.Verdicts.{Verdict}
+use Rattle.std.specs.Prelude.{Ok, Err}
 use Rattle.book.specs.Layout.{last_class}
 use Rattle.book.specs.Cells.{held_in_all}
 use Rattle.book.specs.Check.{check_book}
@@ -51,9 +51,9 @@ nothing (suc j) = pos 0 ∷ nothing j
 
 -- the reply: n over all groups, totals and differences; or the refusal, and 0 in every other field
 abbrev pub totals_for : Verdict → ℕ → List ℤ → List ℤ → TotalsReply
-totals_for (Accepted m) n ts ds = record { refusal = 0; place = 0; n = n; totals = ts; differences = ds }
-totals_for (Refused number place) n ts ds =
-    record { refusal = number; place = place; n = 0; totals = nothing 8; differences = nothing 4 }
+totals_for (Ok m) n ts ds = record { refusal = 0; place = 0; n = n; totals = ts; differences = ds }
+totals_for (Err r) n ts ds =
+    record { refusal = r.number; place = r.place; n = 0; totals = nothing 8; differences = nothing 4 }
 
 unfoldable pub totals_reply : List ℕ → TotalsReply
 totals_reply b = totals_for (check_book 1 b) (held_in_all b (last_class 1)) (totals_of b) (differences_of b)

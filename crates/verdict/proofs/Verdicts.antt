@@ -7,52 +7,59 @@ use Prim.Native.Nat.{ℕ, zero, suc, ◌+◌, ◌-◌, ◌<◌, ◌≤◌, zero-
 use native.Mathlib.Nat.{zero-add, add-zero, sub-zero, le_refl, not-suc-le-zero, eq-or-lt_of_le}
 use native.Mathlib.Numerals.{add-one}
 use native.Mathlib.Omega.{arith}
-use Rattle.verdict.specs.Verdicts.{need, ◌and_then◌, refusal_of, count_of, plus, join, join_all}
-use Rattle.verdict.specs.declared.Verdict.{Verdict}
-use Rattle.verdict.specs.declared.Verdict.TheVariants.{Accepted, Refused}
+use Rattle.verdict.specs.Verdicts.{need, first_refusal, refusal_of, count_of, plus, join, join_all, ◌and_then◌, Verdict}
+use Rattle.std.specs.Prelude.{Result, Ok, Err, IsErr}
+use Rattle.std.specs.Result.{IsErrAnd}
+use Rattle.verdict.specs.declared.Refusal.{Refusal}
 
 -- a test
-pub need_true : (ok : Bool) (q p m : ℕ) → need ok q p ≡ Accepted m → ok ≡ true
+pub need_true : (ok : Bool) (q p m : ℕ) → need ok q p ≡ Ok m → ok ≡ true
 unfolding need
 need_true true q p m e = refl
 need_true false q p m e = cc
 
-pub need_zero : (ok : Bool) (q p m : ℕ) → need ok q p ≡ Accepted m → need ok q p ≡ Accepted 0
+pub need_zero : (ok : Bool) (q p m : ℕ) → need ok q p ≡ Ok m → need ok q p ≡ Ok 0
 unfolding need
 need_zero true q p m e = refl
 need_zero false q p m e = cc
 
-pub need_good : (ok : Bool) (q p : ℕ) → ok ≡ true → need ok q p ≡ Accepted 0
+pub need_good : (ok : Bool) (q p : ℕ) → ok ≡ true → need ok q p ≡ Ok 0
 unfolding need
 need_good ok q p e = rw e
 
+pub need_fails : (ok : Bool) (q p : ℕ) (r : Refusal) → need ok q p ≡ Err r
+    → (ok ≡ false) × (r ≡ record { number = q; place = p })
+unfolding need
+need_fails true q p r e = cc
+need_fails false q p r e = (refl, cc e)
+
 -- one verdict and then another
-pub then_left : (v w : Verdict) (n : ℕ) → (v and_then w) ≡ Accepted n → v ≡ Accepted (count_of v)
-unfolding ◌and_then◌
-then_left (Accepted m) w n e = refl
-then_left (Refused q p) w n e = cc
+pub then_left : (v w : Verdict) (n : ℕ) → (v and_then w) ≡ Ok n → v ≡ Ok (count_of v)
+unfolding first_refusal
+then_left (Ok m) w n e = refl
+then_left (Err r) w n e = cc
 
-pub then_right : (v w : Verdict) (n : ℕ) → (v and_then w) ≡ Accepted n → w ≡ Accepted n
-unfolding ◌and_then◌
-then_right (Accepted m) w n e = e
-then_right (Refused q p) w n e = cc
+pub then_right : (v w : Verdict) (n : ℕ) → (v and_then w) ≡ Ok n → w ≡ Ok n
+unfolding first_refusal
+then_right (Ok m) w n e = e
+then_right (Err r) w n e = cc
 
-pub then_good : (v w : Verdict) (m n : ℕ) → v ≡ Accepted m → w ≡ Accepted n → (v and_then w) ≡ Accepted n
-unfolding ◌and_then◌
+pub then_good : (v w : Verdict) (m n : ℕ) → v ≡ Ok m → w ≡ Ok n → (v and_then w) ≡ Ok n
+unfolding first_refusal
 then_good v w m n e f = rw (e, f)
 
 pub then_count : (v w : Verdict) → count_of (v and_then w) ≤ count_of w
-unfolding ◌and_then◌
-then_count (Accepted m) w = le_refl _
-then_count (Refused q p) w = zero-le
+unfolding first_refusal
+then_count (Ok m) w = le_refl _
+then_count (Err r) w = zero-le
 
-pub accepted : (v : Verdict) (n : ℕ) → v ≡ Accepted n → v ≡ Accepted (count_of v)
+pub accepted : (v : Verdict) (n : ℕ) → v ≡ Ok n → v ≡ Ok (count_of v)
 accepted v n e = rw e
 
 -- A verdict that says by its number alone whether it refuses: 0 is acceptance. A test with a number above 0 does, and
 -- so do two such verdicts one after the other.
 unfoldable pub ZeroAccepts : Verdict → Type 0
-ZeroAccepts v = refusal_of v ≡ 0 → v ≡ Accepted (count_of v)
+ZeroAccepts v = refusal_of v ≡ 0 → v ≡ Ok (count_of v)
 
 pub zero_accepts_need : (ok : Bool) (q p : ℕ) → ZeroAccepts (need ok (suc q) p)
 unfolding ZeroAccepts need
@@ -60,58 +67,58 @@ zero_accepts_need true q p e = refl
 zero_accepts_need false q p e = absurd (omega arith)
 
 pub zero_accepts_then : (v w : Verdict) → ZeroAccepts v → ZeroAccepts w → ZeroAccepts (v and_then w)
-unfolding ZeroAccepts ◌and_then◌
-zero_accepts_then (Accepted n) w hv hw = hw
-zero_accepts_then (Refused q p) w hv hw = hv
+unfolding ZeroAccepts first_refusal
+zero_accepts_then (Ok n) w hv hw = hw
+zero_accepts_then (Err r) w hv hw = hv
 
 -- a count added
 pub plus_none : (v : Verdict) → plus 0 v ≡ v
-plus_none (Accepted n) = ap Accepted (zero-add n)
-plus_none (Refused q p) = refl
+plus_none (Ok n) = ap Ok (zero-add n)
+plus_none (Err r) = refl
 
 pub plus_plus : (m n : ℕ) (v : Verdict) → plus m (plus n v) ≡ plus (m + n) v
-plus_plus m n (Accepted k) = ap Accepted (omega arith)
-plus_plus m n (Refused q p) = refl
+plus_plus m n (Ok k) = ap Ok (omega arith)
+plus_plus m n (Err r) = refl
 
-pub plus_right : (n : ℕ) (v : Verdict) (m : ℕ) → plus n v ≡ Accepted m → v ≡ Accepted (count_of v)
-plus_right n (Accepted k) m e = refl
-plus_right n (Refused q p) m e = cc
+pub plus_right : (n : ℕ) (v : Verdict) (m : ℕ) → plus n v ≡ Ok m → v ≡ Ok (count_of v)
+plus_right n (Ok k) m e = refl
+plus_right n (Err r) m e = cc
 
 pub plus_count : (n : ℕ) (v : Verdict) → count_of (plus n v) ≤ n + count_of v
-plus_count n (Accepted m) = le_refl _
-plus_count n (Refused q p) = zero-le
+plus_count n (Ok m) = le_refl _
+plus_count n (Err r) = zero-le
 
 -- a run of verdicts, at the numbers that a loop has: n counted so far, k the next, left still to come
 pub all_start : (f : ℕ → Verdict) (left : ℕ) → join_all f 0 left ≡ plus 0 (join_all f 0 (left - 0))
 all_start f left = rw sub-zero (sym (plus_none (join_all f 0 left)))
 
-pub all_good : (f : ℕ → Verdict) (n k left rest m : ℕ) → left ≡ rest + 1 → f k ≡ Accepted m
+pub all_good : (f : ℕ → Verdict) (n k left rest m : ℕ) → left ≡ rest + 1 → f k ≡ Ok m
     → plus n (join_all f k left) ≡ plus (n + m) (join_all f (k + 1) rest)
 unfolding join_all
 all_good f n k left rest m more is = rw (more, add-one rest, is) (plus_plus n m (join_all f (k + 1) rest))
 
-pub all_bad : (f : ℕ → Verdict) (n k left q p : ℕ) → 0 < left → f k ≡ Refused q p
-    → plus n (join_all f k left) ≡ Refused q p
+pub all_bad : (f : ℕ → Verdict) (n k left : ℕ) (r : Refusal) → 0 < left → f k ≡ Err r
+    → plus n (join_all f k left) ≡ Err r
 unfolding join_all
-all_bad f n k zero q p h is = absurd (not-suc-le-zero h)
-all_bad f n k (suc left) q p h is = rw is
+all_bad f n k zero r h is = absurd (not-suc-le-zero h)
+all_bad f n k (suc left) r h is = rw is
 
-pub all_done : (f : ℕ → Verdict) (n k left : ℕ) → left ≡ 0 → plus n (join_all f k left) ≡ Accepted n
+pub all_done : (f : ℕ → Verdict) (n k left : ℕ) → left ≡ 0 → plus n (join_all f k left) ≡ Ok n
 unfolding join_all
 all_done f n k left none = rw (none, add-zero)
 
 -- each verdict of an accepted run accepts
-join_left : (v w : Verdict) (n : ℕ) → join v w ≡ Accepted n → v ≡ Accepted (count_of v)
-join_left (Accepted m) w n e = refl
-join_left (Refused q p) w n e = cc
+join_left : (v w : Verdict) (n : ℕ) → join v w ≡ Ok n → v ≡ Ok (count_of v)
+join_left (Ok m) w n e = refl
+join_left (Err r) w n e = cc
 
-join_right : (v w : Verdict) (n : ℕ) → join v w ≡ Accepted n → w ≡ Accepted (count_of w)
-join_right (Accepted m) (Accepted k) n e = refl
-join_right (Accepted m) (Refused q p) n e = cc
-join_right (Refused q p) w n e = cc
+join_right : (v w : Verdict) (n : ℕ) → join v w ≡ Ok n → w ≡ Ok (count_of w)
+join_right (Ok m) (Ok k) n e = refl
+join_right (Ok m) (Err r) n e = cc
+join_right (Err r) w n e = cc
 
-pub all_each : (f : ℕ → Verdict) (left k n i : ℕ) → join_all f k left ≡ Accepted n → k ≤ i → i < k + left
-    → f i ≡ Accepted (count_of (f i))
+pub all_each : (f : ℕ → Verdict) (left k n i : ℕ) → join_all f k left ≡ Ok n → k ≤ i → i < k + left
+    → f i ≡ Ok (count_of (f i))
 unfolding join_all
 all_each f zero k n i e lo hi = absurd (omega arith)
 all_each f (suc left) k n i e lo hi =
@@ -122,8 +129,8 @@ all_each f (suc left) k n i e lo hi =
     (eq-or-lt_of_le lo)
 
 -- a run whose verdicts all accept and count nothing
-pub all_zero : (f : ℕ → Verdict) (left k : ℕ) → ((j : ℕ) → k ≤ j → j < k + left → f j ≡ Accepted 0)
-    → join_all f k left ≡ Accepted 0
+pub all_zero : (f : ℕ → Verdict) (left k : ℕ) → ((j : ℕ) → k ≤ j → j < k + left → f j ≡ Ok 0)
+    → join_all f k left ≡ Ok 0
 unfolding join_all
 all_zero f zero k each = refl
 all_zero f (suc left) k each =
@@ -136,3 +143,8 @@ unfolding join_all
 all_same f g zero k same = refl
 all_same f g (suc left) k same =
     rw (same k (omega arith) (omega arith), all_same f g left (k + 1) (λ j lo hi. same j (omega arith) (omega arith)))
+
+-- `?` hands on the refusal that it met
+pub handed_on : {T : Type 0} {e : Refusal} (r : Result T Refusal) → IsErr r × IsErrAnd r (λ f. f ≡ e) → r ≡ Err e
+handed_on (Ok n) h = absurd h.1
+handed_on (Err f) h = ap Err h.1

@@ -1,42 +1,27 @@
-// What a check says, and verdicts one after the other.
+// What a check answers: a count, or the first rule that is broken.
 #![tactic(auto)]
 
 ghost use Rattle.std.specs.Prelude.{◌≡◌};
-ghost use Rattle.verdict.specs.Verdicts.{◌and_then◌, need};
+ghost use Rattle.verdict.specs.Verdicts.{need};
 
-// What a check says: accepted with a count, or refused with a number and a byte place.
-#[derive(Clone, Copy)]
-pub enum Verdict {
-    Accepted(u64),
-    Refused(u64, usize),
+// The number of the rule that is broken, and the byte place where it is. A number and no enum: C
+// and the documents know a rule by its number, and `verdict_in` goes back from it to a refusal.
+#[derive(Clone, Copy, PartialEq, Eq)]
+pub struct Refusal {
+    pub number: u64,
+    pub place: usize,
 }
 
-impl Verdict {
-    // The first refusal of the two, else the second's count.
-    pub fn and_then(self, next: Verdict) -> Verdict
-        ensures { result ≡ (self and_then next) }
-    {
-        match self {
-            Verdict::Accepted(_) => next,
-            Verdict::Refused(number, place) => Verdict::Refused(number, place),
-        }
-    }
-
-    // The same with a test for the second.
-    pub fn require(self, holds: bool, number: u64, place: usize) -> Verdict
-        ensures { result ≡ (self and_then need holds number place) }
-    {
-        self.and_then(need(holds, number, place))
-    }
-}
+// What a check says: accepted with a count, or refused.
+pub type Verdict = Result<u64, Refusal>;
 
 // Refused with the number and the place, unless the test holds.
 pub fn need(holds: bool, number: u64, place: usize) -> Verdict
     ensures { result ≡ need holds number place }
 {
     if holds {
-        Verdict::Accepted(0)
+        Ok(0)
     } else {
-        Verdict::Refused(number, place)
+        Err(Refusal { number, place })
     }
 }

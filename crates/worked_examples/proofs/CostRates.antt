@@ -3,7 +3,7 @@
 use mathlib.Core.Path.{◌≡◌, refl}
 use mathlib.Core.List.{[], ◌∷◌}
 use Rattle.lists.specs.Sums.{sum_by}
-use Rattle.verdict.specs.Verdicts.{need, ◌and_then◌}
+use Rattle.verdict.specs.Verdicts.{need, first_refusal}
 use Rattle.conditions.specs.Every.{every}
 use Rattle.cost_rate_shares.specs.declared.Accounts.{Accounts}
 use Rattle.cost_rate_shares.specs.Rates.{figure, year_sum, lowered, share, year_rate, none_in, is_empty}
@@ -34,7 +34,7 @@ worked =
 
 pub worked_example : cost_rates worked
     ≡ record { refusal = 0; place = 0; rates = 56_611 ∷ 60_916 ∷ 105_881 ∷ 104_948 ∷ 0 ∷ [] }
-unfolding worked cost_rates check_accounts within_limits all_at_most can_compute can_split is_paid need ◌and_then◌
+unfolding worked cost_rates check_accounts within_limits all_at_most can_compute can_split is_paid need first_refusal
     rates_of
     accounts_rate is_empty none_in every year_rate share lowered year_sum sum_by figure
 worked_example = refl
@@ -44,7 +44,7 @@ pub too_high : Accounts
 too_high = record { expenses = 1_000_000_001 ∷ 0 ∷ 0 ∷ []; stock = []; claims = []; premium = [] }
 
 pub too_high_first : (cost_rates too_high).refusal ≡ 17
-unfolding too_high cost_rates check_accounts within_limits all_at_most can_compute can_split is_paid need ◌and_then◌
+unfolding too_high cost_rates check_accounts within_limits all_at_most can_compute can_split is_paid need first_refusal
     is_empty
     none_in every year_sum sum_by figure
 too_high_first = refl

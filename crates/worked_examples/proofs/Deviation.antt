@@ -5,7 +5,7 @@ use mathlib.Core.List.{List, [], ◌∷◌}
 use native.Mathlib.Omega.{arith}
 use lib.IntN.{ℤ, pos, negsuc}
 use Rattle.lists.specs.Sums.{sum_by}
-use Rattle.verdict.specs.declared.Verdict.TheVariants.{Accepted}
+use Rattle.std.specs.Prelude.{Ok}
 use Rattle.conditions.specs.Every.{every}
 use Rattle.signed.specs.Signs.{number_at}
 use Rattle.risk_model.specs.declared.RiskModel.{RiskModel}
@@ -53,6 +53,6 @@ pub worked_example : factors_reply differences worked ≡ record { refusal = 0; 
 unfolding deviation_for
 worked_example =
     replied_root differences worked passed
-    ∙ ap (deviation_reply_for (Accepted 0))
+    ∙ ap (deviation_reply_for (Ok 0))
     (ap (λ (form : ℤ). root_of (form_over_thousand form)) worked_form
     ∙ sym (root_is 7_479_308_595 86_482 (record { at_most = omega arith; next_above = omega arith })))

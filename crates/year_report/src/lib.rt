@@ -7,16 +7,14 @@ ghost use Rattle.report_text.specs.Report.{report_check, ReportContract, ReportL
 
 use report_years::measured_years;
 use text_reply::TextReply;
-use verdict::Verdict;
+use verdict::{Verdict, need};
 
 // The refusals of both calls, in their order.
+#[tactic(auto, unfolding(report_text::specs::Report::report_check, verdict::specs::Verdicts::first_refusal))]
 fn check_report(book: &[u8], setting: usize) -> Verdict
     ensures { result ≡ report_check book.now setting }
 {
-    let asked = verdict::need(setting < 8, 14, 0);
-    let Verdict::Accepted(_) = asked else {
-        return asked;
-    };
+    need(setting < 8, 14, 0)?;
     book_check::check(book)
 }
 
@@ -27,24 +25,16 @@ pub fn write_report(book: &[u8], setting: usize, out: &mut [u8]) -> TextReply
     ensures { ReportContract book.now setting out.old out.new
         result }
 {
-    let v = check_report(book, setting);
-    if let Verdict::Refused(number, place) = v {
-        return TextReply::Refused(number, place);
-    }
+    check_report(book, setting)?;
     let years = measured_years(book, setting);
-    if out.len() < years.bytes {
-        return TextReply::Refused(20, 0);
-    }
-    TextReply::Bytes(report_text::put_report(years, out))
+    need(years.bytes <= out.len(), 20, 0)?;
+    Ok(report_text::put_report(years, out))
 }
 
 // Replies with the buffer that `write_report` wants: the report's length, to the byte.
 pub fn report_length(book: &[u8], setting: usize) -> TextReply
     ensures { ReportLengthContract book.now setting result }
 {
-    let v = check_report(book, setting);
-    match v {
-        Verdict::Accepted(_) => TextReply::Bytes(measured_years(book, setting).bytes),
-        Verdict::Refused(number, place) => TextReply::Refused(number, place),
-    }
+    check_report(book, setting)?;
+    Ok(measured_years(book, setting).bytes)
 }

@@ -7,7 +7,6 @@ ghost use Rattle.year_report_main.specs.Words.{setting_of, setting_named};
 
 use std::env::{Env, FillError};
 use std::io;
-use text_reply::TextReply;
 
 #[tactic(auto, unfolding(crate::specs::Words::setting_of))]
 fn setting_of(word: &[u8]) -> usize
@@ -61,12 +60,9 @@ fn main(rt: HostRuntime) -> io::Result<()> {
     let got = streams::read_full(&mut rt.stdin(), &mut space)?;
     // No report wants more: so `most` of the telling call's contract says.
     let mut text = [0u8; 9_525];
-    let reply = year_report::write_report(&space[..got], setting, &mut text);
-    match reply {
-        TextReply::Bytes(end) => rt.write_all(&text[..end]),
-        TextReply::Refused(number, place) => {
-            let end = buffer::put_refusal(&mut text, number, place as u64);
-            rt.write_all(&text[..end])
-        }
-    }
+    let end = match year_report::write_report(&space[..got], setting, &mut text) {
+        Ok(end) => end,
+        Err(refusal) => buffer::put_refusal(&mut text, refusal.number, refusal.place as u64),
+    };
+    rt.write_all(&text[..end])
 }

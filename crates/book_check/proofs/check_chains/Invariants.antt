@@ -1,6 +1,5 @@
 -- `book_check::check_chains` meets its contract. The invariant: the counts so far, added to what the chains from k on
--- say, are what all say.
--- The measure is the number of chains that are left. Assumes nothing.
+-- say, are what all say. Assumes nothing.
 use mathlib.Core.Path.{◌≡◌}
 use Prim.Native.Nat.{◌-◌, ◌*◌, ◌≤◌}
 use Rattle.verdict.specs.Verdicts.{plus, join_all}
@@ -9,8 +8,5 @@ use Rattle.book_check.proofs.check_chains.Given as goal
 
 abbrev pub invariant-loop-k : goal.invariant-loop-k
 invariant-loop-k l =
-    (l.k ≤ 14) × (l.n ≤ 122 * l.k) × (check_chains l.b l.last ≡ plus l.n
+    (l.n ≤ 122 * l.k) × (check_chains l.b l.last ≡ plus l.n
     (join_all (check_chain l.b l.last) l.k (14 - l.k)))
-
-abbrev pub decreases-loop-k : goal.decreases-loop-k
-decreases-loop-k l = 14 - l.k

@@ -8,10 +8,10 @@ use Rattle.book.specs.Layout.{records}
 use Rattle.book.specs.Check.{check_from}
 use Rattle.book_check.proofs.check_from.Given as goal
 
-abbrev pub invariant-loop-v : goal.invariant-loop-v
-invariant-loop-v l =
+abbrev pub invariant-loop-n : goal.invariant-loop-n
+invariant-loop-n l =
     (l.n + l.above ≤ l.left) × (0 < l.i) × (l.i ≤ records l.b)
     × (check_from l.b l.last l.k l.left l.from ≡ plus l.n (check_from l.b l.last l.k l.above l.i))
 
-abbrev pub decreases-loop-v : goal.decreases-loop-v
-decreases-loop-v l = l.above
+abbrev pub decreases-loop-n : goal.decreases-loop-n
+decreases-loop-n l = l.above

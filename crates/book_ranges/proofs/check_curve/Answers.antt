@@ -1,30 +1,33 @@
-use mathlib.Core.Path.{sym, ◌∙◌}
+use mathlib.Core.Path.{◌≡◌, sym, ◌∙◌}
 use native.Mathlib.Omega.{arith}
-use mir.Syntax.{w64}
-use mir.ValLaws.{to_z-of_z}
-use Rattle.verdict.proofs.Verdicts.{all_start, all_good, all_bad, all_done, need_zero}
-use Rattle.book_contents.specs.Limits.{check_curve}
+use borrow.Author.Rules.{rules}
+use lib.IntN.{pos}
+use lib.ListN.{get_or}
+use Rattle.verdict.specs.Verdicts.{need}
+use Rattle.verdict.proofs.Verdicts.{all_start, all_good, all_bad, all_done, need_zero, handed_on}
+use Rattle.book_contents.specs.Limits.{curve_rate, check_curve}
 use Rattle.book_ranges.proofs.check_curve.Goals as goal
+use Rattle.book_ranges.proofs.check_curve.Goals.{After-need}
 
-pub loop-j-init : goal.loop-j-init
+-- what the rate here says
+said : (c : After-need) → c.need.result ≡ need (curve_rate (get_or c.args.curve.now c.loop-x.x-index (pos 0))) 7 0
+said c = search rules
+
+pub loop-x-init : goal.loop-x-init
 unfolding check_curve
-loop-j-init c = (omega arith, all_start _ _)
+loop-x-init c = all_start _ _
 
-pub returns-in_default : goal.returns-in_default
-returns-in_default c =
-    let rate = rw (to_z-of_z w64 _ (record { sfits = c.curve_rate-arg-1.given })) at c.curve_rate.ensures in
-    let v = rw rate at c.need-v.ensures in
-    let e = c.in_default.is in
-    e ∙ sym (c.loop-j.invariant.1 ∙ all_bad _ _ _ _ _ _ (omega arith) (sym v ∙ e))
+pub returns-in_err-need : goal.returns-in_err-need
+returns-in_err-need c =
+    handed_on _ c.from_residual.ensures ∙ sym (c.loop-x.invariant
+    ∙ all_bad _ _ _ _ _ (omega arith)
+    (sym (said (goal.at.returns-in_err-need c).After-need) ∙ c.in_err-need.was))
 
-pub loop-j-preserved : goal.loop-j-preserved
-loop-j-preserved c =
-    let rate = rw (to_z-of_z w64 _ (record { sfits = c.curve_rate-arg-1.given })) at c.curve_rate.ensures in
-    let v = rw rate at c.need-v.ensures in (
-      omega arith,
-      c.loop-j.invariant.1
-          ∙ all_good _ _ _ _ _ 0 (omega arith) (need_zero _ _ _ _ (sym v ∙ c.in-Accepted.is)),
-    )
+pub loop-x-preserved : goal.loop-x-preserved
+loop-x-preserved c =
+    c.loop-x.invariant
+    ∙ all_good _ _ _ _ _ 0 (omega arith)
+    (need_zero _ _ _ _ (sym (said (goal.at.loop-x-preserved c).After-need) ∙ c.in_ok-need.was))
 
 pub returns : goal.returns
-returns c = sym (c.loop-j.invariant.1 ∙ all_done _ _ _ _ (omega arith))
+returns c = sym (c.loop-x.invariant ∙ all_done _ _ _ _ (omega arith))

@@ -5,37 +5,13 @@ use Rattle.book.specs.Layout.{field_of, next_of, link_from, link_at}
 use Rattle.buffer.proofs.Digits.{nothing, kept}
 use Rattle.book_contents.specs.Contents.{no_class}
 use Rattle.book_contents.specs.Reading.{first_in, list_in}
-use Rattle.book_contents.proofs.Projection.{sound_long, sound_inside, sound_next, each_wrote}
+use Rattle.book_contents.proofs.Projection.{sound_next, each_wrote}
 use Rattle.lists.specs.Each.{each}
 use Rattle.book_read_lists.proofs.fill_chain.Goals as goal
-
-pub first_in-requires : goal.first_in-requires
-first_in-requires c = (c.requires.0, c.requires.3)
-
-pub head_of-i-requires : goal.head_of-i-requires
-head_of-i-requires c = (c.requires.0, sound_long _ c.requires.3)
 
 pub loop-init : goal.loop-init
 unfolding each link_from
 loop-init c = (omega arith, c.head_of-i.ensures.0, nothing _ _, omega arith)
-
-pub field_of-requires : goal.field_of-requires
-field_of-requires c =
-    let l = c.loop in
-    let f = c.first_in.ensures.0 in
-    let less = c.loop-test.true in (
-      rw l.invariant.1 (sound_inside c.args.book.now c.requires.3 c.args.k c.requires.0 l.counter
-          (omega (arith, less, f))),
-      c.requires.1,
-    )
-
-pub next_of-i-requires : goal.next_of-i-requires
-next_of-i-requires c =
-    let l = c.loop in
-    let f = c.first_in.ensures.0 in
-    let less = c.loop-test.true in
-    rw l.invariant.1 (sound_inside c.args.book.now c.requires.3 c.args.k c.requires.0 l.counter
-    (omega (arith, less, f)))
 
 pub loop-preserved : goal.loop-preserved
 loop-preserved c =

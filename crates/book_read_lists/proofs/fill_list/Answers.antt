@@ -1,6 +1,5 @@
 use mathlib.Core.Path.{◌≡◌}
 use mathlib.Core.List.{[]}
-use Prim.Native.Nat.{◌-◌}
 use native.Mathlib.Omega.{arith}
 use Rattle.buffer.specs.Text.{joined}
 use Rattle.buffer.proofs.Digits.{nothing, kept, joined_more}
@@ -10,10 +9,6 @@ use Rattle.book_read_lists.proofs.fill_list.Goals as goal
 pub loop-k-init : goal.loop-k-init
 unfolding joined
 loop-k-init c = (omega arith, nothing _ _, omega arith)
-
-pub fill_chain-next-requires : goal.fill_chain-next-requires
-fill_chain-next-requires c =
-    (omega arith, c.requires.0, omega (arith, c.loop-k.invariant.2), c.requires.1)
 
 pub loop-k-preserved : goal.loop-k-preserved
 loop-k-preserved c =

@@ -1,24 +1,18 @@
-use mathlib.Core.Path.{◌≡◌, refl}
-use Prim.Native.Nat.{◌+◌}
+-- `book_sizes::total` meets its contract: the sum over the first classes. Assumes nothing.
+use mathlib.Core.Path.{◌≡◌, ◌∙◌}
 use native.Mathlib.Omega.{arith}
-use Rattle.lists.specs.Sums.{sum_by}
-use Rattle.lists.proofs.Sums.{sum_more}
+use lib.ListN.{length}
+use borrow.Author.Rules.{rules}
+use Rattle.book_contents.proofs.Linked.{before_most}
+use Rattle.book_sizes.proofs.AllSizes.{all_sizes}
 use Rattle.book_sizes.proofs.total.Goals as goal
+use Rattle.book_sizes.proofs.total.Goals.{Start}
 
-pub loop-k-init : goal.loop-k-init
-unfolding sum_by
-loop-k-init c = (omega arith, refl, omega arith)
-
-pub loop-k-preserved : goal.loop-k-preserved
-loop-k-preserved c =
-    let l = c.loop-k in (
-      omega arith,
-      sum_more 0 ◌+◌ _ l.k _ _ _ l.invariant.1 c.size_of-sum.ensures.0 refl,
-      omega (arith, c.size_of-sum.ensures.1, l.invariant.2),
-    )
+first_length : (a : Start) → length a.args.first.now ≡ 14
+first_length a = search rules
 
 pub returns : goal.returns
 returns c =
-    let l = c.loop-k in
-    let all : l.k ≡ 14 = omega arith in
-    (rw all at l.invariant.1, omega arith)
+    let first = c.args.first.now in
+    let all = c.sizes_from.ensures ∙ all_sizes first 14 (first_length (goal.at.returns c).Start) in
+    (all, omega (arith, all, before_most first 14))

@@ -5,11 +5,12 @@ use native.Mathlib.Omega.{arith}
 use lib.ListN.{length}
 use borrow.Author.Rules.{rules}
 use Rattle.buffer.proofs.Digits.{kept, from_start}
+use Rattle.verdict.proofs.Verdicts.{handed_on}
 use Rattle.book_contents.specs.Contents.{given}
 use Rattle.book_contents.specs.Written.{book_of}
 use Rattle.book_contents.specs.Limits.{Shaped}
 use Rattle.book_contents.specs.CallContracts.{write_reply}
-use Rattle.book_contents.specs.declared.WriteReply.TheVariants.{Written}
+use Rattle.std.specs.Prelude.{Ok}
 use Rattle.book_contents.proofs.Laid.{book_length}
 use Rattle.book_contents.proofs.Fit.{fit, capacity_enough}
 use Rattle.book_contents.proofs.WriteReadContracts.{write_promised}
@@ -20,26 +21,27 @@ use Rattle.book_write.proofs.write.Goals.{Start}
 shaped : (a : Start) → Shaped a.args.values
 shaped a = record { cost = search rules; curve = search rules; mortality = search rules; first = search rules }
 
-pub put_book-size-requires : goal.put_book-size-requires
-put_book-size-requires c = fit _ _ _ (sym c.check_contents-v.ensures ∙ c.in-Accepted.is)
+pub put_book-requires : goal.put_book-requires
+put_book-requires c = fit _ _ _ (sym c.check_contents.ensures ∙ c.in_ok-check_contents.was)
 
 pub shape_of-out : goal.shape_of-out
-shape_of-out c = kept c.put_book-size.ensures
+shape_of-out c = kept c.put_book.ensures
 
-pub returns-in-Accepted : goal.returns-in-Accepted
+pub returns : goal.returns
 unfolding write_reply
-returns-in-Accepted c =
-    let w = c.put_book-size.ensures in
+returns c =
+    let w = c.put_book.ensures in
     let a = c.args in
     let v = given a.values a.counts.now a.lapses.now a.premiums.now a.claims.now in
-    let e = sym c.check_contents-v.ensures ∙ c.in-Accepted.is in
+    let e = sym c.check_contents.ensures ∙ c.in_ok-check_contents.was in
     let size : length (book_of v) ≤ length a.out.now = omega (arith, book_length v, capacity_enough v _ _ e) in
-    write_promised v a.out.now _ _ (shaped (goal.at.returns-in-Accepted c).Start)
-    (rw e (ap Written (omega (arith, w.place))))
+    write_promised v a.out.now _ _ (shaped (goal.at.returns c).Start)
+    (rw e (ap Ok (omega (arith, w.place))))
     (rw e (from_start w size))
 
-pub returns-in-Refused : goal.returns-in-Refused
+pub returns-in_err-check_contents : goal.returns-in_err-check_contents
 unfolding write_reply
-returns-in-Refused c =
-    let e = sym c.check_contents-v.ensures ∙ c.in-Refused.is in
-    write_promised _ _ _ _ (shaped (goal.at.returns-in-Refused c).Start) (rw e) (rw e)
+returns-in_err-check_contents c =
+    let e = sym c.check_contents.ensures ∙ c.in_err-check_contents.was in
+    write_promised _ _ _ _ (shaped (goal.at.returns-in_err-check_contents c).Start)
+    (handed_on _ c.from_residual.ensures ∙ rw e) (rw e)

@@ -4,11 +4,11 @@ use borrow.Author.Tests.{eq-eqb, ne_eqb}
 use Rattle.book_contents.specs.Written.{next_for}
 use Rattle.book_write_records.proofs.next_for.Goals as goal
 
-pub returns-then-j-size_of : goal.returns-then-j-size_of
+pub returns-then-j-size : goal.returns-then-j-size
 unfolding next_for
-returns-then-j-size_of c = rw (← c.size_of.ensures.0, eq-eqb _ _ c.if-j-size_of.true)
+returns-then-j-size c = rw (← c.size.ensures.0, eq-eqb _ _ c.if-j-size.true)
 
 pub returns : goal.returns
 unfolding next_for
 returns c =
-    rw (← c.size_of.ensures.0, ne_eqb _ _ c.if-j-size_of.false) (omega arith)
+    rw (← c.size.ensures.0, ne_eqb _ _ c.if-j-size.false) (omega (arith, c.args.chain.counted))

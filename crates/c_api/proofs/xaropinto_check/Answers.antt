@@ -7,6 +7,6 @@ use Rattle.c_api.proofs.xaropinto_check.Goals as goal
 pub returns : goal.returns
 returns c =
     record {
-      fields_are = rw (c.verdict_fields.ensures, c.check.ensures);
+      fields_are = rw (c.from.ensures, c.check.ensures);
       promised = check_promised _ _ refl;
     }

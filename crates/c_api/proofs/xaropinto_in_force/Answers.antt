@@ -6,6 +6,6 @@ pub returns : goal.returns
 returns c =
     let promised = c.in_force.ensures in
     record {
-      fields_are = rw (c.in_force_fields.ensures, promised.reply_is);
+      fields_are = rw (c.from.ensures, promised.reply_is);
       promised = rw promised.reply_is at promised;
     }

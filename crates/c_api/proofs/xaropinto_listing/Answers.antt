@@ -7,4 +7,4 @@ use Rattle.c_api.proofs.xaropinto_listing.Goals as goal
 pub returns : goal.returns
 returns c =
     let w = c.write_listing.ensures in
-    record { fields_are = c.text_fields.ensures ∙ ap text_fields w.reply_is; promised = rw w.reply_is at w }
+    record { fields_are = c.from.ensures ∙ ap text_fields w.reply_is; promised = rw w.reply_is at w }

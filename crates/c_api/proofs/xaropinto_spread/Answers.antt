@@ -5,6 +5,6 @@ pub returns : goal.returns
 returns c =
     let promised = c.spread.ensures in
     record {
-      fields_are = rw (c.spread_fields.ensures, promised.reply_is);
+      fields_are = rw (c.from.ensures, promised.reply_is);
       promised = rw promised.reply_is at promised;
     }

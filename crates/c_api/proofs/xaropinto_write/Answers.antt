@@ -8,4 +8,4 @@ use Rattle.c_api.proofs.xaropinto_write.Goals as goal
 pub returns : goal.returns
 returns c =
     let w = c.write.ensures in
-    record { fields_are = c.write_fields.ensures ∙ ap write_fields w.reply_is; promised = rw w.reply_is at w }
+    record { fields_are = c.from.ensures ∙ ap write_fields w.reply_is; promised = rw w.reply_is at w }

@@ -10,23 +10,22 @@ use Rattle.cash_flow.proofs.undiscounted.Goals as goal
 use Rattle.cash_flow.proofs.undiscounted.Goals.{In-loop-k}
 
 pub cost_rate_of-rate-requires : goal.cost_rate_of-rate-requires
-cost_rate_of-rate-requires c = let a = c.requires in (a.1, a.2, a.5)
+cost_rate_of-rate-requires c = let a = c.requires in (a.0, a.1, a.4)
 
 pub loop-k-init : goal.loop-k-init
-loop-k-init c = (omega arith, omega arith, refl, refl, in_none _ _ _, in_none _ _ _)
+loop-k-init c = (omega arith, omega arith, refl, in_none _ _ _, in_none _ _ _)
 
 -- a year of the loop is one of the fifty, and its numbers stand in the table
 here : (m : In-loop-k)
     → 10 * m.loop-k.k + 2 * m.args.s.projection + 1 < 500
 here m =
-    omega (arith, m.loop-k-test.true, m.requires.4, m.requires.0.projection_is, projection_low m.args.s.number)
+    omega (arith, m.loop-k-test.true, m.requires.3, m.args.s.projection_is, projection_low m.args.s.number)
 
 pub outgo-spent-requires : goal.outgo-spent-requires
 outgo-spent-requires c = (
-  c.requires.0.weighed,
   c.cost_rate_of-rate.ensures.1,
-  c.requires.6.most.each _ (omega (arith, here (goal.at.outgo-spent-requires c).In-loop-k)),
-  c.requires.6.most.each _ (omega (arith, here (goal.at.outgo-spent-requires c).In-loop-k)),
+  c.requires.5.most.each _ (omega (arith, here (goal.at.outgo-spent-requires c).In-loop-k)),
+  c.requires.5.most.each _ (omega (arith, here (goal.at.outgo-spent-requires c).In-loop-k)),
 )
 
 pub loop-k-preserved : goal.loop-k-preserved
@@ -38,21 +37,19 @@ loop-k-preserved c =
     let s = c.args.s.number in
     let p = c.args.s.projection in
     let g = c.args.group in
-    let t = c.requires.6 in
-    let known = c.requires.0 in
-    let lt : l.k < 50 = omega (arith, c.loop-k-test.true, c.requires.4) in
+    let t = c.requires.5 in
+    let lt : l.k < 50 = omega (arith, c.loop-k-test.true, c.requires.3) in
     let due = get_or c.args.numbers.now (10 * l.k + 2 * p) 0 in
     let claims = get_or c.args.numbers.now (10 * l.k + 2 * p + 1) 0 in
-    let due-is = premium_served b g s p l.k _ t known.known known.projection_is lt in
-    let claims_is = claims_served b g s p l.k _ t known.known known.projection_is lt in
+    let due-is = premium_served b g s p l.k _ t c.args.s.known c.args.s.projection_is lt in
+    let claims_is = claims_served b g s p l.k _ t c.args.s.known c.args.s.projection_is lt in
     let eo : o.result ≡ outgo_before b s g l.k =
-    outgo_of_lem b s g l.k r.result due claims o.result (rw known.outgo_is at o.ensures.0) r.ensures.0
+    outgo_of_lem b s g l.k r.result due claims o.result (rw c.args.s.outgo_is at o.ensures.0) r.ensures.0
     due-is claims_is in (
       omega arith,
       omega (arith, c.loop-k-test.true),
-      length-set l.premium l.k _ ∙ l.invariant.2,
-      length-set l.outgo l.k _ ∙ l.invariant.3,
-      in_more _ _ _ l.k _ l.premium (omega (arith, l.invariant.2)) l.invariant.4
+      length-set l.years l.k _ ∙ l.invariant.2,
+      in_more (λ y. y.premium) _ _ _ l.k _ l.years (omega (arith, l.invariant.2)) l.invariant.3
           (premium_of b s g l.k due o.result c.counted.result c.counted.ensures.0 due-is eo)
           (omega (
             arith,
@@ -62,14 +59,15 @@ loop-k-preserved c =
               here (goal.at.loop-k-preserved c).In-loop-k,
             )),
           )),
-      in_more _ _ _ l.k _ l.outgo (omega (arith, l.invariant.3)) l.invariant.5 eo (omega (arith, o.ensures.1)),
+      in_more (λ y. y.outgo) _ _ _ l.k _ l.years (omega (arith, l.invariant.2)) l.invariant.4 eo
+          (omega (arith, o.ensures.1)),
     )
 
 pub returns : goal.returns
 returns c =
     let l = c.loop-k in
     let e : l.k ≡ c.args.span.to = omega arith in
-    record { premium_is_in = rw e at l.invariant.4; outgo_in = rw e at l.invariant.5 }
+    record { premium_is_in = rw e at l.invariant.3; outgo_in = rw e at l.invariant.4 }
 
 pub overflow_mul-j : goal.overflow_mul-j
 overflow_mul-j c = omega (arith, here (goal.at.overflow_mul-j c).In-loop-k)

@@ -4,4 +4,4 @@ use Rattle.claims_estimates.proofs.estimated.Goals as goal
 
 pub returns : goal.returns
 unfolding estimates_of
-returns c = rw (c.mean.ensures, c.deviation.ensures)
+returns c = rw (c.mean-mean.ensures, c.deviation-deviation.ensures)

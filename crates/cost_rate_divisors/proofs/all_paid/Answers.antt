@@ -1,14 +1,10 @@
--- `cost_rate_divisors::all_paid` meets its contract: the five tests in order. Assumes nothing.
-use Rattle.conditions.specs.Every.{every}
+-- `cost_rate_divisors::all_paid` meets its contract: a test of each group of the range. Assumes nothing.
+use Rattle.std.proofs.Common.{rules, tests}
+use Rattle.conditions.proofs.Checked.{range_checked}
+use Rattle.cost_rate_divisors.specs.Divisors.{is_paid}
 use Rattle.cost_rate_divisors.proofs.all_paid.Goals as goal
 
 pub returns : goal.returns
-unfolding every
 returns c =
-    rw (
-      c.is_paid-5.ensures,
-      c.is_paid-4.ensures,
-      c.is_paid-3.ensures,
-      c.is_paid-2.ensures,
-      c.is_paid.ensures,
-    )
+    let test = is_paid c.args.bounded.accounts in
+    range_checked test 5 c.all.result c.all.ensures.ran (λ group b q k. search (rules, tests))

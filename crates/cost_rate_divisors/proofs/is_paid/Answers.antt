@@ -1,15 +1,16 @@
--- `cost_rate_divisors::is_paid` meets its contract: the figures and the test are those of the definition. Assumes
+-- `cost_rate_divisors::is_paid` meets its contract: a test of each year of the range, and the empty group's. Assumes
 -- nothing.
-use Rattle.conditions.specs.Every.{every}
+use mathlib.Core.Bool.{Bool}
+use Prim.Native.Nat.{ℕ}
+use lib.Dec.{ltb}
+use Rattle.std.proofs.Common.{rules, tests}
+use Rattle.conditions.proofs.Checked.{range_checked}
+use Rattle.cost_rate_shares.specs.Rates.{figure}
 use Rattle.cost_rate_divisors.specs.Divisors.{is_paid}
 use Rattle.cost_rate_divisors.proofs.is_paid.Goals as goal
 
 pub returns : goal.returns
-unfolding is_paid every
+unfolding is_paid
 returns c =
-    rw (
-      c.is_empty.ensures,
-      c.figure-3.ensures.0,
-      c.figure-2.ensures.0,
-      c.figure.ensures.0,
-    )
+    let test : ℕ → Bool = λ year. ltb 0 (figure c.args.bounded.accounts.premium year c.args.group) in
+    rw (c.is_empty.ensures, range_checked test 3 c.all.result c.all.ensures.ran (λ year b q k. search (rules, tests)))

@@ -1,9 +1,10 @@
 -- `cost_rates::cost_rates` meets its contract: the reply is the verdict's, its promises follow. Assumes nothing.
 use mathlib.Core.Path.{sym, ap, ◌∙◌}
-use Rattle.verdict.specs.declared.Verdict.TheVariants.{Accepted}
+use Rattle.std.specs.Prelude.{Ok}
 use Rattle.cost_rates.specs.Replies.{rates_reply_for}
 use Rattle.cost_rate_limits.proofs.Bounded.{bounded}
 use Rattle.cost_rate_divisors.proofs.Usable.{usable}
+use Rattle.cost_rate_shares.specs.Rates.{rates_of}
 use Rattle.cost_rates.proofs.RatesContract.{rates_promised}
 use Rattle.cost_rates.proofs.Replied.{replied_17, replied_18, replied_19, replied_rates}
 use Rattle.cost_rates.proofs.cost_rates.Goals as goal
@@ -13,9 +14,9 @@ returns-then-not-within_limits c =
     let limits = sym c.within_limits.ensures ∙ c.if-not-within_limits.true in
     rates_promised _ _ (c.refused.ensures ∙ sym (replied_17 _ limits))
 
-pub can_compute-requires : goal.can_compute-requires
-can_compute-requires c =
-    bounded _ (sym c.within_limits.ensures ∙ c.if-not-within_limits.false)
+pub invariant_of-bounded : goal.invariant_of-bounded
+invariant_of-bounded c =
+    record { bounded = bounded _ (sym c.within_limits.ensures ∙ c.if-not-within_limits.false) }
 
 pub returns-then-not-can_compute : goal.returns-then-not-can_compute
 returns-then-not-can_compute c =
@@ -23,12 +24,13 @@ returns-then-not-can_compute c =
     let sums = sym c.can_compute.ensures ∙ c.if-not-can_compute.true in
     rates_promised _ _ (c.refused-then-not-can_compute.ensures ∙ sym (replied_18 _ limits sums))
 
-pub rates-rates-requires : goal.rates-rates-requires
-rates-rates-requires c =
+pub invariant_of-usable : goal.invariant_of-usable
+invariant_of-usable c =
     let limits = sym c.within_limits.ensures ∙ c.if-not-within_limits.false in
-    usable _ (bounded _ limits) (sym c.can_compute.ensures ∙ c.if-not-can_compute.false)
+    record { usable = usable _ (bounded _ limits) (sym c.can_compute.ensures ∙ c.if-not-can_compute.false) }
 
 pub returns-then-not-all_at_most : goal.returns-then-not-all_at_most
+unfolding rates_of
 returns-then-not-all_at_most c =
     let limits = sym c.within_limits.ensures ∙ c.if-not-within_limits.false in
     let sums = sym c.can_compute.ensures ∙ c.if-not-can_compute.false in
@@ -37,10 +39,11 @@ returns-then-not-all_at_most c =
     (c.refused-then-not-all_at_most.ensures ∙ sym (replied_19 _ limits sums (rw c.rates-rates.ensures at high)))
 
 pub returns : goal.returns
+unfolding rates_of
 returns c =
     let reckoned = c.rates-rates.ensures in
     let limits = sym c.within_limits.ensures ∙ c.if-not-within_limits.false in
     let sums = sym c.can_compute.ensures ∙ c.if-not-can_compute.false in
     let low = sym c.all_at_most.ensures ∙ c.if-not-all_at_most.false in
     rates_promised _ _
-    (ap (rates_reply_for (Accepted 0)) reckoned ∙ sym (replied_rates _ limits sums (rw reckoned at low)))
+    (ap (rates_reply_for (Ok 0)) reckoned ∙ sym (replied_rates _ limits sums (rw reckoned at low)))

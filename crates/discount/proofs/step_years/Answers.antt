@@ -11,21 +11,19 @@ pub step_year-requires : goal.step_year-requires
 step_year-requires c =
     let l = c.loop-k in (
       omega arith,
-      rw (l.invariant.2.later l.k (omega arith)) (c.requires.3.each l.k (omega arith)),
-      rw (l.invariant.3.later l.k (omega arith)) (c.requires.4.each l.k (omega arith)),
-      c.requires.2,
+      rw (l.invariant.2.later l.k (omega arith)) (c.requires.2.each l.k (omega arith)),
+      rw (l.invariant.3.later l.k (omega arith)) (c.requires.3.each l.k (omega arith)),
     )
 
 pub step_year-requires-in-loop-k : goal.step_year-requires-in-loop-k
 step_year-requires-in-loop-k c =
     let e = c.step_year.ensures in
     let l = c.loop-k in
-    let p = stepped_more _ _ _ l.k l.premium _ (omega arith) l.invariant.2 e.premium_after in
-    let o = stepped_more _ _ _ l.k l.outgo _ (omega arith) l.invariant.3 e.outgo_after in (
+    let p = stepped_more _ _ _ l.k _ _ (omega arith) l.invariant.2 e.premium_after in
+    let o = stepped_more _ _ _ l.k _ _ (omega arith) l.invariant.3 e.outgo_after in (
       omega arith,
-      rw (p.later (l.k + 1) (omega arith)) (c.requires.3.each (l.k + 1) (omega arith)),
-      rw (o.later (l.k + 1) (omega arith)) (c.requires.4.each (l.k + 1) (omega arith)),
-      c.requires.2,
+      rw (p.later (l.k + 1) (omega arith)) (c.requires.2.each (l.k + 1) (omega arith)),
+      rw (o.later (l.k + 1) (omega arith)) (c.requires.3.each (l.k + 1) (omega arith)),
     )
 
 pub loop-k-preserved : goal.loop-k-preserved
@@ -35,17 +33,16 @@ loop-k-preserved c =
     let l = c.loop-k in (
       omega arith,
       omega arith,
-      stepped_two _ _ _ l.k l.premium _ _ (omega arith) l.invariant.2 e.premium_after f.premium_after,
-      stepped_two _ _ _ l.k l.outgo _ _ (omega arith) l.invariant.3 e.outgo_after f.outgo_after,
+      stepped_two _ _ _ l.k _ _ _ (omega arith) l.invariant.2 e.premium_after f.premium_after,
+      stepped_two _ _ _ l.k _ _ _ (omega arith) l.invariant.3 e.outgo_after f.outgo_after,
     )
 
 pub step_year-requires-then-k-to : goal.step_year-requires-then-k-to
 step_year-requires-then-k-to c =
     let l = c.loop-k in (
       omega arith,
-      rw (l.invariant.2.later l.k (omega arith)) (c.requires.3.each l.k (omega arith)),
-      rw (l.invariant.3.later l.k (omega arith)) (c.requires.4.each l.k (omega arith)),
-      c.requires.2,
+      rw (l.invariant.2.later l.k (omega arith)) (c.requires.2.each l.k (omega arith)),
+      rw (l.invariant.3.later l.k (omega arith)) (c.requires.3.each l.k (omega arith)),
     )
 
 pub returns-then-k-to : goal.returns-then-k-to
@@ -53,8 +50,8 @@ returns-then-k-to c =
     let s = c.step_year-then-k-to.ensures in
     let l = c.loop-k in
     let e : l.k + 1 ≡ c.args.to = omega arith in (
-      rw e at (stepped_more _ _ _ l.k l.premium _ (omega arith) l.invariant.2 s.premium_after),
-      rw e at (stepped_more _ _ _ l.k l.outgo _ (omega arith) l.invariant.3 s.outgo_after),
+      rw e at (stepped_more _ _ _ l.k _ _ (omega arith) l.invariant.2 s.premium_after),
+      rw e at (stepped_more _ _ _ l.k _ _ (omega arith) l.invariant.3 s.outgo_after),
     )
 
 pub returns-else-k-to : goal.returns-else-k-to

@@ -6,13 +6,13 @@ use native.Mathlib.Omega.{arith}
 use Rattle.lists.specs.AtMost.{AtMost}
 use Rattle.lists.proofs.AtMost.{most_higher}
 use Rattle.settings_columns.specs.Columns.{five_columns}
-use Rattle.settings_columns.specs.declared.FiveColumns.{FiveColumns}
+use Rattle.settings_columns.specs.Columns.{FiveColumns}
 use Rattle.cell.specs.declared.Cell.{Cell}
 use Rattle.cell.specs.States.{Ready}
 use Rattle.cell.proofs.Cells.{premium_in_le, claims_in_le}
 use Rattle.five_cells.specs.Five.{next_five, ten_more}
 use Rattle.cell_projection.specs.Tables.{year_more}
-use Rattle.five_cells.specs.declared.Five.{Five}
+use Rattle.five_cells.specs.Five.{FiveCells}
 use Rattle.cell_projection.proofs.Years.{two_most}
 use Rattle.five_cells.proofs.year.Goals as goal
 
@@ -72,7 +72,7 @@ one_year-lapse_down-requires c =
     (p.0.lapse_down, omega arith, p.1, most_higher fourth (omega arith), ap (λ (x : FiveColumns). x.lapse_down) p.3)
 
 -- five tables, one after the other
-chained : (t : List ℕ) (k : ℕ) (c : Five) (u v w x y z : List ℕ) → v ≡ year_more t 0 k c.base u
+chained : (t : List ℕ) (k : ℕ) (c : FiveCells) (u v w x y z : List ℕ) → v ≡ year_more t 0 k c.base u
     → w ≡ year_more t 1 k c.mortality_up v
     → x ≡ year_more t 2 k c.mortality_down w → y ≡ year_more t 3 k c.lapse_up x
     → z ≡ year_more t 4 k c.lapse_down y → z ≡ ten_more t k c u

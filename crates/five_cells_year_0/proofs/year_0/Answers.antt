@@ -6,8 +6,9 @@ use Prim.Native.Nat.{ℕ, ◌*◌, ◌/◌, ◌≤◌}
 use native.Mathlib.Nat.{add-zero, mul-le-mul, le_trans}
 use native.Mathlib.Omega.{arith}
 use Rattle.settings_columns.specs.Columns.{columns_of, five_columns, survives_in, persists_in}
+use Rattle.settings.specs.declared.ByPeriod.{ByPeriod}
 use Rattle.settings_columns.specs.declared.Columns.{Columns}
-use Rattle.settings_columns.specs.declared.FiveColumns.{FiveColumns}
+use Rattle.settings_columns.specs.Columns.{FiveColumns}
 use Rattle.rate_table.specs.Rows.{rate, RowReady}
 use Rattle.cell.specs.declared.Cell.{Cell}
 use Rattle.cell.specs.States.{Projectable, Ready, next_by, next_year}
@@ -36,7 +37,7 @@ add_year_0-requires c =
     (premium_le _ _ _ c.requires.0, claims_le _ _ _ c.requires.0, c.requires.1)
 
 -- the state that is stepped, by the columns of a projection
-steps : (t : List ℕ) (r n setting : ℕ) (c : Cell) (d : Columns) → Projectable t r n
+steps : (t : List ℕ) (r n setting : ℕ) (c : Cell) (d : ByPeriod Columns) → Projectable t r n
     → c ≡ record { row = r; inforce = n * 1000000000 } → d ≡ columns_of setting
     → Ready t c × (survives_in d 0 ≤ 5) × (persists_in d 0 ≤ 5)
 steps t r n setting c d s e h =
@@ -47,33 +48,34 @@ pub next_year-base-requires : goal.next_year-base-requires
 unfolding five_columns
 next_year-base-requires c =
     steps _ _ _ 0 _ _ c.requires.0 c.new-cell.ensures
-    (ap (λ (x : FiveColumns). x.base) c.new-columns.ensures)
+    (ap (λ (x : FiveColumns). x.base) c.five_columns-columns.ensures)
 
 pub next_year-mortality_up-requires : goal.next_year-mortality_up-requires
 unfolding five_columns
 next_year-mortality_up-requires c =
     steps _ _ _ 1 _ _ c.requires.0 c.new-cell.ensures
-    (ap (λ (x : FiveColumns). x.mortality_up) c.new-columns.ensures)
+    (ap (λ (x : FiveColumns). x.mortality_up) c.five_columns-columns.ensures)
 
 pub next_year-mortality_down-requires : goal.next_year-mortality_down-requires
 unfolding five_columns
 next_year-mortality_down-requires c =
     steps _ _ _ 2 _ _ c.requires.0 c.new-cell.ensures
-    (ap (λ (x : FiveColumns). x.mortality_down) c.new-columns.ensures)
+    (ap (λ (x : FiveColumns). x.mortality_down) c.five_columns-columns.ensures)
 
 pub next_year-lapse_up-requires : goal.next_year-lapse_up-requires
 unfolding five_columns
 next_year-lapse_up-requires c =
     steps _ _ _ 3 _ _ c.requires.0 c.new-cell.ensures
-    (ap (λ (x : FiveColumns). x.lapse_up) c.new-columns.ensures)
+    (ap (λ (x : FiveColumns). x.lapse_up) c.five_columns-columns.ensures)
 
 pub next_year-lapse_down-requires : goal.next_year-lapse_down-requires
 unfolding five_columns
 next_year-lapse_down-requires c =
     steps _ _ _ 4 _ _ c.requires.0 c.new-cell.ensures
-    (ap (λ (x : FiveColumns). x.lapse_down) c.new-columns.ensures)
+    (ap (λ (x : FiveColumns). x.lapse_down) c.five_columns-columns.ensures)
 
-stepped : (t : List ℕ) (r n setting : ℕ) (c x : Cell) (d : Columns) → c ≡ record { row = r; inforce = n * 1000000000 }
+stepped : (t : List ℕ) (r n setting : ℕ) (c x : Cell) (d : ByPeriod Columns)
+    → c ≡ record { row = r; inforce = n * 1000000000 }
     → d ≡ columns_of setting
     → x ≡ next_by t (survives_in d 0) (persists_in d 0) c
     → x ≡ next_year t setting 0 (record { row = r; inforce = n * 1000000000 })
@@ -95,7 +97,7 @@ returns c =
     let t = c.args.rows.now in
     let r = c.args.point.row in
     let n = c.args.point.count in
-    let five = c.new-columns.ensures in (
+    let five = c.five_columns-columns.ensures in (
       rw (
         stepped t r n 0 _ _ _ new (ap (λ (x : FiveColumns). x.base) five) c.next_year-base.ensures,
         stepped t r n 1 _ _ _ new (ap (λ (x : FiveColumns). x.mortality_up) five) c.next_year-mortality_up.ensures,

@@ -3,10 +3,10 @@ use mathlib.Core.Path.{ap}
 use native.Mathlib.Omega.{arith}
 use Rattle.lists.proofs.AtMost.{most_higher}
 use Rattle.settings_columns.specs.Columns.{five_columns}
-use Rattle.settings_columns.specs.declared.FiveColumns.{FiveColumns}
+use Rattle.settings_columns.specs.Columns.{FiveColumns}
 use Rattle.cell_projection.proofs.Single.{within_capacity}
 use Rattle.five_cells.specs.Five.{five_in}
-use Rattle.five_cells.specs.declared.Five.{Five}
+use Rattle.five_cells.specs.Five.{FiveCells}
 use Rattle.five_side_by_side.proofs.Runs.{run_capacity}
 use Rattle.five_projections.proofs.AllYears.{all_added}
 use Rattle.five_projections.proofs.project.Goals as goal
@@ -21,9 +21,9 @@ alone-base-requires c =
       p.0,
       omega arith,
       w.most,
-      record { state = ap (λ (x : Five). x.base) w.reached.states; going = w.reached.going 0 (omega arith) },
+      record { state = ap (λ (x : FiveCells). x.base) w.reached.states; going = w.reached.going 0 (omega arith) },
       most_higher together (omega arith),
-      ap (λ (x : FiveColumns). x.base) c.new-columns.ensures,
+      ap (λ (x : FiveColumns). x.base) c.five_columns-columns.ensures,
     )
 
 pub alone-mortality_up-requires : goal.alone-mortality_up-requires
@@ -36,9 +36,12 @@ alone-mortality_up-requires c =
       p.0,
       omega arith,
       w.most,
-      record { state = ap (λ (x : Five). x.mortality_up) w.reached.states; going = w.reached.going 1 (omega arith) },
+      record {
+        state = ap (λ (x : FiveCells). x.mortality_up) w.reached.states;
+        going = w.reached.going 1 (omega arith);
+      },
       most_higher first (omega arith),
-      ap (λ (x : FiveColumns). x.mortality_up) c.new-columns.ensures,
+      ap (λ (x : FiveColumns). x.mortality_up) c.five_columns-columns.ensures,
     )
 
 pub alone-mortality_down-requires : goal.alone-mortality_down-requires
@@ -52,9 +55,12 @@ alone-mortality_down-requires c =
       p.0,
       omega arith,
       w.most,
-      record { state = ap (λ (x : Five). x.mortality_down) w.reached.states; going = w.reached.going 2 (omega arith) },
+      record {
+        state = ap (λ (x : FiveCells). x.mortality_down) w.reached.states;
+        going = w.reached.going 2 (omega arith);
+      },
       most_higher second (omega arith),
-      ap (λ (x : FiveColumns). x.mortality_down) c.new-columns.ensures,
+      ap (λ (x : FiveColumns). x.mortality_down) c.five_columns-columns.ensures,
     )
 
 pub alone-lapse_up-requires : goal.alone-lapse_up-requires
@@ -69,9 +75,9 @@ alone-lapse_up-requires c =
       p.0,
       omega arith,
       w.most,
-      record { state = ap (λ (x : Five). x.lapse_up) w.reached.states; going = w.reached.going 3 (omega arith) },
+      record { state = ap (λ (x : FiveCells). x.lapse_up) w.reached.states; going = w.reached.going 3 (omega arith) },
       most_higher third (omega arith),
-      ap (λ (x : FiveColumns). x.lapse_up) c.new-columns.ensures,
+      ap (λ (x : FiveColumns). x.lapse_up) c.five_columns-columns.ensures,
     )
 
 pub alone-lapse_down-requires : goal.alone-lapse_down-requires
@@ -87,9 +93,9 @@ alone-lapse_down-requires c =
       p.0,
       omega arith,
       w.most,
-      record { state = ap (λ (x : Five). x.lapse_down) w.reached.states; going = w.reached.going 4 (omega arith) },
+      record { state = ap (λ (x : FiveCells). x.lapse_down) w.reached.states; going = w.reached.going 4 (omega arith) },
       most_higher fourth (omega arith),
-      ap (λ (x : FiveColumns). x.lapse_down) c.new-columns.ensures,
+      ap (λ (x : FiveColumns). x.lapse_down) c.five_columns-columns.ensures,
     )
 
 pub returns : goal.returns

@@ -19,7 +19,7 @@ year-cells-requires c =
       run_ready _ _ _ _ _ _ _ _ run p.0 year,
       year,
       most_higher (run_capacity _ _ _ _ _ _ _ _ run p.0 p.4) (omega arith),
-      c.new-columns.ensures,
+      c.five_columns-columns.ensures,
     )
 
 pub loop-k-preserved : goal.loop-k-preserved

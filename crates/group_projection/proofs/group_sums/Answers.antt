@@ -3,6 +3,7 @@ use mathlib.Core.List.{List}
 use Prim.Native.Nat.{ℕ, ◌+◌, ◌-◌, ◌*◌, ◌<◌}
 use native.Mathlib.Omega.{arith}
 use lib.ListN.{get_or}
+use Rattle.std.specs.Prelude.{Option}
 use Rattle.lists.proofs.AtMost.{most_higher, most_replicate}
 use Rattle.book.specs.Cells.{chains_of, held_of_group}
 use Rattle.settings_decrements.specs.Decrements.{decrements_of}
@@ -41,7 +42,8 @@ loop-k-preserved c =
     )
 
 -- the sum over the records of what a projection adds in a year
-module _ (b : List ℕ) (which g s k : ℕ) (t : List ℕ) (e : t ≡ added_all (amount_in b which) (group_links b g) zeros)
+module _ (b : List ℕ) (which : Option ℕ) (g s k : ℕ) (t : List ℕ)
+    (e : t ≡ added_all (amount_in b which) (group_links b g) zeros)
     (h : s < 5) (among : Among which s) (l : k < 50) where
   premium_sum_lem : get_or t (10 * k + 2 * s) 0 ≡ premium_sum rounded (group_cells b (decrements_of b s) g) k
   unfolding zeros

@@ -1,5 +1,7 @@
-use mathlib.Core.Path.{◌≡◌, sym, ◌∙◌}
-use Prim.Native.Nat.{ℕ, ◌+◌, ◌-◌}
+use mathlib.Core.Path.{◌≡◌, refl, sym, ap, ◌∙◌}
+use Prim.Native.Nat.{ℕ, zero, suc, ◌+◌, ◌-◌, ◌<◌}
+use Rattle.std.specs.Prelude.{Some}
+use Rattle.in_force_request.specs.Request.{if_any}
 use native.Mathlib.Omega.{arith}
 use Rattle.book.specs.Layout.{class_of}
 use Rattle.book.specs.Rules.{RecordRules}
@@ -15,7 +17,12 @@ head_of-head-requires c = (c.requires.1, omega (arith, c.requires.0.header.size)
 pub returns-then-head-eq0 : goal.returns-then-head-eq0
 returns-then-head-eq0 c =
     let none = sym c.head_of-head.ensures.0 ∙ c.if-head-eq0.true in
-    sym (chain_empty _ c.requires.0 _ c.requires.1 c.args.class none)
+    rw (chain_empty _ c.requires.0 _ c.requires.1 c.args.class none)
+
+-- a number that is not 0 is one of a record
+found : (i : ℕ) → 0 < i → Some i ≡ if_any i
+found zero h = absurd (omega arith)
+found (suc i) h = refl
 
 -- the chain from its head on
 module _ (c : Else-head-eq0) where
@@ -61,13 +68,18 @@ class_of-here-requires c =
 pub returns-then-here-class : goal.returns-then-here-class
 returns-then-here-class c =
     let l = c.loop-k in
-    sym (counted_here _ _ l.above l.i (sym c.class_of-here.ensures.0 ∙ c.if-here-class.true)) ∙ l.invariant.2
+    let r = here (goal.at.returns-then-here-class c).At-loop-k in
+    let is =
+    sym (counted_here _ _ l.above l.i (sym c.class_of-here.ensures.0 ∙ c.if-here-class.true)) ∙ l.invariant.2 in
+    found l.i r.first ∙ ap if_any is
 
 pub returns-then-above-eq0 : goal.returns-then-above-eq0
 returns-then-above-eq0 c =
     let l = c.loop-k in
-    sym (counted_end _ _ l.above l.i c.if-above-eq0.true (λ is. c.if-here-class.false (c.class_of-here.ensures.0 ∙ is)))
-    ∙ l.invariant.2
+    ap if_any
+    (sym (counted_end _ _ l.above l.i c.if-above-eq0.true
+    (λ is. c.if-here-class.false (c.class_of-here.ensures.0 ∙ is)))
+    ∙ l.invariant.2)
 
 pub next_of-i-requires : goal.next_of-i-requires
 next_of-i-requires c =

@@ -12,14 +12,14 @@ use Rattle.lists.proofs.Each.{each_behind_length, each_behind_more, each_same}
 use Rattle.in_force_run.proofs.run.Goals as goal
 use Rattle.in_force_run.proofs.run.Goals.{At-loop-k}
 
-pub new-columns-requires : goal.new-columns-requires
-new-columns-requires c = c.requires.0
+pub columns_of-columns-requires : goal.columns_of-columns-requires
+columns_of-columns-requires c = c.requires.0
 
-pub new-requires : goal.new-requires
-new-requires c = c.requires.1
+pub shifts_of-w-requires : goal.shifts_of-w-requires
+shifts_of-w-requires c = c.requires.1
 
 pub read_rows-requires : goal.read_rows-requires
-read_rows-requires c = (c.new.ensures, c.requires.1, c.requires.2, c.requires.3)
+read_rows-requires c = (c.shifts_of-w.ensures, c.requires.1, c.requires.2, c.requires.3)
 
 pub field_of-requires : goal.field_of-requires
 field_of-requires c =
@@ -42,7 +42,7 @@ loop-k-init c =
 
 pub year_later-next-requires : goal.year_later-next-requires
 year_later-next-requires c =
-    let low = held_low _ c.loop-k.k _ c.new-columns.ensures in (
+    let low = held_low _ c.loop-k.k _ c.columns_of-columns.ensures in (
       rw c.loop-k.invariant.2 (state_ready _ _ _ _ c.loop-k.invariant.1 c.loop-k.k c.loop-k-test.true),
       low.0,
       low.1,
@@ -66,7 +66,7 @@ loop-k-preserved c =
       omega arith,
       l.invariant.1,
       next_held c.args.setting l.k _
-          c.new-columns.ensures
+          c.columns_of-columns.ensures
           c.read_rows.new.rows l.cell _ c.year_later-next.ensures ∙ rw
           l.invariant.2 (state_next _ _ _ _ l.k),
       each_behind_more _ l.k _ l.out _ _

@@ -1,15 +1,12 @@
--- `le_bytes::check_fields` meets its contract. The invariant: what the fields from k on say is what all say. The
--- measure is the number of fields left. Assumes nothing.
+-- `le_bytes::check_fields` meets its contract. The invariant: what the fields from k on say is what all say. Assumes
+-- nothing.
 use mathlib.Core.Path.{◌≡◌}
-use Prim.Native.Nat.{ℕ, ◌+◌, ◌-◌, ◌*◌, ◌≤◌}
+use Prim.Native.Nat.{ℕ, ◌+◌, ◌-◌, ◌*◌}
 use Rattle.le_bytes.specs.Fields.{check_field, check_fields}
 use Rattle.verdict.specs.Verdicts.{plus, join_all}
 use Rattle.le_bytes.proofs.check_fields.Given as goal
 
 abbrev pub invariant-loop-k : goal.invariant-loop-k
 invariant-loop-k l =
-    (l.k ≤ l.count) × (check_fields l.b l.number l.lift l.span l.at l.count ≡ plus 0
-    (join_all (λ (j : ℕ). check_field l.b l.number l.lift l.span (l.at + 4 * j)) l.k (l.count - l.k)))
-
-abbrev pub decreases-loop-k : goal.decreases-loop-k
-decreases-loop-k l = l.count - l.k
+    check_fields l.b l.number l.lift l.span l.at l.count ≡ plus 0
+    (join_all (λ (j : ℕ). check_field l.b l.number l.lift l.span (l.at + 4 * j)) l.k (l.count - l.k))

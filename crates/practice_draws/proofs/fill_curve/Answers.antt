@@ -1,33 +1,19 @@
-use mathlib.Core.Path.{◌≡◌, refl, sym, ap, ◌∙◌}
-use Prim.Native.Nat.{◌<◌}
-use native.Mathlib.Omega.{arith}
-use lib.ListN.{length}
+use mathlib.Core.Path.{refl, sym, ap, ◌∙◌}
+use mir.Syntax.{w64}
+use mir.ValLaws.{to_z-of_z}
 use Rattle.generator.proofs.DrawSequence.{after_none}
 use Rattle.practice_contents.specs.Drawn.{drawn_rate}
-use Rattle.practice_draws.proofs.DrawnLists.{next_after, next_draw, filled_none, filled_more, filled_all}
+use Rattle.practice_draws.proofs.DrawnLists.{after_draw, draw_is, filled_none, filled_more}
 use Rattle.practice_draws.proofs.fill_curve.Goals as goal
 
-pub loop-j-init : goal.loop-j-init
-loop-j-init c = (omega arith, sym (after_none _), filled_none _ _ refl)
+pub loop-rate-init : goal.loop-rate-init
+loop-rate-init c = (sym (after_none _), filled_none _ _ refl)
 
-pub put_rate-words-requires : goal.put_rate-words-requires
-put_rate-words-requires c = omega arith
-
-pub loop-j-preserved : goal.loop-j-preserved
-loop-j-preserved c =
-    let l = c.loop-j in
-    let few : l.j < length c.args.curve.now =
-    omega (arith, c.loop-j-test.true, l.invariant.2.size) in (
-      omega arith,
-      c.put_rate-words.ensures.0 ∙ next_after _ l.j l.invariant.1 _ refl,
-      filled_more _ l.j few c.put_rate-words.ensures.1 (ap drawn_rate (next_draw _ l.j l.invariant.1)) l.invariant.2,
+pub loop-rate-preserved : goal.loop-rate-preserved
+loop-rate-preserved c =
+    let l = c.loop-rate in
+    let rate = to_z-of_z w64 c.drawn_rate.result (record { sfits = c.drawn_rate.type_inv }) ∙ c.drawn_rate.ensures
+    ∙ ap drawn_rate (draw_is _ l.rate-index l.invariant.0 c.draw.ensures) in (
+      after_draw _ l.rate-index l.invariant.0 c.draw.ensures _ refl,
+      filled_more _ l.rate-index c.loop-rate-test.true refl rate l.invariant.1,
     )
-
-pub shape_of-curve : goal.shape_of-curve
-shape_of-curve c = c.loop-j.invariant.2.size
-
-pub returns : goal.returns
-returns c =
-    let l = c.loop-j in
-    let all : l.j ≡ length c.args.curve.now = omega (arith, l.invariant.2.size) in
-    (rw all at l.invariant.1, filled_all _ all l.invariant.2)

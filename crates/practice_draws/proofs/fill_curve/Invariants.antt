@@ -1,17 +1,14 @@
--- `practice_draws::fill_curve` meets its contract. The invariant: the first j rates are drawn, and the words are j
--- draws on. The measure is how many are left. Assumes nothing.
+-- `practice_draws::fill_curve` meets its contract. The invariant: the rates passed are drawn, and the words are as many
+-- draws on. Assumes nothing.
 use mathlib.Core.Path.{◌≡◌}
-use Prim.Native.Nat.{ℕ, ◌-◌, ◌≤◌}
+use Prim.Native.Nat.{ℕ}
 use lib.ListN.{length}
 use Rattle.generator.specs.Draws.{state_after, draw_at}
 use Rattle.practice_contents.specs.Drawn.{drawn_rate}
 use Rattle.practice_draws.proofs.DrawnLists.{Filled}
 use Rattle.practice_draws.proofs.fill_curve.Given as goal
 
-abbrev pub invariant-loop-j : goal.invariant-loop-j
-invariant-loop-j l =
-    (l.j ≤ length l.initial.curve) × (l.words ≡ state_after l.initial.words l.j)
-    × Filled (λ (i : ℕ). drawn_rate (draw_at l.initial.words i)) (length l.initial.curve) l.curve l.j
-
-abbrev pub decreases-loop-j : goal.decreases-loop-j
-decreases-loop-j l = length l.initial.curve - l.j
+abbrev pub invariant-loop-rate : goal.invariant-loop-rate
+invariant-loop-rate l =
+    (l.words ≡ state_after l.initial.words l.rate-index)
+    × Filled (λ (i : ℕ). drawn_rate (draw_at l.initial.words i)) (length l.initial.curve) l.curve l.rate-index

@@ -16,10 +16,10 @@ kind w span offset i = drawn_number span (draw_at w (4 * i + offset))
 abbrev pub invariant-loop-i : goal.invariant-loop-i
 invariant-loop-i l =
     (l.i ≤ 1694) × (l.words ≡ state_after l.initial.words (4 * l.i))
-    × Filled (λ (i : ℕ). drawn_number most_count (draw_at l.initial.words (4 * i))) 1694 l.counts l.i
-    × Filled (kind l.initial.words most_rate 1) 1694 l.lapses l.i
-    × Filled (kind l.initial.words most_amount 2) 1694 l.premiums l.i
-    × Filled (kind l.initial.words most_amount 3) 1694 l.claims l.i
+    × Filled (λ (i : ℕ). drawn_number most_count (draw_at l.initial.words (4 * i))) 1694 l.lists.counts l.i
+    × Filled (kind l.initial.words most_rate 1) 1694 l.lists.lapses l.i
+    × Filled (kind l.initial.words most_amount 2) 1694 l.lists.premiums l.i
+    × Filled (kind l.initial.words most_amount 3) 1694 l.lists.claims l.i
 
 abbrev pub decreases-loop-i : goal.decreases-loop-i
 decreases-loop-i l = 1694 - l.i

@@ -8,15 +8,15 @@ use Rattle.record_view.proofs.locate.Goals as goal
 
 pub record_at-requires : goal.record_at-requires
 record_at-requires c =
-    let e = sym c.check_record-v.ensures ∙ c.in-Accepted.is in
+    let e = sym c.check_record.ensures ∙ c.in-Ok.is in
     omega (arith, record_number _ _ _ e, (record_valid _ _ _ e).header.few)
 
-pub returns-in-Refused : goal.returns-in-Refused
+pub returns-in-Err : goal.returns-in-Err
 unfolding located_in
-returns-in-Refused c = rw (sym c.check_record-v.ensures ∙ c.in-Refused.is)
+returns-in-Err c = rw (sym c.check_record.ensures ∙ c.in-Err.is)
 
-pub returns-in-Accepted : goal.returns-in-Accepted
+pub returns-in-Ok : goal.returns-in-Ok
 unfolding located_in
-returns-in-Accepted c =
+returns-in-Ok c =
     rw
-    (sym c.check_record-v.ensures ∙ c.in-Accepted.is, c.record_at.ensures)
+    (sym c.check_record.ensures ∙ c.in-Ok.is, c.record_at.ensures)

@@ -7,4 +7,4 @@ use Rattle.report_lines.proofs.line_length.Goals as goal
 pub returns : goal.returns
 returns c =
     let a = c.args in
-    omega (arith, length_line a.group a.year a.premium a.outgo)
+    omega (arith, length_line a.group a.year a.shown.premium a.shown.outgo)

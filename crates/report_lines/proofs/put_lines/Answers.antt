@@ -2,25 +2,23 @@ use mathlib.Core.List.{[]}
 use mathlib.Core.Path.{◌≡◌}
 use native.Mathlib.Omega.{arith}
 use borrow.Author.Rules.{rules}
+use lib.ListN.{length}
 use Rattle.buffer.specs.Text.{joined}
-use Rattle.buffer.proofs.Digits.{nothing, kept, joined_more}
+use Rattle.buffer.proofs.Digits.{nothing, joined_more}
 use Rattle.report_lines.specs.Sheet.{table_line, table_lines}
 use Rattle.report_lines.proofs.put_lines.Goals as goal
 
-pub loop-k-init : goal.loop-k-init
+pub loop-year-init : goal.loop-year-init
 unfolding joined
-loop-k-init c = (search rules, nothing _ _, search rules)
+loop-year-init c = (nothing _ _, search rules)
 
-pub loop-k-preserved : goal.loop-k-preserved
+pub loop-year-preserved : goal.loop-year-preserved
 unfolding table_line
-loop-k-preserved c =
-    (search rules, joined_more _ _ [] c.loop-k.invariant.1 c.put_line-next.ensures.0, search rules)
-
-pub shape_of-out : goal.shape_of-out
-shape_of-out c = kept c.loop-k.invariant.1
+loop-year-preserved c = (joined_more _ _ [] c.loop-year.invariant.0 c.put_line-next.ensures.0, search rules)
 
 pub returns : goal.returns
 unfolding table_lines
 returns c =
-    let all : c.loop-k.k ≡ 50 = omega arith in
-    (rw all at c.loop-k.invariant.1, search rules)
+    let fifty : length c.args.years ≡ 50 = search rules in
+    let all : c.loop-year.year ≡ 50 = omega arith in
+    (rw all at c.loop-year.invariant.0, search rules)

@@ -10,8 +10,8 @@ use Rattle.report_years.proofs.measured_years.Goals as goal
 pub new-s-requires : goal.new-s-requires
 new-s-requires c = c.requires.0
 
-pub new-w-requires : goal.new-w-requires
-new-w-requires c = c.requires.1
+pub shifts_of-w-requires : goal.shifts_of-w-requires
+shifts_of-w-requires c = c.requires.1
 
 pub loop-j-init : goal.loop-j-init
 unfolding joined
@@ -20,18 +20,17 @@ loop-j-init c = (omega arith, refl, λ i h. absurd (omega arith), refl, omega ar
 pub year_table-table-requires : goal.year_table-table-requires
 year_table-table-requires c =
     record {
-      setting_is = c.new-s.ensures.1;
       lo = omega arith;
       hi = omega (arith, c.loop-j-test.true);
       book =
           c.requires.1;
-      weights = c.new-w.ensures;
+      weights = c.shifts_of-w.ensures;
     }
 
 pub loop-j-preserved : goal.loop-j-preserved
 loop-j-preserved c =
     let l = c.loop-j in
-    let own = c.new-s.ensures.0 in
+    let own = c.new-s.ensures in
     let years = rw own at c.year_table-table.ensures in
     let lines = c.lines_length.ensures.0 ∙ ap length (lines_same _ _ _ _ years) in (
       omega arith,

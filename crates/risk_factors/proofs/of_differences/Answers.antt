@@ -4,7 +4,7 @@ use mathlib.Core.Path.{◌≡◌, sym, ap, ◌∙◌}
 use mathlib.Core.Bool.{true}
 use Prim.Native.Nat.{ℕ, ◌/◌}
 use lib.IntN.{nat_abs}
-use Rattle.verdict.specs.declared.Verdict.TheVariants.{Accepted}
+use Rattle.std.specs.Prelude.{Ok}
 use Rattle.signed.specs.Signs.{is_negative}
 use Rattle.risk_model.specs.Model.{model_valid}
 use Rattle.risk_model.proofs.Rules.{model_coefficients, model_correlation, correlation_most}
@@ -73,4 +73,4 @@ returns c =
     } in
     let size = c.size.ensures.0 ∙ ap nat_abs (form_is p.After-form-sum) in
     let root = root_is _ _ c.root.ensures ∙ ap (λ (x : ℕ). root_of (x / 1000)) size in
-    ap (deviation_reply_for (Accepted 0)) root ∙ sym (replied_root _ _ passed)
+    ap (deviation_reply_for (Ok 0)) root ∙ sym (replied_root _ _ passed)

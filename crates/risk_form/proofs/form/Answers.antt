@@ -11,12 +11,12 @@ unfolding sum_by
 loop-i-init c = (omega arith, refl)
 
 pub row-requires : goal.row-requires
-row-requires c = (omega arith, c.requires.0, c.requires.1)
+row-requires c = omega arith
 
 pub plus-sum-requires : goal.plus-sum-requires
 plus-sum-requires c =
     let r = c.args.correlation.now in
-    let f = c.args.f.now in
+    let f = c.args.factors.now in
     rw (c.row.ensures, c.loop-i.invariant.1)
     (omega (
       arith,
@@ -30,7 +30,7 @@ loop-i-preserved c =
     let a = c.args in
     let l = c.loop-i in (
       omega arith,
-      sum_more _ _ (row_of a.correlation.now a.f.now) l.i _ _ _ l.invariant.1 t.ensures c.plus-sum.ensures,
+      sum_more _ _ (row_of a.correlation.now a.factors.now) l.i _ _ _ l.invariant.1 t.ensures c.plus-sum.ensures,
     )
 
 pub returns : goal.returns

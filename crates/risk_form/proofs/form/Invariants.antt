@@ -7,7 +7,7 @@ use Rattle.risk_form.proofs.Bounds.{row_of}
 use Rattle.risk_form.proofs.form.Given as goal
 
 abbrev pub invariant-loop-i : goal.invariant-loop-i
-invariant-loop-i l = (l.i ≤ 4) × (l.sum.number ≡ signed_sum_below (row_of l.correlation l.f) l.i)
+invariant-loop-i l = (l.i ≤ 4) × (l.sum.number ≡ signed_sum_below (row_of l.correlation l.factors) l.i)
 
 abbrev pub decreases-loop-i : goal.decreases-loop-i
 decreases-loop-i l = 4 - l.i

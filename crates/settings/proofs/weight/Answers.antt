@@ -47,17 +47,21 @@ pub returns-then-k-lt5 : goal.returns-then-k-lt5
 unfolding weights weight_of
 returns-then-k-lt5 c =
     let a = c.args in
-    bounded a.setting a.kind a.k
-    (entry true a.setting a.kind (10 * a.setting + a.kind) a.kind (omega arith) (omega arith) (omega arith)
-    (lt-ltb a.kind 5 (omega arith)) (omega arith)
-    ∙ ap (λ (t : Bool). weight_in t a.setting a.kind) (sym (lt-ltb a.k 5 c.if-k-lt5.true)))
+    let kind = c.number-kind.result in
+    rw (← c.number-kind.ensures.0)
+    (bounded a.setting kind a.k
+    (entry true a.setting kind (10 * a.setting + kind) kind (omega arith) (omega arith) (omega arith)
+    (lt-ltb kind 5 (omega arith)) (omega arith)
+    ∙ ap (λ (t : Bool). weight_in t a.setting kind) (sym (lt-ltb a.k 5 c.if-k-lt5.true))))
 
 pub returns-else-k-lt5 : goal.returns-else-k-lt5
 unfolding weights weight_of
 returns-else-k-lt5 c =
     let a = c.args in
-    bounded a.setting a.kind a.k
-    (entry false a.setting a.kind (10 * a.setting + 5 + a.kind) (5 + a.kind) (omega arith) (omega arith)
+    let kind = c.number-kind.result in
+    rw (← c.number-kind.ensures.0)
+    (bounded a.setting kind a.k
+    (entry false a.setting kind (10 * a.setting + 5 + kind) (5 + kind) (omega arith) (omega arith)
     (omega arith)
-    (le-ltb (5 + a.kind) 5 (omega arith)) (omega arith)
-    ∙ ap (λ (t : Bool). weight_in t a.setting a.kind) (sym (le-ltb a.k 5 c.if-k-lt5.false)))
+    (le-ltb (5 + kind) 5 (omega arith)) (omega arith)
+    ∙ ap (λ (t : Bool). weight_in t a.setting kind) (sym (le-ltb a.k 5 c.if-k-lt5.false))))

@@ -14,7 +14,8 @@ percent_of-requires c = (c.requires.1, c.requires.2)
 bound : (c : After-weight) → c.percent_of.result * c.weight.result ≤ 1200
 bound c =
     let multiple : c.weight.result ≤ 12 =
-    omega (arith, multiple_most c.args.setting c.args.sex c.args.k c.requires.1, c.weight.ensures.0) in
+    rw (c.weight.ensures.0, c.mortality_kind.ensures c.requires.1)
+    (multiple_most c.args.setting c.args.sex c.args.k c.requires.1) in
     mul-le-mul c.percent_of.ensures.1 multiple
 
 pub overflow_mul-result : goal.overflow_mul-result
@@ -22,4 +23,11 @@ overflow_mul-result c = omega (arith, bound c)
 
 pub returns : goal.returns
 unfolding mortality_weight
-returns c = ((cc), omega (arith, bound c))
+returns c = (
+  rw (
+    c.percent_of.ensures.0,
+    c.weight.ensures.0,
+    c.mortality_kind.ensures c.requires.1,
+  ),
+  omega (arith, bound c),
+)

@@ -4,7 +4,7 @@
 use mathlib.Core.Path.{sym, ap, ◌∙◌}
 use mathlib.Core.List.{List}
 use lib.IntN.{ℤ}
-use Rattle.verdict.specs.Verdicts.{◌and_then◌}
+use Rattle.verdict.specs.Verdicts.{first_refusal}
 use Rattle.risk_factors.specs.Replies.{factors_reply}
 use Rattle.standard_deviation.specs.Deviation.{check_deviation, deviation_reply}
 use Rattle.standard_deviation.proofs.DeviationContract.{book_refused, book_accepted, book_differences}
@@ -14,10 +14,10 @@ use Rattle.standard_deviation.proofs.deviation.Goals as goal
 pub returns-then-refusal-ne0 : goal.returns-then-refusal-ne0
 returns-then-refusal-ne0 c =
     let t = c.totals-t in
-    promised _ _ _ (sym (book_first _ _ _ _ (book_refused _ t.result t.ensures.reply_is c.if-refusal-ne0.true)))
+    promised _ _ _ (sym (book_first _ _ _ (book_refused _ t.result t.ensures.reply_is c.if-refusal-ne0.true)))
 
 pub returns : goal.returns
-unfolding deviation_reply check_deviation factors_reply ◌and_then◌
+unfolding deviation_reply check_deviation factors_reply first_refusal
 returns c =
     let t = c.totals-t in
     let a = c.args in

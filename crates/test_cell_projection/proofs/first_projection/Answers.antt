@@ -17,7 +17,7 @@ use Rattle.test_cell_projection.proofs.first_projection.Goals.{Else-head-eq0}
 accepted : (m : Else-head-eq0)
     → ValidBook 1 m.args.book.now
 accepted m =
-    valid 1 _ _ (sym m.check-v.ensures ∙ m.in-Accepted.is)
+    valid 1 _ _ (sym m.check.ensures ∙ m.in-Ok.is)
 
 few : (m : Else-head-eq0) → m.args.chain < 14
 few m = omega arith
@@ -34,16 +34,16 @@ stands m =
 
 pub head_of-head-requires : goal.head_of-head-requires
 head_of-head-requires c =
-    let v = valid 1 _ _ (sym c.check-v.ensures ∙ c.in-Accepted.is) in
+    let v = valid 1 _ _ (sym c.check.ensures ∙ c.in-Ok.is) in
     (omega arith, omega (arith, v.header.size))
 
-pub new-requires : goal.new-requires
-new-requires c = accepted c
+pub shifts_of-w-requires : goal.shifts_of-w-requires
+shifts_of-w-requires c = accepted c
 
 pub read_rows-requires : goal.read_rows-requires
 read_rows-requires c =
     let head = (goal.at.read_rows-requires c).Else-head-eq0 in
-    (c.new.ensures, accepted head, few head, stands head)
+    (c.shifts_of-w.ensures, accepted head, few head, stands head)
 
 pub field_of-count-requires : goal.field_of-count-requires
 field_of-count-requires c =
@@ -59,8 +59,8 @@ project-counts-requires c =
       most_higher (most_replicate 500 0) (omega arith),
     )
 
-pub years_of-requires : goal.years_of-requires
-years_of-requires c =
+pub projection_of-requires : goal.projection_of-requires
+projection_of-requires c =
     omega (
       arith,
       c.if-setting-gt7.false,

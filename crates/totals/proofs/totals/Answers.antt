@@ -8,16 +8,16 @@ use Rattle.valuation.proofs.Total.{totals_promised}
 use Rattle.totals.proofs.totals.Goals as goal
 
 pub computed-requires : goal.computed-requires
-computed-requires c = valid 1 _ _ (sym c.check-v.ensures ∙ c.in-Accepted.is)
+computed-requires c = valid 1 _ _ (sym c.check.ensures ∙ c.in-Ok.is)
 
-pub returns-in-Accepted : goal.returns-in-Accepted
+pub returns-in-Ok : goal.returns-in-Ok
 unfolding totals_reply
-returns-in-Accepted c =
-    let e = sym c.check-v.ensures ∙ c.in-Accepted.is in
+returns-in-Ok c =
+    let e = sym c.check.ensures ∙ c.in-Ok.is in
     totals_promised _ _ (c.computed.ensures ∙ rw (e, ← (accepted_held 1 _ _ e)))
 
-pub returns-in-Refused : goal.returns-in-Refused
+pub returns-in-Err : goal.returns-in-Err
 unfolding totals_reply
-returns-in-Refused c =
-    let e = sym c.check-v.ensures ∙ c.in-Refused.is in
+returns-in-Err c =
+    let e = sym c.check.ensures ∙ c.in-Err.is in
     totals_promised _ _ (c.refused.ensures ∙ rw e)

@@ -1,8 +1,8 @@
 -- `generator::GeneratorState::draw` meets its contract. Assumes nothing.
-use Rattle.std.proofs.Common.{rules}
-use Rattle.generator.specs.Draws.{draw_of}
+use Rattle.std.proofs.Common.{refl}
+use Rattle.generator.specs.Draws.{step, draw_of}
 use Rattle.generator.proofs.GeneratorState.draw.Goals as goal
 
 pub returns : goal.returns
-unfolding draw_of
-returns c = search rules
+unfolding step draw_of
+returns c = (rw c.xorshift-self.ensures, refl)
