@@ -9,6 +9,7 @@ ghost use Rattle.book_contents.specs.Limits.{curve_rate};
 
 use book_contents::Values;
 use book_encoding::{put_curve, put_fields};
+use book_sizes::total;
 use book_write_heads::{put_front, put_heads};
 
 // What stands before the records.
@@ -20,7 +21,8 @@ pub fn put_header(out: &mut [u8], values: &Values) -> usize
     ensures { Wrote out.old 0 (header_bytes values.now) out.new result
         × (result ≡ 1220) }
 {
-    let heads_at = put_front(out, values);
+    let n = total(&values.first);
+    let heads_at = put_front(out, values, n);
     let cost_at = put_heads(out, heads_at, values);
     let curve_at = put_fields(out, cost_at, &values.cost);
     let mortality_at = put_curve(out, curve_at, &values.curve);

@@ -7,6 +7,7 @@
 ghost use Rattle.std.specs.Prelude.{◌≡◌, ◌≤◌, sum_by};
 ghost use Rattle.book.specs.Reading.{ValidBook};
 ghost use Rattle.settings_columns.specs.Columns.{projection_of};
+ghost use Rattle.settings_outgo.specs.Outgoings.{OutgoWeighed};
 ghost use Rattle.valuation.specs.Arithmetic.{rounded};
 ghost use Rattle.valuation.specs.Steps.{capped};
 ghost use Rattle.valuation.specs.Portfolio.{cost_rate_of};
@@ -14,7 +15,7 @@ ghost use Rattle.group_projection.specs.Added.{TableIn};
 ghost use Rattle.cash_flow.specs.CashFlow.{outgo_of, Undiscounted};
 
 use cell_projection::{A_YEAR, YearSums};
-use settings_outgo::Setting;
+use settings_outgo::{Outgoings, Setting};
 
 // The cost rate of a product group, in millionths of premium.
 pub fn cost_rate_of(book: &[u8], group: usize) -> u64
@@ -28,14 +29,15 @@ pub fn cost_rate_of(book: &[u8], group: usize) -> u64
 }
 
 // The outgo of year k: weighted claims, and the cost of the premium before the cap.
-pub fn outgo(s: Setting, k: usize, rate: u64, premium: u64, claims: u64) -> u64
-    requires { (rate ≤ 1000000)
+pub fn outgo(w: Outgoings, k: usize, rate: u64, premium: u64, claims: u64) -> u64
+    requires { OutgoWeighed w
+        × (rate ≤ 1000000)
         × (premium ≤ 726000000000000)
         × (claims ≤ 726000000000000) }
-    ensures { (result ≡ outgo_of s.outgo k rate premium claims)
+    ensures { (result ≡ outgo_of w k rate premium claims)
         × (result ≤ 2000000000000000) }
 {
-    let held = s.outgo.at(k);
+    let held = w.at(k);
     claims * held.claims / 1000 + arith::share(premium, rate * held.costs)
 }
 
@@ -108,7 +110,7 @@ pub fn undiscounted(book: &[u8], s: Setting, group: usize, numbers: &YearSums, s
     for k in from..to {
         let j = A_YEAR * k + 2 * projection;
         let due = numbers[j];
-        let spent = outgo(s, k, rate, due, numbers[j + 1]);
+        let spent = outgo(s.outgo, k, rate, due, numbers[j + 1]);
         years[k] = Amounts {
             premium: counted(k, due, spent),
             outgo: spent,

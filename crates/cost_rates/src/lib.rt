@@ -46,7 +46,7 @@ pub fn cost_rates(accounts: Accounts) -> CostRates
     }
     let usable = UsableAccounts { accounts };
     let rates = usable.rates();
-    if !all_at_most(HIGHEST_RATE, &rates) {
+    if !all_at_most(HIGHEST_RATE, &rates, 5) {
         return refused(19);
     }
     CostRates {

@@ -21,13 +21,31 @@ fn xorshift(x: u64) -> u64
 }
 
 impl GeneratorState {
+    // Both words one draw on.
+    #[tactic(auto, unfolding(crate::specs::Draws::step))]
+    pub fn next(self) -> GeneratorState
+        ensures { result ≡ step self }
+    {
+        GeneratorState {
+            word: xorshift(self.word),
+            counter: self.counter.wrapping_add(362_437),
+        }
+    }
+
+    // The draw of both words as they stand.
+    #[tactic(auto, unfolding(crate::specs::Draws::draw_of))]
+    pub fn draw(self) -> u64
+        ensures { result ≡ draw_of self }
+    {
+        self.word.wrapping_add(self.counter)
+    }
+
     // Both words go one draw on, and the draw is their sum.
-    pub fn draw(&mut self) -> u64
+    pub fn next_draw(&mut self) -> u64
         ensures { (self.new ≡ step self.old)
             × (result ≡ draw_of self.new) }
     {
-        self.word = xorshift(self.word);
-        self.counter = self.counter.wrapping_add(362_437);
-        self.word.wrapping_add(self.counter)
+        *self = self.next();
+        self.draw()
     }
 }

@@ -38,7 +38,7 @@ pub fn fill_table(list: &mut [u64], from: GeneratorState, span: u64) -> Generato
 {
     let mut words = from;
     for number in list.iter_mut() {
-        *number = drawn_number(span, words.draw());
+        *number = drawn_number(span, words.next_draw());
     }
     words
 }
@@ -52,7 +52,7 @@ pub fn fill_curve(curve: &mut [i64], from: GeneratorState) -> GeneratorState
 {
     let mut words = from;
     for rate in curve.iter_mut() {
-        *rate = drawn_rate(words.draw());
+        *rate = drawn_rate(words.next_draw());
     }
     words
 }
@@ -71,9 +71,9 @@ pub fn fill_lists(lists: &mut ByKind<[u64; MOST_RECORDS]>, from: GeneratorState)
 {
     let mut words = from;
     for i in 0..MOST_RECORDS {
-        lists.counts[i] = drawn_number(MOST_COUNT, words.draw());
-        lists.lapses[i] = drawn_number(MOST_RATE, words.draw());
-        lists.premiums[i] = drawn_number(MOST_AMOUNT, words.draw());
-        lists.claims[i] = drawn_number(MOST_AMOUNT, words.draw());
+        lists.counts[i] = drawn_number(MOST_COUNT, words.next_draw());
+        lists.lapses[i] = drawn_number(MOST_RATE, words.next_draw());
+        lists.premiums[i] = drawn_number(MOST_AMOUNT, words.next_draw());
+        lists.claims[i] = drawn_number(MOST_AMOUNT, words.next_draw());
     }
 }

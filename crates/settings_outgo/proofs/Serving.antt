@@ -1,6 +1,6 @@
 -- Every setting is served by one of the five projections, and the later years of a setting by those of another. Assumes
 -- nothing.
-use mathlib.Core.Path.{◌≡◌, refl, sym, ◌∙◌}
+use mathlib.Core.Path.{◌≡◌, refl, sym, ap, ◌∙◌}
 use mathlib.Core.Bool.{Bool, true, false, ◌&&◌, true≢false}
 use mathlib.Core.List.{List}
 use Prim.Native.Nat.{ℕ, ◌<◌}
@@ -11,7 +11,8 @@ use Rattle.settings_decrements.specs.Decrements.{mortality_weight, decrements_of
 use Rattle.settings_columns.specs.Columns.{same_mortality, survival_column, persistency_column, columns_of}
 use Rattle.settings_columns.specs.Columns.{projection_of}
 use Rattle.settings_outgo.specs.Outgoings.{outgoings_of}
-use Rattle.settings_outgo.specs.Later.{later_as}
+use Rattle.settings_outgo.specs.Later.{same_later, LaterOf, later_of}
+use Rattle.settings_outgo.specs.declared.LaterYears.{LaterYears}
 use Rattle.settings_outgo.specs.declared.Setting.{Setting}
 use Rattle.settings.proofs.Weights.{each_setting}
 
@@ -30,21 +31,23 @@ both false q e = absurd (true≢false (cc))
 
 -- a setting whose later years are another's has its weights of mortality and lapse, and its later weights of costs and
 -- claims
-module _ (s t : Setting) (same : later_as s t ≡ true) where
-  tests : ((s.projection ≡ t.projection) × (s.outgo.later.costs ≡ t.outgo.later.costs))
-      × (s.outgo.later.claims ≡ t.outgo.later.claims)
+module _ (s t : ℕ) (x y : LaterYears) (hs : LaterOf s x) (ht : LaterOf t y) (same : same_later x y ≡ true) where
+  tests : ((x.projection ≡ y.projection) × (x.outgo.costs ≡ y.outgo.costs)) × (x.outgo.claims ≡ y.outgo.claims)
   tests =
-      let p = eqb s.projection t.projection in
-      let q = eqb s.outgo.later.costs t.outgo.later.costs in
-      let two = both (p && q) (eqb s.outgo.later.claims t.outgo.later.claims) same in
+      let p = eqb x.projection y.projection in
+      let q = eqb x.outgo.costs y.outgo.costs in
+      let two = both (p && q) (eqb x.outgo.claims y.outgo.claims) same in
       let one = both p q two.0 in
       ((eqb-true _ _ one.0, eqb-true _ _ one.1), eqb-true _ _ two.1)
 
-  pub later_decrements : (b : List ℕ) → decrements_of b t.number ≡ decrements_of b s.number
+  pub later_decrements : (b : List ℕ) → decrements_of b t ≡ decrements_of b s
   later_decrements b =
-      let e : projection_of t.number ≡ projection_of s.number =
-      sym t.projection_is ∙ sym tests.0.0 ∙ s.projection_is in
-      sym (served b t.number t.known) ∙ rw e (served b s.number s.known)
+      let e : projection_of t ≡ projection_of s = sym ht.projection_is ∙ sym tests.0.0 ∙ hs.projection_is in
+      sym (served b t ht.known) ∙ rw e (served b s hs.known)
 
-  pub later_outgo : (outgoings_of t.number).later ≡ (outgoings_of s.number).later
-  later_outgo = rw (← t.outgo_is, ← s.outgo_is, tests.0.1, tests.1)
+  pub later_outgo : (outgoings_of t).later ≡ (outgoings_of s).later
+  later_outgo = rw (← ht.outgo_is, ← hs.outgo_is, tests.0.1, tests.1)
+
+-- the later years of a setting are those of its number
+pub later_is : (s : Setting) → LaterOf s.number (later_of s)
+later_is s = record { known = s.known; projection_is = s.projection_is; outgo_is = ap (λ w. w.later) s.outgo_is }

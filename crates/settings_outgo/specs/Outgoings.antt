@@ -1,5 +1,5 @@
 -- The weights of costs and claims, in thousandths (paper, section Settings). Assumes nothing.
-use Rattle.std.specs.Prelude.{ℕ}
+use Rattle.std.specs.Prelude.{ℕ, ◌≤◌}
 use Rattle.settings.specs.Settings.{in_period, weight_of}
 use Rattle.settings.specs.declared.ByPeriod.{ByPeriod}
 use Rattle.settings_outgo.specs.declared.OutgoWeights.{OutgoWeights}
@@ -23,3 +23,10 @@ costs_in w k = (in_period w k).costs
 -- the weight of the claims in the year k
 abbrev pub claims_weight_in : Outgoings → ℕ → ℕ
 claims_weight_in w k = (in_period w k).claims
+
+-- no weight of costs is above 1,200 thousandths, none of claims above 1,050
+pub record OutgoWeighed (w : Outgoings) : Type 0 where
+  pub first_costs : w.first.costs ≤ 1200
+  pub first_claims : w.first.claims ≤ 1050
+  pub later_costs : w.later.costs ≤ 1200
+  pub later_claims : w.later.claims ≤ 1050

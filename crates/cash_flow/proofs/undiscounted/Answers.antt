@@ -23,6 +23,7 @@ here m =
 
 pub outgo-spent-requires : goal.outgo-spent-requires
 outgo-spent-requires c = (
+  c.args.s.weighed,
   c.cost_rate_of-rate.ensures.1,
   c.requires.5.most.each _ (omega (arith, here (goal.at.outgo-spent-requires c).In-loop-k)),
   c.requires.5.most.each _ (omega (arith, here (goal.at.outgo-spent-requires c).In-loop-k)),

@@ -13,7 +13,7 @@ pub loop-rate-preserved : goal.loop-rate-preserved
 loop-rate-preserved c =
     let l = c.loop-rate in
     let rate = to_z-of_z w64 c.drawn_rate.result (record { sfits = c.drawn_rate.type_inv }) ∙ c.drawn_rate.ensures
-    ∙ ap drawn_rate (draw_is _ l.rate-index l.invariant.0 c.draw.ensures) in (
-      after_draw _ l.rate-index l.invariant.0 c.draw.ensures _ refl,
+    ∙ ap drawn_rate (draw_is _ l.rate-index l.invariant.0 c.next_draw.ensures) in (
+      after_draw _ l.rate-index l.invariant.0 c.next_draw.ensures _ refl,
       filled_more _ l.rate-index c.loop-rate-test.true refl rate l.invariant.1,
     )

@@ -23,15 +23,15 @@ loop-i-preserved c =
     let l = c.loop-i in
     let few = c.loop-i-test.true in
     let w₀ = l.invariant.1 in
-    let w₁ = after_draw _ (4 * l.i) w₀ c.draw.ensures (4 * l.i + 1) refl in
-    let w₂ = after_draw _ (4 * l.i + 1) w₁ c.draw-in-loop-i.ensures (4 * l.i + 2) (omega arith) in
-    let w₃ = after_draw _ (4 * l.i + 2) w₂ c.draw-in-loop-i-2.ensures (4 * l.i + 3) (omega arith) in
-    let d₀ = draw_is _ (4 * l.i) w₀ c.draw.ensures in
-    let d₁ = draw_is _ (4 * l.i + 1) w₁ c.draw-in-loop-i.ensures in
-    let d₂ = draw_is _ (4 * l.i + 2) w₂ c.draw-in-loop-i-2.ensures in
-    let d₃ = draw_is _ (4 * l.i + 3) w₃ c.draw-in-loop-i-3.ensures in (
+    let w₁ = after_draw _ (4 * l.i) w₀ c.next_draw.ensures (4 * l.i + 1) refl in
+    let w₂ = after_draw _ (4 * l.i + 1) w₁ c.next_draw-in-loop-i.ensures (4 * l.i + 2) (omega arith) in
+    let w₃ = after_draw _ (4 * l.i + 2) w₂ c.next_draw-in-loop-i-2.ensures (4 * l.i + 3) (omega arith) in
+    let d₀ = draw_is _ (4 * l.i) w₀ c.next_draw.ensures in
+    let d₁ = draw_is _ (4 * l.i + 1) w₁ c.next_draw-in-loop-i.ensures in
+    let d₂ = draw_is _ (4 * l.i + 2) w₂ c.next_draw-in-loop-i-2.ensures in
+    let d₃ = draw_is _ (4 * l.i + 3) w₃ c.next_draw-in-loop-i-3.ensures in (
       omega arith,
-      after_draw _ (4 * l.i + 3) w₃ c.draw-in-loop-i-3.ensures (4 * (l.i + 1)) (omega arith),
+      after_draw _ (4 * l.i + 3) w₃ c.next_draw-in-loop-i-3.ensures (4 * (l.i + 1)) (omega arith),
       filled_more _ l.i few refl (c.drawn_number.ensures.0 ∙ ap (drawn_number most_count) d₀) l.invariant.2,
       filled_more _ l.i few refl (c.drawn_number-in-loop-i.ensures.0 ∙ ap (drawn_number most_rate) d₁) l.invariant.3,
       filled_more _ l.i few refl (c.drawn_number-in-loop-i-2.ensures.0 ∙ ap (drawn_number most_amount) d₂)

@@ -11,7 +11,7 @@ pub loop-number-preserved : goal.loop-number-preserved
 loop-number-preserved c =
     let l = c.loop-number in
     let number = c.drawn_number.ensures.0
-    ∙ ap (drawn_number _) (draw_is _ l.number-index l.invariant.0 c.draw.ensures) in (
-      after_draw _ l.number-index l.invariant.0 c.draw.ensures _ refl,
+    ∙ ap (drawn_number _) (draw_is _ l.number-index l.invariant.0 c.next_draw.ensures) in (
+      after_draw _ l.number-index l.invariant.0 c.next_draw.ensures _ refl,
       filled_more _ l.number-index c.loop-number-test.true refl number l.invariant.1,
     )
