@@ -1,10 +1,10 @@
 // What the test programs read from a stream: numbers, least byte first, and bytes.
 #![tactic(auto)]
 
-ghost use Rattle.std.specs.Prelude.{◌≡◌, ◌+◌, ◌≤◌, ℕ, OnErr, length, take};
+ghost use Rattle.std.specs.Prelude.{◌≡◌, ◌+◌, ◌≤◌, ℕ, IfOk, IfSome, List, OnErr, length, take};
 ghost use Rattle.std.specs.Io.{ReadsAtMost};
 ghost use Rattle.std.specs.Io.KnownBytes.{Consumes};
-ghost use Rattle.le_bytes.specs.Bytes.{read_u64};
+ghost use Rattle.le_bytes.specs.Bytes.{read_u32, read_u64};
 
 use std::io;
 use std::io::Read;
@@ -18,7 +18,10 @@ pub fn book_buffer() -> [u8; 65_536]
 
 // The next bytes, or none where the input has ended. A read that fails is answered with its error,
 // and no other, here and by the two below.
-fn next_array<R: Read, const N: usize>(reader: &mut R) -> io::Result<Option<[u8; N]>> {
+fn next_array<R: Read, const N: usize>(reader: &mut R) -> io::Result<Option<[u8; N]>>
+    ensures { IfOk result (λ found. IfSome found (λ bytes. (length bytes ≡ N)
+        × Consumes (R.remaining reader.old) (R.remaining reader.new) bytes)) }
+{
     let mut bytes = [0u8; N];
     if streams::read_full(reader, &mut bytes)? < N {
         return Ok(None);
@@ -27,14 +30,32 @@ fn next_array<R: Read, const N: usize>(reader: &mut R) -> io::Result<Option<[u8;
 }
 
 // The next number of four bytes, and of eight.
-pub fn next_u32<R: Read>(reader: &mut R) -> io::Result<Option<u64>> {
+pub fn next_u32<R: Read>(reader: &mut R) -> io::Result<Option<u64>>
+    ensures { IfOk result (λ found. IfSome found (λ n. (bytes : List ℕ)
+        × (n ≡ read_u32 bytes 0)
+        × (length bytes ≡ 4)
+        × Consumes (R.remaining reader.old) (R.remaining reader.new) bytes)) }
+{
     let bytes = next_array::<R, 4>(reader)?;
-    Ok(bytes.map(|b| u64::from(u32::from_le_bytes(b))))
+    Ok(bytes.map(
+        |b| -> u64
+            ensures { result ≡ read_u32 b 0 }
+        { le_bytes::read_u32(&b, 0) },
+    ))
 }
 
-pub fn next_u64<R: Read>(reader: &mut R) -> io::Result<Option<u64>> {
+pub fn next_u64<R: Read>(reader: &mut R) -> io::Result<Option<u64>>
+    ensures { IfOk result (λ found. IfSome found (λ n. (bytes : List ℕ)
+        × (n ≡ read_u64 bytes 0)
+        × (length bytes ≡ 8)
+        × Consumes (R.remaining reader.old) (R.remaining reader.new) bytes)) }
+{
     let bytes = next_array::<R, 8>(reader)?;
-    Ok(bytes.map(u64::from_le_bytes))
+    Ok(bytes.map(
+        |b| -> u64
+            ensures { result ≡ read_u64 b 0 }
+        { read_u64(&b, 0) },
+    ))
 }
 
 // The number of eight bytes at a place.
