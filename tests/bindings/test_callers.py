@@ -14,6 +14,14 @@ C_CALLER = ["gcc", "-std=c99", "-Wall", "-Wextra", "-Werror", "-O2", "-Iinclude"
 HEADER_IN_CPP = ["g++", "-std=c++11", "-Wall", "-Wextra", "-Werror", "-fsyntax-only", "-x", "c++",
                  "include/xaropinto.h"]
 WATCHED_MEMORY = ["valgrind", "--error-exitcode=9", "-q"]
+TOTALS = "target/callers/totals"
+C_TOTALS = [*C_CALLER[:-4], "-o", TOTALS, "bindings/c/tests/totals.c", C_CALLER[-1]]
+COUNTED = ["valgrind", "--tool=callgrind", "--callgrind-out-file=/dev/null", TOTALS]
+COLLECTED = re.compile(r"Collected : (\d+)")
+# What Totals of a sample takes, and a tenth more. Where the compiler calls a year of a cell, and
+# does not inline it, it takes about twice as many.
+MOST_INSTRUCTIONS = {"full": 10_000_000, "small_insurer": 1_400_000}
+CALLS = 4
 # All packages, so that the timing program is compiled too.
 RUST_TESTS = ["cargo", "test", "--offline", "--locked", "--workspace"]
 # Where cargo is run: it takes its settings from here, such as where it builds.
@@ -60,6 +68,20 @@ class Callers(Case):
         self.check_command("the caller in C is built", C_CALLER)
         self.check_tests([BUILT], C_TEST, C_TALLY)
         self.check_command("the caller in C with its memory watched", [*WATCHED_MEMORY, BUILT])
+
+    def test_instructions_of_totals(self):
+        self.check_command("Totals alone is built", C_TOTALS)
+        for name, most in MOST_INSTRUCTIONS.items():
+            idle, busy = (self.instructions(name, calls) for calls in (0, CALLS))
+            each = (busy - idle) // CALLS
+            self.check(f"instructions of Totals of {name}", 0 < each <= most, f"{each:,}")
+
+    def instructions(self, name, calls):
+        """What valgrind counts of a run with so many calls of Totals."""
+        code, text = run([*COUNTED, f"samples/{name}.book", str(calls)], MOST_SECONDS)
+        counted = COLLECTED.search(text)
+        self.assertTrue(code == 0 and counted, f"valgrind ended with {code}: {text}")
+        return int(counted[1])
 
     def test_header_is_cpp_too(self):
         self.check_command("the header in C++", HEADER_IN_CPP)

@@ -22,7 +22,7 @@ from tools.targets.retarget import (ADDRESS, EXTENDED, PAIR_LINE, PARTS_LINES, T
 
 NAMES = [call.name for call in calls()]
 # The only lines that may change: what names the target, and where a function begins.
-MAY_CHANGE = re.compile(r"target (?:datalayout|triple) = |attributes #0 = |define ")
+MAY_CHANGE = re.compile(r"target (?:datalayout|triple) = |attributes #[01] = |define ")
 # A pair whose second part is an address, loaded or stored as one.
 LOADED_AS_ONE = re.compile(r" (?:load|store) \{ [^}]*, ptr")
 EXTERNAL = re.compile(r"^define (?!internal).*@(\w+)\(", re.M)

@@ -1,5 +1,5 @@
-"""The captured module for another target: no instruction is changed, but for one that takes the
-address of a pointer where that has 32 bits.
+"""The captured module for another target: no instruction is changed, but for two where an address
+has 32 bits: one that takes an address as a number, and one that loads a pair with an address.
 
 What changes is the data layout and the triple; what every function says of processor and stack;
 which functions are inlined; and on the calls of the C API what belongs to x86-64's System V
@@ -16,9 +16,11 @@ from typing import NamedTuple
 from tools.targets import BuildError
 from tools.targets.kit import run_tool
 
-# What `rattle` says of every function.
+# What `rattle` says of every function; before it stands that some are to be inlined always.
 PROBED = 'nounwind "probe-stack"="inline-asm" "stack-probe-size"="3072"'
 FUNCTION_ATTRIBUTES = f'{PROBED} "target-cpu"="x86-64"'
+ATTRIBUTES_LINE = re.compile(rf"^(?P<group>attributes #\d+ = {{ (?:alwaysinline )?)"
+                             rf"{re.escape(FUNCTION_ATTRIBUTES)} }}$", re.M)
 TARGET_LINE = re.compile(r"^target (?:datalayout|triple) = .*$", re.M)
 CALL_LINE = r"^define (?P<reply>.*) @(?P<name>{names})\((?P<arguments>.*)\) #0 \{{$"
 INNER_LINE = r'^(define internal .* @"(?:{names})(?:::<#[0-9a-f]+>)?"\(.*\) #0) \{{$'
@@ -61,11 +63,11 @@ class Target(NamedTuple):
 # year of a cell, and what is constant for all of them, would be called each time. A generic
 # function is named once for each type that it is called at.
 WASM32 = Target("wasm32", "wasm32-unknown-unknown", "nounwind", narrow=True, inlined=(
-    "cell::Cell::next_year", "cell_projection::one_year", "settings::ByPeriod::at",
-    "settings::ByPeriod::at", "settings::Kind::number", "settings::weight",
-    "settings_columns::Columns::new", "settings_columns::columns_of",
-    "settings_columns::five_columns", "settings_columns::persistency_column",
-    "settings_columns::same_mortality", "settings_columns::survival_column"))
+    "cell::Cell::next_year", "settings::ByPeriod::at", "settings::ByPeriod::at",
+    "settings::Kind::number", "settings::weight", "settings_columns::Columns::new",
+    "settings_columns::columns_of", "settings_columns::five_columns",
+    "settings_columns::persistency_column", "settings_columns::same_mortality",
+    "settings_columns::survival_column"))
 # Windows protects nothing below the stack pointer and unwinds by tables; it has its own probe of
 # the stack.
 WINDOWS = Target("windows-x86_64", "x86_64-pc-windows-gnu",
@@ -79,8 +81,7 @@ def retarget(module, target, names):
     """The text of the module for a target; `names` are the calls of the C API."""
     lines = iter(target_lines(target.triple))
     module = changed(TARGET_LINE, lambda found: next(lines), module, 2)
-    module = changed(re.escape(f"#0 = {{ {FUNCTION_ATTRIBUTES} }}"),
-                     lambda found: f"#0 = {{ {target.attributes} }}", module, 1)
+    module = changed(ATTRIBUTES_LINE, rf"\g<group>{target.attributes} }}", module, 2)
     if target.narrow:
         module = PAIR_LINE.sub(PARTS_LINES, module.replace(ADDRESS, EXTENDED))
     inner = re.compile(INNER_LINE.format(names="|".join(target.inlined)), re.M)

@@ -58,7 +58,9 @@ pub fn add_at(sums: &mut YearSums, j: usize, x: u64)
 }
 
 // Adds premium and claims of a cell in year k of a projection, and returns its state a year
-// later.
+// later. It is inlined: as a call, with columns that are no constants there, Totals takes over
+// twice the time.
+#[inline(always)]
 pub fn one_year(
     rows: &RateTable,
     cell: Cell,

@@ -15,7 +15,9 @@ use rate_table::RateTable;
 use settings::{ByPeriod, Five};
 use settings_columns::Columns;
 
-// One year of all five. None waits for another.
+// One year of all five. None waits for another. Inlined as `one_year`, for which the columns are
+// constants then.
+#[inline(always)]
 pub fn year(
     rows: &RateTable,
     cells: Five<Cell>,

@@ -33,7 +33,9 @@ pub struct Stop {
 }
 
 // The years of all five side by side, from one to before another, while all have something in
-// force. The columns are constants, made before the loop at no cost.
+// force. The columns are constants, made before the loop at no cost. Inlined as `one_year`: of the
+// first years and of the later ones one loop each is made.
+#[inline(always)]
 fn together(
     rows: &RateTable,
     point: ModelPoint,
