@@ -15,7 +15,7 @@ use mir.Syntax.{w64}
 use mir.Val.{SFits, to_z, of_z}
 use mir.ValLaws.{to_z-of_z}
 use lib.ListN.{length, length-append, set, drop, take, get_or}
-use lib.Seq.{sets, sets-eq, length-sets, take-suc}
+use lib.Seq.{sets, sets-eq, length-sets, take-suc, take_all, length-take-le}
 use Rattle.buffer.specs.Text.{spelled, decimal, signed, Wrote, joined}
 
 pub le_or_lt : (a b : ℕ) → (a ≤ b) ⊎ (b < a)
@@ -146,6 +146,10 @@ unfolding signed
 signed_other (pos n) h = refl
 signed_other (negsuc k) h = absurd h.le
 
+pub size_most : (v : ℤ) → SFits w64 v → nat_abs v < 2 ^ 64
+size_most (pos n) h = omega (arith, h.sfits)
+size_most (negsuc k) h = omega (arith, h.sfits)
+
 -- what a test `v < 0` says
 pub is_below : (v : ℤ) → SFits w64 v → lt_z (to_z w64 (of_z w64 v)) (pos 0) ≡ true → v <ℤ pos 0
 is_below v f e = record { lt = subst T (sym (rw (to_z-of_z w64 v f) at e)) tt }
@@ -159,6 +163,13 @@ pub bytes_more : {e x y : List ℕ} {at r q : ℕ} (s : List ℕ) (i : ℕ) → 
     → Wrote x r (get_or s i 0 ∷ []) y q
     → Wrote e at (take (i + 1) s) y q
 bytes_more s i h v w = rw (add-one i, take-suc s i 0) (v then w)
+
+pub bytes_all : {e x : List ℕ} {at r : ℕ} (s : List ℕ) (i : ℕ) → length s ≤ i → Wrote e at (take i s) x r
+    → Wrote e at s x r
+bytes_all s i h w = rw (take_all i s h) at w
+
+pub bytes_place : {e x : List ℕ} {at r : ℕ} (s : List ℕ) (i : ℕ) → i ≤ length s → Wrote e at (take i s) x r → r ≡ at + i
+bytes_place s i h w = omega (arith, w.place, length-take-le i s h)
 
 -- ---- runs of texts
 

@@ -21,6 +21,10 @@ use Rattle.cell.specs.States.{premium_by, claims_by}
 pub share_le : (x y : ℕ) → y ≤ 1_000_000_000 → x * y / 1_000_000_000 ≤ x
 share_le x y h = div-le_of_le-mul 1_000_000_000 (omega (arith, mul-le-mul_left x h))
 
+-- the share of what lives on can be taken further
+pub share_bound : (x y m r : ℕ) → y ≤ 1_000_000_000 → x ≤ m → r ≡ x * y / 1_000_000_000 → r ≤ m
+share_bound x y m r h k e = rw e (le_trans (share_le x y h) k)
+
 -- what a state that can go on adds at most
 module _ (t : List ℕ) (c : Cell) (r : Ready t c) where
   pub premium_in_le : premium_in t c ≤ 1_000_000_000_000

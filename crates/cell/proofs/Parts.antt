@@ -34,6 +34,9 @@ module _ (t : List ℕ) (at : ℕ) (share : ShareAt t at) (x q : ℕ) (few : x �
 
 -- the places of a row
 module _ (t : List ℕ) (r : ℕ) (ready : RowReady t r) where
+  pub share_at : (c : ℕ) → c ≤ 5 → ShareAt t (16 * r + c)
+  share_at c h = record { fraction_is = ready.fractions c (omega arith); most = ready.shares c (omega arith) }
+
   pub premium_column_at : ShareAt t (16 * r + 6)
   premium_column_at = record { fraction_is = ready.fractions 6 (omega arith); most = omega (arith, ready.premium) }
 

@@ -211,6 +211,16 @@ module _ (t : List ℕ) (r n s m to k : ℕ) (c : Cell) (u v : List ℕ) (run : 
             (λ j a. within_join _ s m k j (k + 1) run.0 (omega arith)),
       )
 
+  -- it stops at its end, or where nothing is in force
+  pub run_stops : (k < to → c.inforce ≤ 0) → StoppedIn t r n s m to k c u v
+  run_stops none_left = record {
+    since = run.0;
+    most = run.1;
+    reached = run.2;
+    sums = run.3;
+    ended = λ early. omega (arith, none_left early);
+  }
+
 -- where it stops
 module _ (t : List ℕ) (r n s m to k : ℕ) (c : Cell) (u v : List ℕ) (stop : StoppedIn t r n s m to k c u v) where
   -- before the end nothing is in force: it has no later years

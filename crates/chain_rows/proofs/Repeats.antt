@@ -1,12 +1,14 @@
 -- The last row of a chain, repeated: at the last class the same record holds. Assumes nothing.
-use mathlib.Core.Path.{◌≡◌, refl}
+use mathlib.Core.Path.{◌≡◌, refl, sym, ◌∙◌}
 use mathlib.Core.Bool.{Bool, true, false}
 use mathlib.Core.List.{List}
 use Prim.Native.Nat.{ℕ, zero, suc, ◌+◌, ◌-◌, ◌*◌, ◌≤◌, ◌<◌}
 use native.Mathlib.Omega.{arith}
+use borrow.Author.Count.{below_more}
 use borrow.Author.Tests.{ltb-true, ltb-false, le-ltb}
 use lib.Dec.{ltb}
-use lib.ListN.{get_or}
+use lib.ListN.{length, get_or, set}
+use lib.Seq.{get_or-set_same, get_or-set_other}
 use Rattle.book.specs.Layout.{chain_sex, class_of}
 use Rattle.book.specs.Reading.{Standing}
 use Rattle.valuation.specs.Portfolio.{row_at}
@@ -14,6 +16,26 @@ use Rattle.valuation.proofs.Oldest.{class_reached}
 use Rattle.rate_table.specs.Rows.{RowOf, RowsOf}
 use Rattle.rate_table.proofs.Puts.{row_same, row_kept}
 use Rattle.chain_rows.specs.Chain.{RowsBelow, Repeated}
+
+pub repeated_none : (t : List ℕ) (from : ℕ) → Repeated t t from from
+repeated_none t from = record { kept = λ j l. refl; copied = λ j h l. absurd (omega arith) }
+
+-- a number more
+pub repeated_more : (before t : List ℕ) (from j : ℕ) → 16 ≤ from → from ≤ j → j < length t → Repeated before t from j
+    → Repeated before (set t j (get_or t (j - 16) 0)) from (j + 1)
+repeated_more before t from j some late inside p =
+    let other : (k : ℕ) → k < j → get_or (set t j (get_or t (j - 16) 0)) k 0 ≡ get_or t k 0 =
+    λ k l. get_or-set_other t j k _ 0 (λ q. omega arith) in
+    record {
+      kept = λ k l. other k (omega arith) ∙ p.kept k l;
+      copied = λ k h l.
+          below_more
+          (λ n. from ≤ n
+          → get_or (set t j (get_or t (j - 16) 0)) n 0 ≡ get_or (set t j (get_or t (j - 16) 0)) (n - 16) 0)
+          j
+          (λ n g f. other n g ∙ p.copied n f g ∙ sym (other (n - 16) (omega arith)))
+          (λ f. get_or-set_same t j _ 0 inside ∙ sym (other (j - 16) (omega arith))) k l h;
+    }
 
 module _ (b : List ℕ) (chain i : ℕ) (s : Standing b 120 chain i) where
   -- at the last class

@@ -1,17 +1,26 @@
 -- Laws of the year table. Assumes nothing.
 use mathlib.Core.Path.{◌≡◌, sym, ap, ◌∙◌}
-use mathlib.Core.List.{List, ◌++◌, append_assoc}
-use Prim.Native.Nat.{ℕ, ◌+◌, ◌*◌, ◌≤◌}
+use mathlib.Core.List.{List, [], ◌∷◌, ◌++◌, append_assoc}
+use Prim.Native.Nat.{ℕ, suc, ◌+◌, ◌*◌, ◌≤◌}
 use native.Mathlib.Numerals.{add-one}
 use native.Mathlib.Omega.{arith}
-use lib.ListN.{length, take, drop, length-append, length-drop}
-use lib.Seq.{take_at, drop_at, drop-drop}
+use lib.ListN.{length, set, take, drop, length-append, length-drop}
+use lib.Seq.{sets-eq, take_at, drop_at, drop-drop}
 use Rattle.valuation.specs.Arithmetic.{rounded}
 use Rattle.valuation.specs.Steps.{Cell, Terms, outgo, counted_premium, discounted_outgo, discounted_premium}
 use Rattle.valuation.specs.Replies.{year_table}
 use Rattle.valuation.proofs.GroupContract.{length_years}
 use Rattle.present_value.specs.declared.Year.{Year}
 use Rattle.present_value.specs.Outcome.{year_of, four_of}
+
+-- four stores in a row
+pub four_stores : (t : List ℕ) (i a b c d : ℕ) → i + 4 ≤ length t
+    → set (set (set (set t i a) (i + 1) b) (i + 2) c) (i + 3) d ≡ take i t ++ ((a ∷ b ∷ c ∷ d ∷ []) ++ drop (i + 4) t)
+four_stores t i a b c d h =
+    let e1 : i + 1 ≡ suc i = omega arith in
+    let e2 : i + 2 ≡ suc (suc i) = omega arith in
+    let e3 : i + 3 ≡ suc (suc (suc i)) = omega arith in
+    rw (e1, e2, e3) (sets-eq (a ∷ b ∷ c ∷ d ∷ []) t i h ∙ append_assoc (take i t) (a ∷ b ∷ c ∷ d ∷ []) (drop (i + 4) t))
 
 module _ (t : Terms) (cs : List Cell) where
   -- one year more in the caller's table

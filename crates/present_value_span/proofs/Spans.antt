@@ -37,7 +37,17 @@ pub in_fewer : (f : ℕ → ℕ) (m from end to : ℕ) (table : List ℕ) → en
 in_fewer f m from end to table l y =
     record { are = λ k h. y.are k (omega arith); most = most_fewer y.most l }
 
--- one year more without an amount
+-- no year looked at yet, and one more without an amount
+pub none_at_all : (premium outgo : List ℕ) (from to : ℕ) → from ≤ to → NoneFrom premium outgo from to to
+none_at_all premium outgo from to l =
+    record {
+      least = l;
+      most = omega arith;
+      no_premium = λ k h u. absurd (omega arith);
+      no_outgo = λ k h u. absurd
+          (omega arith);
+    }
+
 none_before : (table : List ℕ) (end to : ℕ) → get_or table (end - 1) 0 ≡ 0
     → ((k : ℕ) → end ≤ k → k < to → get_or table k 0 ≡ 0)
     → (k : ℕ) → end - 1 ≤ k → k < to → get_or table k 0 ≡ 0

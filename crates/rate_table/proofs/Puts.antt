@@ -4,14 +4,29 @@ use mathlib.Core.List.{List}
 use Prim.Native.Nat.{ℕ, ◌+◌, ◌*◌, ◌≤◌, ◌<◌}
 use native.Mathlib.Omega.{arith}
 use borrow.Author.Count.{below_more}
-use lib.ListN.{get_or}
+use lib.Dec.{eqb}
+use lib.ListN.{length, get_or, set, length-set}
+use lib.Seq.{get_or-set_same, get_or-set_other}
+use Rattle.arith.specs.Fractions.{IsFraction}
 use Rattle.book.specs.Rules.{RecordRules}
 use Rattle.book.specs.Layout.{class_of, field_of, lapse_offset}
 use Rattle.settings_decrements.specs.Decrements.{of_sex, WeightsOf}
 use Rattle.settings_decrements.specs.declared.DecrementWeights.{DecrementWeights}
+use Rattle.settings.proofs.Weights.{pick_le}
 use Rattle.valuation.specs.Portfolio.{mortality_of, one_less}
 use Rattle.rate_table.specs.Rows.{rate, fraction, survival_at, persistency_at, rate_of, RowOf}
 use Rattle.rate_table.specs.Puts.{Put, Holds, Filled, RowPut}
+
+-- two stores
+pub put_both : (t : List ℕ) (at f v : ℕ) → at + 8 < length t → IsFraction v 1_000_000_000 f
+    → Put t (set (set t at f) (at + 8) v) at v
+put_both t at f v h e =
+    record {
+      fraction_is = rw
+          (get_or-set_other (set t at f) (at + 8) at v 0 (λ q. omega arith), get_or-set_same t at f 0 (omega arith)) e;
+      rate_is = get_or-set_same (set t at f) (at + 8) v 0 (omega (arith, length-set t at f));
+      kept = λ j p q. rw (get_or-set_other (set t at f) (at + 8) j v 0 q, get_or-set_other t at j f 0 p);
+    }
 
 -- a column more
 pub filled_more : (rates : ℕ → ℕ) (before t u : List ℕ) (r n v : ℕ) → n < 8 → Filled rates before t r n
@@ -44,6 +59,11 @@ pub persistency_is : (b : List ℕ) (i l setting : ℕ) (w : DecrementWeights) �
     → WeightsOf b setting w
     → one_less l w.lapse ≡ persistency_at b i setting
 persistency_is b i l setting w e o = rw (e, o.are)
+
+-- no weight of a sex is above 1,300
+pub sex_most : (b : List ℕ) (setting sex q : ℕ) (w : DecrementWeights) → WeightsOf b setting w → q ≡ of_sex sex w
+    → q ≤ 1300
+sex_most b setting sex q w o e = rw e (pick_le (eqb sex 0) 1300 o.men o.women)
 
 module _ (b : List ℕ) (sex i : ℕ) where
   -- all eight columns are the record's row

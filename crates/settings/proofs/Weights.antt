@@ -1,5 +1,6 @@
 -- Laws of the weights: their bounds, and in which years they hold.
 -- Assumes nothing.
+use mathlib.Core.Path.{◌≡◌, refl}
 use mathlib.Core.Bool.{Bool, true, false, cond}
 use Prim.Native.Nat.{ℕ, zero, suc, ◌<◌, ◌≤◌}
 use native.Mathlib.Nat.{le_refl, mul-le-mul, div-le_of_le-mul}
@@ -67,6 +68,13 @@ multiple_most setting sex k h = by_sex sex h
     by_sex zero h = div-le_of_le-mul 100 (mul-le-mul (le_refl 10) (shifted _ (omega arith)))
     by_sex (suc zero) h = div-le_of_le-mul 100 (mul-le-mul (le_refl 10) (shifted _ (omega arith)))
     by_sex (suc (suc sex)) h = absurd (omega arith)
+
+-- the first five years are as year 0, the later ones as year 5
+pub weight_by : (setting kind : ℕ) (t : Bool)
+    → cond t (weight_of setting kind 0) (weight_of setting kind 5) ≡ weight_in t setting kind
+unfolding weight_of
+weight_by setting kind true = refl
+weight_by setting kind false = refl
 
 -- what holds of each of the eight settings
 pub each_setting : (P : ℕ → Type 0) → P 0 → P 1 → P 2 → P 3 → P 4 → P 5 → P 6 → P 7 → (setting : ℕ) → setting < 8

@@ -10,6 +10,13 @@ use Rattle.settings.specs.Settings.{weight_in, weight_of}
 use Rattle.settings_decrements.specs.Decrements.{decrements_at, of_sex}
 use Rattle.settings_decrements.specs.Decrements.{percent_of, mortality_weight, decrements_of, mortality_in, lapse_in}
 
+percent_by : (percent setting kind : ℕ) (t : Bool)
+    → cond t (percent * weight_of setting kind 0) (percent * weight_of setting kind 5) ≡ percent * weight_in t setting
+    kind
+unfolding weight_of
+percent_by percent setting kind true = refl
+percent_by percent setting kind false = refl
+
 pub lapse_is : (b : List ℕ) (setting k : ℕ) → lapse_in (decrements_of b setting) k ≡ weight_of setting 2 k
 unfolding decrements_of weight_of
 lapse_is b setting k = by (ltb k 5)

@@ -1,21 +1,25 @@
 -- Laws of numbers with signs by their sizes, which omega reads: bits, sums, products, the sign. Assumes nothing.
-use mathlib.Core.Path.{◌≡◌, refl}
+use mathlib.Core.Path.{◌≡◌, refl, ap}
 use mathlib.Core.Bool.{Bool, true, false, cond, true≢false}
 use Prim.Native.Nat.{ℕ, zero, suc, ◌+◌, ◌-◌, ◌*◌, ◌≤◌, ◌<◌}
 use native.Mathlib.Omega.{arith}
 use native.Mathlib.Nat.{le_refl, not-suc-le-zero}
-use lib.Dec.{ltb}
+use lib.Dec.{ltb, T, ltb→lt}
 use lib.IntN.{ℤ, pos, negsuc, neg_ℤ, nat_abs, sub_ℕ, ◌+ℤ◌, ◌-ℤ◌, ◌*ℤ◌, +ℤ_idl}
-use lib.Signed.{mag, lt_z}
+use lib.Signed.{mag, lt_z, non_neg, ◌<ℤ◌}
 use mir.Syntax.{w64}
 use mir.Val.{SFits, to_z, of_z}
 use mir.ValLaws.{to_z-of_z}
-use borrow.Author.Tests.{ltb-true}
+use borrow.Author.Tests.{ltb-true, le-ltb}
 use Rattle.signed.specs.Signs.{with_sign}
 
 mag_abs : (z : ℤ) → mag z ≤ nat_abs z
 mag_abs (pos n) = le_refl n
 mag_abs (negsuc n) = omega arith
+
+pub abs_mag : (z : ℤ) → nat_abs z ≤ mag z + 1
+abs_mag (pos n) = omega arith
+abs_mag (negsuc n) = omega arith
 
 pub fits_abs : (z : ℤ) → nat_abs z < 9223372036854775808 → SFits w64 z
 fits_abs z h = record { sfits = omega (arith, mag_abs z) }
@@ -53,6 +57,10 @@ abs_times (negsuc a) (pos b) = abs_neg (pos (suc a * b))
 abs_times (negsuc a) (negsuc b) = refl
 
 -- by the sign
+pub not_below : (x : ℤ) → lt_z x (pos 0) ≡ false → T (non_neg x)
+not_below (pos a) h = tt
+not_below (negsuc a) h = absurd (true≢false h)
+
 pub sign_below : (x : ℤ) (m : ℕ) → lt_z x (pos 0) ≡ true → pos 0 -ℤ pos m ≡ with_sign x m
 unfolding with_sign
 sign_below (pos a) m h = let l : a < 0 = ltb-true a 0 h in absurd (not-suc-le-zero l)
@@ -98,3 +106,12 @@ less_mag a (suc n) m p q = by (ltb a (suc n)) (suc n - suc a) (a - suc n) (omega
     by : (t : Bool) (x y : ℕ) → x ≤ m → y ≤ m → mag (cond t (negsuc x) (pos y)) ≤ m
     by true x y p q = p
     by false x y p q = q
+
+-- a number below zero and its size
+pub less_one : (v : ℤ) → v <ℤ pos 0 → negsuc 0 -ℤ v ≡ pos (mag v)
+less_one (pos n) h = absurd (not-suc-le-zero (ltb→lt n 0 h.lt))
+less_one (negsuc k) h = let e : suc k - 1 ≡ k = omega arith in rw (le-ltb (suc k) 1 (omega arith)) (ap pos e)
+
+pub size_one : (v : ℤ) → v <ℤ pos 0 → mag v + 1 ≡ nat_abs v
+size_one (pos n) h = absurd (not-suc-le-zero (ltb→lt n 0 h.lt))
+size_one (negsuc k) h = omega arith
