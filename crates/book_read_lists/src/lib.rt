@@ -58,7 +58,7 @@ pub fn fill_list(book: &[u8], offset: usize, list: &mut [u64])
 }
 
 // The book's refusals, then 22 for buffers of these lengths.
-#[tactic(auto, unfolding(book_contents::specs::Reading::check_read, verdict::specs::Verdicts::first_refusal))]
+#[tactic(auto, using(verdict::proofs::Verdicts::accepted), unfolding(book_contents::specs::Reading::check_read, verdict::specs::Verdicts::first_refusal))]
 pub fn check_read(book: &[u8], lengths: ByKind<usize>) -> Verdict
     ensures { result ≡ check_read book.now lengths.counts lengths.lapses lengths.premiums
         lengths.claims }

@@ -42,6 +42,8 @@ pub fn write(
         premiums,
         claims,
     };
-    check_contents(values, lists, out.len())?;
-    Ok(put_book(out, &values, lists))
+    match check_contents(values, lists, out.len()) {
+        Ok(_) => Ok(put_book(out, &values, lists)),
+        Err(refusal) => Err(refusal),
+    }
 }

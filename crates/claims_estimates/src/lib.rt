@@ -41,7 +41,7 @@ fn double(n: u64) -> f64
     n as f64
 }
 
-// Exact: the sum is far below 2^53, and 8 is a power of two. Ranked stays a `requires` of two inner
+// Exact: the sum is far below 2^53, and 8 is a power of two. Ranked stays a `requires` of the three
 // functions: C passes any Summary, and a type for those that pass 27 would be the longer.
 fn mean(s: Summary) -> f64
     requires { Ranked s }

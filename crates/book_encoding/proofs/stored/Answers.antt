@@ -1,7 +1,9 @@
 -- `book_encoding::stored` meets its contract: a curve rate fits 32 bits. Assumes nothing.
-use mathlib.Core.Path.{◌∙◌}
+use mathlib.Core.Path.{◌≡◌, ◌∙◌}
+use native.Mathlib.Omega.{arith}
 use mir.Syntax.{w32, w64}
 use mir.ValLaws.{to_z-of_z}
+use Rattle.book_contents.specs.Written.{twos_complement}
 use Rattle.book_encoding.proofs.CurveRates.{rate_fits, rate_bits}
 use Rattle.book_encoding.proofs.stored.Goals as goal
 
@@ -13,4 +15,5 @@ pub returns : goal.returns
 returns c =
     let bits = rw (to_z-of_z w64 c.args.x c.ranges.x, to_z-of_z w32 c.args.x (rate_fits c.args.x c.requires)) at
     c.cast_unsigned.ensures in
-    c.from.ensures ∙ bits ∙ rate_bits c.args.x
+    let held : c.from.result ≡ twos_complement c.args.x = c.from.ensures ∙ bits ∙ rate_bits c.args.x in
+    omega (arith, held)

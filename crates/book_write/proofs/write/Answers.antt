@@ -5,7 +5,6 @@ use native.Mathlib.Omega.{arith}
 use lib.ListN.{length}
 use borrow.Author.Rules.{rules}
 use Rattle.buffer.proofs.Digits.{kept, from_start}
-use Rattle.verdict.proofs.Verdicts.{handed_on}
 use Rattle.book_contents.specs.Contents.{given}
 use Rattle.book_contents.specs.Written.{book_of}
 use Rattle.book_contents.specs.Limits.{Shaped}
@@ -22,26 +21,25 @@ shaped : (a : Start) → Shaped a.args.values
 shaped a = record { cost = search rules; curve = search rules; mortality = search rules; first = search rules }
 
 pub put_book-requires : goal.put_book-requires
-put_book-requires c = fit _ _ _ (sym c.check_contents.ensures ∙ c.in_ok-check_contents.was)
+put_book-requires c = fit _ _ _ (sym c.check_contents.ensures ∙ c.in-Ok.is)
 
 pub shape_of-out : goal.shape_of-out
 shape_of-out c = kept c.put_book.ensures
 
-pub returns : goal.returns
+pub returns-in-Ok : goal.returns-in-Ok
 unfolding write_reply
-returns c =
+returns-in-Ok c =
     let w = c.put_book.ensures in
     let a = c.args in
     let v = given a.values a.counts.now a.lapses.now a.premiums.now a.claims.now in
-    let e = sym c.check_contents.ensures ∙ c.in_ok-check_contents.was in
+    let e = sym c.check_contents.ensures ∙ c.in-Ok.is in
     let size : length (book_of v) ≤ length a.out.now = omega (arith, book_length v, capacity_enough v _ _ e) in
-    write_promised v a.out.now _ _ (shaped (goal.at.returns c).Start)
+    write_promised v a.out.now _ _ (shaped (goal.at.returns-in-Ok c).Start)
     (rw e (ap Ok (omega (arith, w.place))))
     (rw e (from_start w size))
 
-pub returns-in_err-check_contents : goal.returns-in_err-check_contents
+pub returns-in-Err : goal.returns-in-Err
 unfolding write_reply
-returns-in_err-check_contents c =
-    let e = sym c.check_contents.ensures ∙ c.in_err-check_contents.was in
-    write_promised _ _ _ _ (shaped (goal.at.returns-in_err-check_contents c).Start)
-    (handed_on _ c.from_residual.ensures ∙ rw e) (rw e)
+returns-in-Err c =
+    let e = sym c.check_contents.ensures ∙ c.in-Err.is in
+    write_promised _ _ _ _ (shaped (goal.at.returns-in-Err c).Start) (rw e) (rw e)

@@ -14,7 +14,10 @@ loop-year-init c = (nothing _ _, search rules)
 
 pub loop-year-preserved : goal.loop-year-preserved
 unfolding table_line
-loop-year-preserved c = (joined_more _ _ [] c.loop-year.invariant.0 c.put_line-next.ensures.0, search rules)
+loop-year-preserved c =
+    let l = c.loop-year in
+    let w = joined_more (table_line c.args.group c.args.years) l.year [] l.invariant.0 c.put_line-next.ensures.0 in
+    (record { bytes = w.bytes; place = omega (arith, w.place) }, omega arith)
 
 pub returns : goal.returns
 unfolding table_lines
