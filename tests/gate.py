@@ -45,7 +45,7 @@ def script(name, module, least):
     return Part(name, [sys.executable, "-m", module], least)
 
 
-PROOFS = Part("proofs, must-fail edits and programs", ["rt", "ci"], 473)
+PROOFS = Part("proofs, must-fail edits and programs", ["rt", "ci"], 481)
 # The proofs of `quick`: a crate that is as it was when it was proved is not proved again.
 QUICK_PROOFS = Part("proofs and programs", ["rt", "all", "test"], 94)
 # What needs the repository's files and nothing that is proved or built: it runs beside the proofs,
@@ -79,7 +79,7 @@ PROGRAMS = [
            "tests.fuzz.test_listing", 25),
 ]
 # The callers of the archive and of the shared library.
-CALLERS = script("callers in C and Rust", "tests.bindings.test_callers", 285)
+CALLERS = script("callers in C and Rust", "tests.bindings.test_callers", 288)
 CALLS = [
     script("calls from Python, on random books", "tests.api.test_base_calls", 14),
     script("arguments of the calls from Python", "tests.api.test_arguments", 13),

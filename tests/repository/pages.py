@@ -18,7 +18,7 @@ INSTALL = ROOT / "packaging" / "INSTALL.md"
     DOCS / f"{name}.md" for name in
     ("API", "DECISIONS", "ERROR_BOUND", "METHOD", "TRACEABILITY", "VERIFICATION"))
 # Records of what was spelled or designed otherwise: they name what is gone.
-RECORDS = {DOCS / "PORT.md", DOCS / "DESIGN-PASS.md"}
+RECORDS = {DOCS / "PORT.md", DOCS / "DESIGN-PASS.md", DOCS / "LOOK-BACK.md"}
 PAGES = [README, CONTRIBUTING, CHANGELOG, *sorted(set(DOCS.glob("*.md")) - RECORDS),
          *sorted(LANDINGS.glob("*.md")), INSTALL]
 # Directories of what is built or kept, and of books; the file that marks an environment of Python.
